@@ -1,0 +1,61 @@
+ghost use Rattle.std.specs.Prelude.{◌≡◌};
+
+use thiserror::Error;
+
+/// Why a task can't be done for a value that was read.
+#[derive(Clone, Copy, Debug, PartialEq, Eq, Error)]
+pub enum TaskFault {
+    /// 40: the acceptance is not one whose emptiness is decided.
+    #[error("the acceptance is not one whose emptiness is decided")]
+    NotParity,
+    /// 41: an edge or a start lists two or more states.
+    #[error("an edge or a start lists two or more states")]
+    UniversalBranch,
+    /// 42: a label mentions over 12 propositions.
+    #[error("a label mentions over 12 propositions")]
+    TooManyPropositions,
+    /// 50: nodes times losing priorities are over 67,108,864.
+    #[error("nodes times losing priorities are over 67108864")]
+    TooWide,
+    /// 51: the budget is used up and a lift is due.
+    #[error("the budget is used up and a lift is due")]
+    Budget,
+    /// 53: the text is no solution of the game.
+    #[error("the text is no solution of the game")]
+    BadSolution,
+    /// 54: no node of the game has the identifier.
+    #[error("no node of the game has the identifier")]
+    UnknownNode,
+}
+
+impl TaskFault {
+    ghost use Rattle.omega_text.specs.Refusal.{task_name, task_number};
+
+    pub(crate) fn number(self) -> u32
+        ensures { result ≡ task_number self }
+    {
+        match self {
+            TaskFault::NotParity => 40,
+            TaskFault::UniversalBranch => 41,
+            TaskFault::TooManyPropositions => 42,
+            TaskFault::TooWide => 50,
+            TaskFault::Budget => 51,
+            TaskFault::BadSolution => 53,
+            TaskFault::UnknownNode => 54,
+        }
+    }
+
+    pub(crate) fn name(self) -> &'static str
+        ensures { result.now ≡ task_name self }
+    {
+        match self {
+            TaskFault::NotParity => "NotParity",
+            TaskFault::UniversalBranch => "UniversalBranch",
+            TaskFault::TooManyPropositions => "TooManyPropositions",
+            TaskFault::TooWide => "TooWide",
+            TaskFault::Budget => "Budget",
+            TaskFault::BadSolution => "BadSolution",
+            TaskFault::UnknownNode => "UnknownNode",
+        }
+    }
+}
