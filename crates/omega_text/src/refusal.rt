@@ -126,3 +126,6 @@ impl<T: Drop> From<AllocFailed<T>> for Refusal {
         Refusal::Memory
     }
 }
+
+#[cfg(test)]
+mod tests;

@@ -1,0 +1,173 @@
+ghost use Rattle.std.specs.Prelude.{◌≡◌, ◌+◌, ◌^◌, ◌≤◌, ◌<◌, ℕ, true, false, take, drop, length, decimal, MatchBool, IfOk, IfErr, IfSome, IfNone, slice_index};
+ghost use Rattle.std.specs.List.{AllPass};
+ghost use Rattle.omega_text.specs.Bytes.{is_digit, is_letter, is_white};
+ghost use Rattle.omega_text.specs.Cut.{BeginsWith, Follows, IsGap};
+ghost use Rattle.omega_text.specs.Fault.{Faults, IsFaultOf};
+ghost use Rattle.omega_text.specs.Forms.{IsDigits, IsNoToken};
+ghost use Rattle.omega_text.specs.Lexeme.{lexeme_at, lexeme_of};
+
+use crate::bytes::{digit_count, is_letter, name_count, white_count, word_count};
+use crate::limits::MOST_NUMBER;
+use crate::refusal::TextFault;
+use crate::token::{Kind, Span, Token};
+
+/// The next token of a game text from a place on, or none where only white space is left.
+///
+/// White space before the token is skipped. A fault is 1 or 2, at the least place from there. No memory is taken, and
+/// no byte behind the token is looked at, but for the one behind a number or a word.
+pub fn next_token(source: &[u8], at: usize) -> Result<Option<Token<'_>>, TextFault>
+    requires { at ≤ length source.now }
+    ensures token { IfOk result (λ found. IfSome found (λ token. Follows source.now at (lexeme_of token))) }
+    ensures end { IfOk result (λ found. IfNone found (IsGap source.now at (length source.now))) }
+    ensures fault { IfErr result (Faults source.now at) }
+    ensures progress { IfOk result (λ found. IfSome found (λ token.
+        (at ≤ token.span.start) × (token.span.start < token.span.end)
+        × (token.span.end ≤ length source.now))) }
+{
+    let start = gap_end(source, at);
+    if start == source.len() {
+        return Ok(None);
+    }
+    first_token(tail(source, start), start).map(Some)
+}
+
+/// Where the white space ends that stands at a place.
+fn gap_end(source: &[u8], from: usize) -> usize
+    requires { from ≤ length source.now }
+    ensures gap { IsGap source.now from result }
+    ensures black { result < length source.now → is_white (slice_index source.now result) ≡ false }
+{
+    from + white_count(tail(source, from))
+}
+
+/// The bytes from a place on.
+fn tail(source: &[u8], from: usize) -> &[u8]
+    requires { from ≤ length source.now }
+    ensures { result.now ≡ drop from source.now }
+{
+    &source[from..]
+}
+
+/// The token that bytes begin with, which stand at a place of the text and do not begin with white space.
+fn first_token(bytes: &[u8], place: usize) -> Result<Token<'_>, TextFault>
+    requires some { 0 < length bytes.now }
+    requires room { place + length bytes.now < 2 ^ 64 }
+    requires black { is_white (slice_index bytes.now 0) ≡ false }
+    ensures token { IfOk result (λ token. BeginsWith bytes.now (lexeme_of token)) }
+    ensures start { IfOk result (λ token. token.span.start ≡ place) }
+    ensures fault { IfErr result (IsFaultOf bytes.now place) }
+{
+    let first = bytes[0];
+    if first.is_ascii_digit() {
+        first_number(bytes, place)
+    } else if is_letter(first) {
+        first_word(bytes, place)
+    } else if first == b'"' {
+        first_name(bytes, place)
+    } else if first == b';' {
+        Ok(front_token(bytes, place, 1, Kind::Semicolon, 0))
+    } else if first == b',' {
+        Ok(front_token(bytes, place, 1, Kind::Comma, 0))
+    } else {
+        Err(TextFault::Lex { at: place })
+    }
+}
+
+/// The number that bytes begin with: their whole run of digits is one, or is refused.
+fn first_number(bytes: &[u8], place: usize) -> Result<Token<'_>, TextFault>
+    requires some { 0 < length bytes.now }
+    requires room { place + length bytes.now < 2 ^ 64 }
+    requires digit { is_digit (slice_index bytes.now 0) ≡ true }
+    ensures token { IfOk result (λ token. BeginsWith bytes.now (lexeme_of token)) }
+    ensures start { IfOk result (λ token. token.span.start ≡ place) }
+    ensures fault { IfErr result (IsFaultOf bytes.now place) }
+{
+    let count = digit_count(bytes);
+    match number_value(&bytes[..count]) {
+        Some(value) => Ok(front_token(bytes, place, count, Kind::Number, value)),
+        None => Err(TextFault::Number { at: place }),
+    }
+}
+
+/// The value of digits, if they are a number.
+fn number_value(digits: &[u8]) -> Option<u32>
+    requires { IsDigits digits.now }
+    ensures number { IfSome result (λ value. (value ≤ MOST_NUMBER) × (digits.now ≡ decimal value)) }
+    ensures none { IfNone result (IsNoToken digits.now) }
+{
+    if has_needless_zero(digits) {
+        return None;
+    }
+    let mut value = 0u64;
+    for digit in digits {
+        value = value * 10 + u64::from(*digit - b'0');
+        if value > MOST_NUMBER as u64 {
+            return None;
+        }
+    }
+    Some(value as u32)
+}
+
+/// Whether digits begin with a zero and go on.
+fn has_needless_zero(digits: &[u8]) -> bool
+    requires { 0 < length digits.now }
+    ensures { MatchBool result
+        ((slice_index digits.now 0 ≡ 48) × (1 < length digits.now))
+        (slice_index digits.now 0 ≡ 48 → length digits.now ≡ 1) }
+{
+    digits[0] == b'0' && digits.len() > 1
+}
+
+/// The word that bytes begin with: the longest one is `parity` or `paritysol`, or is refused.
+fn first_word(bytes: &[u8], place: usize) -> Result<Token<'_>, TextFault>
+    requires some { 0 < length bytes.now }
+    requires room { place + length bytes.now < 2 ^ 64 }
+    requires letter { is_letter (slice_index bytes.now 0) ≡ true }
+    ensures token { IfOk result (λ token. BeginsWith bytes.now (lexeme_of token)) }
+    ensures start { IfOk result (λ token. token.span.start ≡ place) }
+    ensures fault { IfErr result (IsFaultOf bytes.now place) }
+{
+    let count = word_count(bytes);
+    let word = &bytes[..count];
+    if word == b"parity".as_slice() {
+        Ok(front_token(bytes, place, count, Kind::Parity, 0))
+    } else if word == b"paritysol".as_slice() {
+        Ok(front_token(bytes, place, count, Kind::ParitySol, 0))
+    } else {
+        Err(TextFault::Lex { at: place })
+    }
+}
+
+/// The name that bytes begin with: it ends at the next quote, and only bytes of a name stand between.
+fn first_name(bytes: &[u8], place: usize) -> Result<Token<'_>, TextFault>
+    requires some { 0 < length bytes.now }
+    requires room { place + length bytes.now < 2 ^ 64 }
+    requires quote { slice_index bytes.now 0 ≡ 34 }
+    ensures token { IfOk result (λ token. BeginsWith bytes.now (lexeme_of token)) }
+    ensures start { IfOk result (λ token. token.span.start ≡ place) }
+    ensures fault { IfErr result (IsFaultOf bytes.now place) }
+{
+    let close = 1 + name_count(tail(bytes, 1));
+    if close < bytes.len() && bytes[close] == b'"' {
+        Ok(front_token(bytes, place, close + 1, Kind::Name, 0))
+    } else {
+        Err(TextFault::Lex { at: place })
+    }
+}
+
+/// The token of a kind and value that the first bytes are.
+fn front_token(bytes: &[u8], place: usize, count: usize, kind: Kind, value: u32) -> Token<'_>
+    requires within { count ≤ length bytes.now }
+    requires room { place + length bytes.now < 2 ^ 64 }
+    ensures { lexeme_of result ≡ lexeme_at place kind value (take count bytes.now) }
+{
+    Token {
+        text: &bytes[..count],
+        span: Span {
+            start: place,
+            end: place + count,
+        },
+        value,
+        kind,
+    }
+}

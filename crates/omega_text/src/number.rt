@@ -1,0 +1,16 @@
+ghost use Rattle.std.specs.Prelude.{◌≡◌, ◌++◌, decimal, IsOkUnless, OnErr, OnOk};
+ghost use Rattle.omega_text.specs.declared.refusal.Refusal.{Refusal};
+
+use crate::refusal::Refusal;
+use itoa::Buffer;
+
+/// Appends a number in decimal. Refusal 60 leaves the vector as it was.
+pub fn write_number(n: u128, out: &mut Vec<u8>) -> Result<(), Refusal>
+    ensures ok { OnOk result (out.new.items ≡ out.old.items ++ decimal n) }
+    ensures err { OnErr result (out.new.items ≡ out.old.items) }
+    ensures only_memory { IsOkUnless result Refusal.Memory }
+{
+    let mut buffer = Buffer::new();
+    out.extend_from_slice(buffer.format(n).as_bytes())?;
+    Ok(())
+}

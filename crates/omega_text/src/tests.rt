@@ -1,0 +1,154 @@
+use crate::{Cursor, Kind, Seq, TextFault, next_token, pg_tokens, write_number};
+use std::alloc::Global;
+use std::test::Fail;
+
+// How many tokens a text has, or the number and the place of its refusal.
+fn answer(alloc: Global, text: &str) -> Result<usize, (u32, Option<usize>)> {
+    match pg_tokens(alloc, text.as_bytes()) {
+        Ok(tokens) => Ok(tokens.len()),
+        Err(refusal) => Err((refusal.number(), refusal.at())),
+    }
+}
+
+const TOKENS: [(Kind, &str, u32, usize, usize); 16] = [
+    (Kind::Parity, "parity", 0, 0, 6),
+    (Kind::Number, "9", 9, 7, 8),
+    (Kind::Semicolon, ";", 0, 8, 9),
+    (Kind::Number, "9", 9, 10, 11),
+    (Kind::Number, "3", 3, 12, 13),
+    (Kind::Number, "1", 1, 14, 15),
+    (Kind::Number, "4", 4, 16, 17),
+    (Kind::Semicolon, ";", 0, 17, 18),
+    (Kind::Number, "4", 4, 19, 20),
+    (Kind::Number, "2", 2, 21, 22),
+    (Kind::Number, "0", 0, 23, 24),
+    (Kind::Number, "9", 9, 25, 26),
+    (Kind::Comma, ",", 0, 26, 27),
+    (Kind::Number, "4", 4, 27, 28),
+    (Kind::Name, "\"a\"", 0, 29, 32),
+    (Kind::Semicolon, ";", 0, 32, 33),
+];
+
+#[test]
+fn a_game_text_is_cut(rt: HostRuntime) -> Result<(), Fail> {
+    let text = b"parity 9; 9 3 1 4;\t4 2 0 9,4 \"a\";\r\n".as_slice();
+    let tokens = pg_tokens(rt.alloc(), text)?;
+    assert_eq!(rt; tokens.len(), TOKENS.len());
+    for (token, want) in tokens.iter().zip(TOKENS.iter()) {
+        let (kind, bytes, value, start, end) = *want;
+        assert_eq!(rt; token.kind, kind);
+        assert_eq!(rt; token.text, bytes.as_bytes());
+        assert_eq!(rt; token.value, value);
+        assert_eq!(rt; token.span.start, start);
+        assert_eq!(rt; token.span.end, end);
+    }
+    Ok(())
+}
+
+const CUT: [(&str, usize); 9] = [
+    ("", 0),
+    (" \t\n\r", 0),
+    ("12 34", 2),
+    ("1,2;3", 5),
+    ("paritysol 0;", 3),
+    ("0parity", 2),
+    ("2147483647 0", 2),
+    ("\"\"\" ~!\"", 2),
+    ("\"a;00 $b\"", 1),
+];
+
+#[test]
+fn tokens_are_the_longest(rt: HostRuntime) {
+    for (text, count) in CUT.iter() {
+        assert_eq!(rt; answer(rt.alloc(), text), Ok(*count), "for {text:?}");
+    }
+}
+
+const REFUSED: [(&str, u32, usize); 22] = [
+    ("00 0 0 0;", 2, 0),
+    ("0 0 0 1; $", 1, 9),
+    ("2147483648 0 0 0;", 2, 0),
+    ("0 01", 2, 2),
+    ("1 99999999999999999999999999999999999999999", 2, 2),
+    ("parit", 1, 0),
+    ("; parity9 00", 1, 2),
+    ("parity-sol", 1, 0),
+    ("start 0;", 1, 0),
+    ("Parity", 1, 0),
+    ("_", 1, 0),
+    ("-1", 1, 0),
+    ("0\x0C1", 1, 1),
+    ("0 \"", 1, 2),
+    ("0 \"a;", 1, 2),
+    ("\"\x1F\"", 1, 0),
+    ("\"\x7F\"", 1, 0),
+    ("\"a\nb\"", 1, 0),
+    ("\"\" \"", 1, 3),
+    ("// 0", 1, 0),
+    ("$ 00", 1, 0),
+    ("00 $", 2, 0),
+];
+
+#[test]
+fn wrong_texts_are_refused(rt: HostRuntime) {
+    for (text, number, at) in REFUSED.iter() {
+        assert_eq!(rt;
+            answer(rt.alloc(), text),
+            Err((*number, Some(*at))),
+            "for {text:?}"
+        );
+    }
+}
+
+#[test]
+fn tokens_come_one_at_a_time(rt: HostRuntime) -> Result<(), Fail> {
+    let text = b" 7;x".as_slice();
+    let number = next_token(text, 0)?.ok_or("a number")?;
+    assert_eq!(rt; number.value, 7);
+    let sign = next_token(text, 2)?.ok_or("a sign")?;
+    assert_eq!(rt; sign.kind, Kind::Semicolon);
+    assert_eq!(rt; next_token(text, 4)?.is_none(), true);
+    assert_eq!(rt; next_token(text, 3).err(), Some(TextFault::Lex { at: 3 }));
+    Ok(())
+}
+
+#[test]
+fn a_cursor_goes_over_tokens(rt: HostRuntime) -> Result<(), Fail> {
+    let text = b"5 ;  ".as_slice();
+    let tokens = pg_tokens(rt.alloc(), text)?;
+    let mut cursor = Cursor::new(tokens.as_slice(), text.len());
+    assert_eq!(rt; cursor.place(), 0);
+    assert_eq!(rt; cursor.look().ok_or("a number")?.value, 5);
+    assert_eq!(rt; cursor.take().ok_or("a number")?.value, 5);
+    assert_eq!(rt; cursor.place(), 2);
+    assert_eq!(rt; cursor.take().ok_or("a sign")?.kind, Kind::Semicolon);
+    assert_eq!(rt; cursor.look().is_none(), true);
+    assert_eq!(rt; cursor.take().is_none(), true);
+    assert_eq!(rt; cursor.place(), 5);
+    Ok(())
+}
+
+#[test]
+fn numbers_are_written(rt: HostRuntime) -> Result<(), Fail> {
+    let mut out = Vec::new(rt.alloc());
+    for n in [0, 9, 10, 18_446_744_073_709_551_616, u128::MAX] {
+        write_number(n, &mut out)?;
+        out.push(b' ')?;
+    }
+    let want = b"0 9 10 18446744073709551616 340282366920938463463374607431768211455 ";
+    assert_eq!(rt; out.as_slice(), want.as_slice());
+    Ok(())
+}
+
+#[test]
+fn plain_lists_are_compared_by_their_values(rt: HostRuntime) -> Result<(), Fail> {
+    let pair = Seq::from_vec(vec![in rt.alloc(); 1u32, 2]?);
+    let other = Seq::from_vec(vec![in rt.alloc(); 1u32, 3]?);
+    let none: Seq<u32> = Seq::new(rt.alloc());
+    assert_ne!(rt; pair, other);
+    assert_ne!(rt; pair, none);
+    assert_eq!(rt; pair.len(), 2);
+    assert_eq!(rt; other.as_slice(), [1, 3].as_slice());
+    assert_eq!(rt; pair.into_vec().as_slice(), [1, 2].as_slice());
+    Ok(())
+}
