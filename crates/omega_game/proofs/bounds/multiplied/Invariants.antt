@@ -1,0 +1,10 @@
+use Rattle.std.proofs.Common.{◌≡◌, ◌*◌, ◌<◌, ◌^◌, map, drop}
+use Rattle.omega_game.specs.Bound.{product}
+use Rattle.omega_game.specs.Factors.{factor_of}
+use Rattle.omega_game.proofs.bounds.multiplied.Given as goal
+
+abbrev pub invariant-loop-class : goal.invariant-loop-class
+invariant-loop-class l = record {
+  so_far : l.multiple * product (map (factor_of l.player) (drop l.class-index l.classes)) ≡ l.number * product (map (factor_of l.player) l.classes);
+  fits : l.multiple < 2 ^ 128;
+}

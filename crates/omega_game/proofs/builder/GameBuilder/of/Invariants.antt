@@ -1,0 +1,5 @@
+use Rattle.std.proofs.Common.{◌≡◌, ℕ, take}
+use Rattle.omega_game.proofs.builder.GameBuilder.of.Given as goal
+
+abbrev pub invariant-loop-spec : goal.invariant-loop-spec
+invariant-loop-spec l = l.builder ≡ take l.spec-index l.specs.items

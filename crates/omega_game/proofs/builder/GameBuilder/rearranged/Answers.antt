@@ -1,0 +1,16 @@
+use Rattle.std.proofs.Common.{◌≡◌, ℕ, ◌<◌, ◌≤◌, ◌+◌, ◌-◌, ◌==◌, Option, Some, None, [], ◌∷◌, ◌++◌, length, map, List, get_or, set, take, arith, ap, sym, subst, refl, ◌∙◌, rules, length-append}
+use Rattle.omega_game.proofs.SortingLemmas.{rises_weakly}
+use Rattle.omega_game.specs.Building.{ids_of}
+use Rattle.std.specs.List.{range_with_len}
+use Rattle.std.specs.List.Sorted.{IsPermutation, IsNonDecreasing}
+use Rattle.omega_game.proofs.builder.GameBuilder.rearranged.Goals as goal
+
+pub returns-then-has_rising_ids-clause-rising : goal.returns-then-has_rising_ids-clause-rising
+returns-then-has_rising_ids-clause-rising c = rises_weakly (ids_of c.args.self) (c.has_rising_ids.ensures.rising c.if-has_rising_ids.true)
+
+pub at-requires : goal.at-requires
+at-requires c = subst (λ (order : List ℕ). IsPermutation (range_with_len 0 (length c.args.self)) order) (sym c.as_slice.ensures.value) c.in_ok-order.ensures.permutation
+
+pub returns-clause-rising : goal.returns-clause-rising
+returns-clause-rising c =
+    subst IsNonDecreasing (sym (c.in_ok-builder.ensures.ids ∙ ap (map (λ i. get_or (ids_of c.args.self) i 0)) c.as_slice.ensures.value)) c.in_ok-order.ensures.rising

@@ -1,0 +1,7 @@
+use Rattle.std.proofs.Common.{take}
+use Rattle.omega_game.specs.Checking.{AreEntered}
+use Rattle.omega_game.proofs.checking.reaching.enter.Given as goal
+
+abbrev pub invariant-loop-place : goal.invariant-loop-place
+invariant-loop-place l =
+    AreEntered l.game l.most (take l.place-index l.places) l.initial.marks.items l.initial.stack.items l.marks.items l.stack.items

@@ -1,0 +1,9 @@
+use Rattle.std.proofs.Common.{◌+◌, not, length, count_by}
+use Rattle.omega_game.proofs.Reaching.{IsSearch}
+use Rattle.omega_game.proofs.checking.reaching.reached_from.Given as goal
+
+abbrev pub invariant-loop-place : goal.invariant-loop-place
+invariant-loop-place l = IsSearch l.game l.choices l.most l.places l.marks.items l.stack.items
+
+abbrev pub decreases-loop-place : goal.decreases-loop-place
+decreases-loop-place l = count_by not l.marks.items + length l.stack.items

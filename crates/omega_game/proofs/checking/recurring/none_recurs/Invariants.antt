@@ -1,0 +1,9 @@
+use Rattle.std.proofs.Common.{ℕ, ◌<◌, IsTrue}
+use Rattle.omega_game.specs.Game.{priority_at}
+use Rattle.omega_game.specs.Winning.{loses}
+use Rattle.omega_game.specs.Checking.{mark_at, Recurs}
+use Rattle.omega_game.proofs.checking.recurring.none_recurs.Given as goal
+
+abbrev pub invariant-loop-place : goal.invariant-loop-place
+invariant-loop-place l =
+    (v : ℕ) → v < l.place → IsTrue (mark_at l.marks v) → IsTrue (loses l.player (priority_at l.game v)) → ¬ Recurs l.game l.choices v

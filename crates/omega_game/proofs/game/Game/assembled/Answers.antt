@@ -1,0 +1,27 @@
+use Rattle.std.proofs.Common.{◌≡◌, ℕ, ◌<◌, ◌≤◌, ◌+◌, ◌-◌, ◌==◌, Bool, true, false, Option, Some, None, [], ◌∷◌, ◌++◌, length, map, List, get_or, set, take, arith, ap, sym, subst, refl, ◌∙◌, rules, length-append, sum_by}
+use Rattle.std.specs.List.{range_with_len}
+use Rattle.omega_game.specs.Layout.{AreClasses, columns_of}
+use Rattle.omega_game.proofs.LayoutLemmas.{length-nodes_of}
+use Rattle.omega_game.proofs.EnteringLemmas.{entering_is, targets_within}
+use Rattle.omega_game.proofs.game.Game.assembled.Goals as goal
+
+pub entering-requires-clause-few : goal.entering-requires-clause-few
+entering-requires-clause-few c = omega (arith, c.requires.even.successors_even, length-nodes_of (columns_of c.args.listed.keys c.args.priorities.items c.args.owners.items c.args.successors c.args.quoted), c.requires.limits.few_nodes)
+
+pub entering-requires-clause-within : goal.entering-requires-clause-within
+entering-requires-clause-within c = targets_within (columns_of c.args.listed.keys c.args.priorities.items c.args.owners.items c.args.successors c.args.quoted) c.requires.even c.requires.game
+
+pub classes_of-requires : goal.classes_of-requires
+classes_of-requires c = omega (arith, ap length c.as_slice.ensures.value, c.requires.even.priorities_even, length-nodes_of (columns_of c.args.listed.keys c.args.priorities.items c.args.owners.items c.args.successors c.args.quoted), c.requires.limits.few_nodes)
+
+pub invariant_of-result : goal.invariant_of-result
+invariant_of-result c = record {
+  even = c.requires.even;
+  game = c.requires.game;
+  limits = c.requires.limits;
+  entering_all = c.in_ok-predecessors.ensures ∙ entering_is (columns_of c.args.listed.keys c.args.priorities.items c.args.owners.items c.args.successors c.args.quoted) c.requires.even;
+  classified = subst (λ (xs : List ℕ). AreClasses xs c.in_ok-classes.classes.items) c.as_slice.ensures.value c.in_ok-classes.ensures;
+}
+
+pub returns : goal.returns
+returns c = refl

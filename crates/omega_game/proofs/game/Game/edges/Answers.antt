@@ -1,0 +1,7 @@
+use Rattle.std.proofs.Common.{◌≡◌, ℕ, ◌<◌, ◌≤◌, ◌+◌, [], length, List, get_or, arith, ap, sym, subst, ◌∙◌, rules}
+use Rattle.omega_game.proofs.LayoutLemmas.{edge_count-nodes_of}
+use Rattle.omega_game.specs.Game.{edge_count}
+use Rattle.omega_game.proofs.game.Game.edges.Goals as goal
+
+pub returns : goal.returns
+returns c = c.total.ensures ∙ sym (edge_count-nodes_of _ c.self.invariant.even) ∙ ap edge_count c.self.view_is

@@ -1,0 +1,9 @@
+use Rattle.std.proofs.Common.{◌≡◌, ℕ, ◌<◌, ◌≤◌, ◌+◌, [], length, List, get_or, arith, ap, sym, subst, ◌∙◌, rules}
+use Rattle.omega_game.specs.Layout.{identifiers_of}
+use Rattle.omega_game.proofs.LayoutLemmas.{place_within, identifier_is}
+use Rattle.omega_game.proofs.game.Game.id.Goals as goal
+
+pub returns : goal.returns
+returns c = identifier_is _ _ c.args.place c.identifier_at.result c.self.view_is c.requires
+    (c.identifier_at.ensures (length c.self.inside.priorities.items) (omega (arith, place_within _ _ c.args.place c.self.view_is c.requires, c.self.invariant.even.priorities_even))
+    ∙ ap (λ listed. get_or (identifiers_of (length c.self.inside.priorities.items) listed) c.args.place c.args.place) c.as_slice.ensures.keys)

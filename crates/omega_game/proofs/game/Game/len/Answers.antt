@@ -1,0 +1,7 @@
+use Rattle.std.proofs.Common.{◌≡◌, ℕ, ◌<◌, ◌≤◌, ◌+◌, [], length, List, get_or, arith, ap, sym, subst, ◌∙◌, rules}
+use Rattle.omega_game.proofs.LayoutLemmas.{length_is}
+use Rattle.omega_game.proofs.game.Game.len.Goals as goal
+
+pub returns-clause-count : goal.returns-clause-count
+returns-clause-count c = let count : c.len.result ≡ length c.self.inside.priorities.items = omega (arith, c.len.ensures) in
+    count ∙ c.self.invariant.even.priorities_even ∙ sym (length_is _ _ c.self.view_is)

@@ -1,0 +1,6 @@
+use Rattle.std.proofs.Common.{◌≡◌, ℕ, ◌<◌, ◌≤◌, ◌+◌, ◌==◌, Some, None, [], length, List, get_or, arith, ap, sym, subst, ◌∙◌, rules}
+use Rattle.omega_game.proofs.LayoutLemmas.{name_is}
+use Rattle.omega_game.proofs.game.Game.name.Goals as goal
+
+pub returns : goal.returns
+returns c = name_is _ _ c.args.place _ c.self.view_is c.requires c.name_at.ensures

@@ -1,0 +1,20 @@
+use Rattle.std.proofs.Common.{◌≡◌, ℕ, ◌<◌, ◌≤◌, ◌+◌, ◌==◌, Some, None, [], length, List, get_or, arith, ap, sym, subst, ◌∙◌, rules}
+use Rattle.omega_game.proofs.LayoutLemmas.{length_is, length-listed, identifiers_are}
+use Rattle.std.proofs.lemmas.Bool.{cases_lt}
+use Rattle.std.specs.List.{position}
+use Rattle.std.proofs.Common.{inl, inr}
+use Rattle.omega_game.specs.Layout.{identifiers_of}
+use Rattle.omega_game.proofs.game.Game.place_of.Goals as goal
+
+pub place_among-requires : goal.place_among-requires
+place_among-requires c = elim (cases_lt 0 (length c.self.inside.listed.keys)) [
+  | inl l ↦ omega (arith, length-listed (length c.self.inside.priorities.items) c.self.inside.listed.keys l, length_is _ _ c.self.view_is, c.self.invariant.limits.few_nodes, ap length c.self.view_is)
+  | inr l ↦ omega arith
+]
+
+pub returns : goal.returns
+returns c =
+    let count : c.len.result ≡ length c.self.inside.priorities.items = omega (arith, c.len.ensures) in
+    c.place_among.ensures
+    ∙ ap (λ n. position (λ x. x == c.args.id) (identifiers_of n c.self.inside.listed.keys)) count
+    ∙ ap (position (λ x. x == c.args.id)) (sym (identifiers_are _ _ c.self.view_is))

@@ -1,0 +1,9 @@
+use Rattle.std.proofs.Common.{◌≡◌, ℕ, ◌<◌, ◌≤◌, ◌+◌, [], length, List, get_or, arith, ap, sym, subst, ◌∙◌, rules}
+use Rattle.omega_game.proofs.LayoutLemmas.{place_within, priority_is}
+use Rattle.omega_game.proofs.game.Game.priority.Goals as goal
+
+pub index-requires : goal.index-requires
+index-requires c = omega (arith, place_within _ _ c.args.place c.self.view_is c.requires, c.self.invariant.even.priorities_even)
+
+pub returns : goal.returns
+returns c = priority_is _ _ c.args.place c.index.result.now c.self.invariant.even c.self.view_is c.requires c.index.ensures

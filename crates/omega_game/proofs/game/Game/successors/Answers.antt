@@ -1,0 +1,9 @@
+use Rattle.std.proofs.Common.{◌≡◌, ℕ, ◌<◌, ◌≤◌, ◌+◌, [], length, List, get_or, arith, ap, sym, subst, ◌∙◌, rules}
+use Rattle.omega_game.proofs.LayoutLemmas.{place_within, successors_are}
+use Rattle.omega_game.proofs.game.Game.successors.Goals as goal
+
+pub list-requires : goal.list-requires
+list-requires c = omega (arith, place_within _ _ c.args.place c.self.view_is c.requires, c.self.invariant.even.successors_even)
+
+pub returns : goal.returns
+returns c = successors_are _ _ c.args.place _ c.self.view_is c.requires c.list.ensures

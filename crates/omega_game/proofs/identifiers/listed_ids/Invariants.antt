@@ -1,0 +1,5 @@
+use Rattle.std.proofs.Common.{◌≡◌, ℕ, take}
+use Rattle.omega_game.proofs.identifiers.listed_ids.Given as goal
+
+abbrev pub invariant-loop-id : goal.invariant-loop-id
+invariant-loop-id l = l.listed.keys ≡ take l.id-index l.ids

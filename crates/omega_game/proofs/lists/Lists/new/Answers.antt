@@ -1,0 +1,7 @@
+use Rattle.std.proofs.Common.{[], refl}
+use Rattle.omega_game.specs.Layout.{lists_of}
+use Rattle.omega_game.proofs.lists.Lists.new.Goals as goal
+
+pub returns : goal.returns
+unfolding lists_of
+returns g c = rw c.new.ensures.items refl

@@ -1,0 +1,7 @@
+use Rattle.std.proofs.Common.{◌≡◌, ◌∷◌, ◌++◌, [], take}
+use Rattle.omega_game.specs.Game.{node_at}
+use Rattle.omega_game.proofs.Specifying.{with_list}
+use Rattle.omega_game.proofs.part.specify_unnamed.Given as goal
+
+abbrev pub invariant-loop-index : goal.invariant-loop-index
+invariant-loop-index l = l.builder ≡ l.fn.builder ++ with_list l.game (node_at l.game l.place) (take l.index l.successors) ∷ []

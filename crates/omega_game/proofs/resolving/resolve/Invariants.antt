@@ -1,0 +1,10 @@
+use Rattle.std.proofs.Common.{◌≡◌, ℕ, ◌++◌, map, take, drop}
+use Rattle.std.specs.List.{list_all}
+use Rattle.omega_game.specs.Layout.{identifiers_of}
+use Rattle.omega_game.specs.Resolving.{is_defined, resolved_in}
+use Rattle.omega_game.proofs.resolving.resolve.Given as goal
+
+abbrev pub invariant-loop-target : goal.invariant-loop-target
+invariant-loop-target l =
+    (l.targets ≡ map (resolved_in (identifiers_of l.count l.listed.keys)) (take l.target-index l.initial.targets) ++ drop l.target-index l.initial.targets)
+    × (l.defined ≡ list_all (is_defined (identifiers_of l.count l.listed.keys)) (take l.target-index l.initial.targets))

@@ -1,0 +1,7 @@
+use Rattle.std.proofs.Common.{◌≡◌, ℕ, ◌<◌}
+use Rattle.omega_game.specs.Game.{HasEdge, owner_at}
+use Rattle.omega_game.specs.Winning.{Chooses}
+use Rattle.omega_game.proofs.strategy.Strategy.fits.Given as goal
+
+abbrev pub invariant-loop-place : goal.invariant-loop-place
+invariant-loop-place l = (v w : ℕ) → v < l.place → Chooses l.choices v w → (owner_at l.game v ≡ l.player) × HasEdge l.game v w

@@ -1,0 +1,15 @@
+pub use Rattle.omega_text.specs.Refusal
+pub mod Game
+pub mod Winning
+pub mod Bound
+pub mod Factors
+pub mod Part
+pub mod Flags
+pub mod Checking
+pub mod Building
+pub mod Laws
+pub mod Classes
+pub mod Entering
+pub mod Layout
+pub mod Resolving
+pub mod Sorting

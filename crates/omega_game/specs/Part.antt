@@ -1,0 +1,34 @@
+use Rattle.std.specs.Prelude.{◌≡◌, ◌↔◌, ◌==◌, ℕ, ◌<◌, List, [], ◌∷◌, map, length, Contains, position, unwrap_or}
+use Rattle.std.specs.List.Sorted.{IsStrictlyIncreasing}
+use Rattle.omega_game.specs.Game.{Node, HasEdge, node_at}
+use Rattle.omega_game.specs.Winning.{end_of}
+
+-- v and the places after it are joined by listed edges
+abbrev pub IsPath : List Node → ℕ → List ℕ → Type 0
+IsPath nodes v [] = v < length nodes
+IsPath nodes v (w ∷ ws) = HasEdge nodes v w × IsPath nodes w ws
+
+-- a list of listed edges leads from v to w
+pub record Reaches (nodes : List Node) (v w : ℕ) : Type 0 where
+  pub path : List ℕ
+  pub joined : IsPath nodes v path
+  pub ends : end_of v path ≡ w
+
+-- where a place stands among the kept places
+abbrev pub new_place : List ℕ → ℕ → ℕ
+new_place kept v = unwrap_or (position (λ u. u == v) kept) 0
+
+-- the nodes at the kept places, all as they were, their successors under their new places
+abbrev pub restricted : List Node → List ℕ → List Node
+restricted nodes kept =
+    map (λ v. record (node_at nodes v) { successors = map (new_place kept) (node_at nodes v).successors }) kept
+
+-- part is the game of the nodes to which a list of listed edges leads from v, itself included, which stand at the kept places
+pub record IsPartAt (nodes : List Node) (v : ℕ) (kept : List ℕ) (part : List Node) : Type 0 where
+  pub rising : IsStrictlyIncreasing kept
+  pub reached : (u : ℕ) → Contains kept u ↔ Reaches nodes v u
+  pub kept_nodes : part ≡ restricted nodes kept
+
+-- part is the part of v
+abbrev pub IsPart : List Node → ℕ → List Node → Type 0
+IsPart nodes v part = (kept : List ℕ) × IsPartAt nodes v kept part

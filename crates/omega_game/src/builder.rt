@@ -1,0 +1,270 @@
+ghost use Rattle.std.specs.Prelude.{◌≡◌, ℕ, ◌+◌, ◌<◌, ◌≤◌, [], ◌∷◌, ◌++◌, length, map, slice_index, All, IsTrue, IfOk, IfErr, OnOk, OnErr, IsOkUnless, None};
+ghost use Rattle.std.specs.Bool.{OnFalse};
+ghost use Rattle.std.specs.List.{range_with_len};
+ghost use Rattle.std.specs.List.Sorted.{IsNonDecreasing, IsPermutation, IsStrictlyIncreasing};
+
+use crate::game::Game;
+use crate::identifiers::listed_ids;
+use crate::limits::{MOST_EDGES, MOST_NODES, MOST_NUMBER};
+use crate::lists::Lists;
+use crate::names::{pad, picked_names};
+use crate::node_spec::NodeSpec;
+use crate::player::Player;
+use crate::sorting::{is_rising, order_by_id, picked};
+use omega_text::{GameFault, Refusal};
+use std::alloc::{AllocError, Global};
+use std::marker::Model;
+
+/// Specifications that are handed over one by one, kept flat: no vector for each node.
+#[derive(Drop)]
+pub struct GameBuilder {
+    ids: Vec<u32>,
+    priorities: Vec<u32>,
+    owners: Vec<Player>,
+    // The identifiers of the successors.
+    successors: Lists<u32>,
+    // The name of each specification behind an opening quote, as in a game.
+    quoted: Lists<u8>,
+}
+
+impl Model for GameBuilder {
+    ghost use Rattle.std.specs.Prelude.{List};
+    ghost use Rattle.omega_game.specs.declared.node_spec.NodeSpec.{NodeSpec};
+
+    ghost Value = { List NodeSpec };
+
+    ghost use Rattle.omega_game.specs.Building.{AreCollected};
+    ghost use Rattle.omega_game.specs.Layout.{collected, specs_of};
+
+    ghost view = { λ a. specs_of (collected a.ids.items a.priorities.items a.owners.items a.successors a.quoted) };
+
+    ghost invariant = { λ a. AreCollected (collected a.ids.items a.priorities.items a.owners.items a.successors a.quoted) };
+}
+
+impl GameBuilder {
+    ghost use Rattle.omega_game.specs.Game.{IsNameByte};
+    ghost use Rattle.omega_game.specs.Building.{IsBuildRefusal, IsGameOf, IsWellFormed, fault_of, ids_of, with_last, with_name, with_successor};
+
+    /// No specification, which takes no memory.
+    pub fn new(alloc: Global) -> Self
+        ensures { result ≡ [] }
+    {
+        GameBuilder {
+            ids: Vec::new(alloc),
+            priorities: Vec::new(alloc),
+            owners: Vec::new(alloc),
+            successors: Lists::new(alloc),
+            quoted: Lists::new(alloc),
+        }
+    }
+
+    /// The number of specifications so far, all well formed.
+    pub fn len(&self) -> usize
+        ensures count { result ≡ length self.now }
+        ensures well_formed { All IsWellFormed self.now }
+    {
+        self.ids.len()
+    }
+
+    /// Adds a specification with one successor and no name. 60: nothing is added.
+    pub fn add_node(
+        &mut self,
+        id: u32,
+        priority: u32,
+        owner: Player,
+        first: u32,
+    ) -> Result<(), Refusal>
+        requires id { id ≤ MOST_NUMBER }
+        requires priority { priority ≤ MOST_NUMBER }
+        requires first { first ≤ MOST_NUMBER }
+        ensures ok { OnOk result (self.new ≡ self.old ++ record { id = id; priority = priority; owner = owner; successors = first ∷ []; name = None } ∷ []) }
+        ensures err { OnErr result (self.new ≡ self.old) }
+        ensures memory { IsOkUnless result Refusal.Memory }
+    {
+        self.add(id, priority, owner, &[first])?;
+        Ok(())
+    }
+
+    /// The builder of these specifications.
+    pub(crate) fn of(alloc: Global, specs: &Vec<NodeSpec>) -> Result<GameBuilder, AllocError>
+        requires { All IsWellFormed specs.now.items }
+        ensures { IfOk result (λ builder. builder ≡ specs.now.items) }
+    {
+        let mut builder = GameBuilder::new(alloc);
+        for spec in specs {
+            builder.add_spec(spec)?;
+        }
+        Ok(builder)
+    }
+
+    /// Adds a specification.
+    fn add_spec(&mut self, spec: &NodeSpec) -> Result<(), AllocError>
+        requires { IsWellFormed spec.now }
+        ensures ok { OnOk result (self.new ≡ self.old ++ spec.now ∷ []) }
+    {
+        self.add(
+            spec.id,
+            spec.priority,
+            spec.owner,
+            spec.successors.as_slice(),
+        )?;
+        if let Some(name) = &spec.name {
+            self.name_last(name.as_slice())?;
+        }
+        Ok(())
+    }
+
+    /// Adds a specification without a name. 60: nothing is added.
+    pub(crate) fn add(
+        &mut self,
+        id: u32,
+        priority: u32,
+        owner: Player,
+        successors: &[u32],
+    ) -> Result<(), AllocError>
+        requires { IsWellFormed (record { id = id; priority = priority; owner = owner; successors = successors.now; name = None }) }
+        ensures ok { OnOk result (self.new ≡ self.old ++ record { id = id; priority = priority; owner = owner; successors = successors.now; name = None } ∷ []) }
+        ensures err { OnErr result (self.new ≡ self.old) }
+    {
+        self.ids.reserve(1)?;
+        self.priorities.reserve(1)?;
+        self.owners.reserve(1)?;
+        self.successors.push_list(successors)?;
+        let _ = self.ids.push(id);
+        let _ = self.priorities.push(priority);
+        let _ = self.owners.push(owner);
+        Ok(())
+    }
+
+    /// Adds a successor to the last specification. 60: nothing is added.
+    pub fn add_successor(&mut self, successor: u32) -> Result<(), Refusal>
+        requires begun { 0 < length self.old }
+        requires successor { successor ≤ MOST_NUMBER }
+        ensures ok { OnOk result (self.new ≡ with_last (with_successor successor) self.old) }
+        ensures err { OnErr result (self.new ≡ self.old) }
+        ensures memory { IsOkUnless result Refusal.Memory }
+    {
+        self.successors.push_item(successor)?;
+        Ok(())
+    }
+
+    /// Names the last specification. 60: it is as before.
+    pub fn set_name(&mut self, name: &[u8]) -> Result<(), Refusal>
+        requires begun { 0 < length self.old }
+        requires bytes { All IsNameByte name.now }
+        ensures ok { OnOk result (self.new ≡ with_last (with_name name.now) self.old) }
+        ensures err { OnErr result (self.new ≡ self.old) }
+        ensures memory { IsOkUnless result Refusal.Memory }
+    {
+        self.name_last(name)?;
+        Ok(())
+    }
+
+    /// Names the last specification. On an error it is as before.
+    fn name_last(&mut self, name: &[u8]) -> Result<(), AllocError>
+        requires begun { 0 < length self.old }
+        requires bytes { All IsNameByte name.now }
+        ensures ok { OnOk result (self.new ≡ with_last (with_name name.now) self.old) }
+        ensures err { OnErr result (self.new ≡ self.old) }
+    {
+        pad(&mut self.quoted, self.ids.len())?;
+        self.quoted.replace_last(b'"', name)?;
+        Ok(())
+    }
+
+    /// The specifications in rising order of identifiers. No memory where they rise already.
+    fn rearranged(self) -> Result<GameBuilder, AllocError>
+        ensures permutation { IfOk result (λ builder. IsPermutation self builder) }
+        ensures rising { IfOk result (λ builder. IsNonDecreasing (ids_of builder)) }
+    {
+        if self.has_rising_ids() {
+            return Ok(self);
+        }
+        let order = self.order()?;
+        let builder = self.at(order.as_slice())?;
+        Ok(builder)
+    }
+
+    /// Whether each identifier is greater than the one before.
+    fn has_rising_ids(&self) -> bool
+        ensures rising { IsTrue result → IsStrictlyIncreasing (ids_of self.now) }
+        ensures falling { OnFalse result ((k : ℕ) × (k + 1 < length (ids_of self.now)) × (slice_index (ids_of self.now) (k + 1) ≤ slice_index (ids_of self.now) k)) }
+    {
+        is_rising(self.ids.as_slice())
+    }
+
+    /// The indices of the specifications, in rising order of identifiers.
+    fn order(&self) -> Result<Vec<usize>, AllocError>
+        ensures permutation { IfOk result (λ order. IsPermutation (range_with_len 0 (length self.now)) order.items) }
+        ensures rising { IfOk result (λ order. IsNonDecreasing (map (λ i. slice_index (ids_of self.now) i) order.items)) }
+    {
+        let order = order_by_id(*self.ids.allocator(), self.ids.as_slice())?;
+        Ok(order)
+    }
+
+    /// The specifications at these indices, which are all of them.
+    fn at(&self, order: &[usize]) -> Result<GameBuilder, AllocError>
+        requires { IsPermutation (range_with_len 0 (length self.now)) order.now }
+        ensures permutation { IfOk result (λ builder. IsPermutation self.now builder) }
+        ensures ids { IfOk result (λ builder. ids_of builder ≡ map (λ i. slice_index (ids_of self.now) i) order.now) }
+    {
+        let alloc = *self.ids.allocator();
+        let ids = picked(alloc, self.ids.as_slice(), order)?;
+        let priorities = picked(alloc, self.priorities.as_slice(), order)?;
+        let owners = picked(alloc, self.owners.as_slice(), order)?;
+        let successors = self.successors.picked(alloc, order)?;
+        let quoted = picked_names(alloc, &self.quoted, order)?;
+        Ok(GameBuilder {
+            ids,
+            priorities,
+            owners,
+            successors,
+            quoted,
+        })
+    }
+
+    /// The game of the specifications. 10, 11, 13, 14 or 60: the least that applies.
+    pub fn finish(self) -> Result<Game, Refusal>
+        requires { 0 < length self }
+        ensures game { IfOk result (λ game. IsGameOf self game) }
+        ensures faultless { OnOk result (fault_of self ≡ None) }
+        ensures refused { IfErr result (IsBuildRefusal self) }
+    {
+        let sorted = self.rearranged()?;
+        if !sorted.has_rising_ids() {
+            return Err(Refusal::Game(GameFault::DuplicateNode));
+        }
+        sorted.resolved()
+    }
+
+    /// The game of specifications whose identifiers rise. 11, 13, 14 or 60: the least that applies.
+    fn resolved(self) -> Result<Game, Refusal>
+        requires some { 0 < length self }
+        requires rising { IsStrictlyIncreasing (ids_of self) }
+        ensures game { IfOk result (λ game. IsGameOf self game) }
+        ensures faultless { OnOk result (fault_of self ≡ None) }
+        ensures refused { IfErr result (IsBuildRefusal self) }
+    {
+        let alloc = *self.ids.allocator();
+        let GameBuilder {
+            ids,
+            priorities,
+            owners,
+            mut successors,
+            quoted,
+        } = self;
+        let listed = listed_ids(alloc, ids.as_slice())?;
+        let count = ids.len();
+        if !successors.resolve(&listed, count) {
+            return Err(Refusal::Game(GameFault::UndefinedSuccessor));
+        }
+        if count > MOST_NODES {
+            return Err(Refusal::Game(GameFault::TooManyNodes));
+        }
+        if successors.total() > MOST_EDGES {
+            return Err(Refusal::Game(GameFault::TooManyEdges));
+        }
+        let game = Game::assembled(alloc, listed, priorities, owners, successors, quoted)?;
+        Ok(game)
+    }
+}

@@ -1,0 +1,57 @@
+//! Whether a strategy wins, without a solver.
+ghost use Rattle.std.specs.Prelude.{◌↔◌, ℕ, ◌<◌, length, All, IfOk, IsTrue, IsOkUnless};
+ghost use Rattle.omega_game.specs.Winning.{IsStrategy, Wins};
+
+mod components;
+mod deciding;
+mod nesting;
+mod numbers;
+mod ordering;
+mod reaching;
+mod recurring;
+
+use crate::game::Game;
+use crate::player::Player;
+use crate::strategy::Strategy;
+use deciding::decide;
+use omega_text::Refusal;
+use reaching::reached_from;
+use std::alloc::{AllocError, Global};
+
+/// Whether a strategy of the player wins from each of the places, which may come in any order and repeatedly: yes where
+/// none is listed. 60. A walk may take each edge that the choices leave possible: at a node with a choice that one, at
+/// each other node all. The cost is that of a search for strongly connected components (Tarjan 1972) for each halving of
+/// the priorities borne: for m edges and d priorities about m times the logarithm of d.
+pub fn check_strategy(
+    alloc: Global,
+    game: &Game,
+    player: Player,
+    places: &[u32],
+    strategy: &Strategy,
+) -> Result<bool, Refusal>
+    requires places { All (λ place. place < length game.now) places.now }
+    requires fits { IsStrategy game.now player strategy.now.choice }
+    ensures wins { IfOk result (λ answer. IsTrue answer ↔ All (λ place. Wins game.now player strategy.now.choice place) places.now) }
+    ensures memory { IsOkUnless result Refusal.Memory }
+{
+    let answer = wins_from(alloc, game, player, places, strategy.choice.as_slice())?;
+    Ok(answer)
+}
+
+/// Whether choices that are a strategy of the player win from each of the places.
+fn wins_from(
+    alloc: Global,
+    game: &Game,
+    player: Player,
+    places: &[u32],
+    choices: &[Option<u32>],
+) -> Result<bool, AllocError>
+    requires places { All (λ place. place < length game.now) places.now }
+    requires strategy { IsStrategy game.now player choices.now }
+    ensures wins { IfOk result (λ answer. IsTrue answer ↔ All (λ place. Wins game.now player choices.now place) places.now) }
+{
+    let _count = game.len();
+    let marks = reached_from(alloc, game, choices, u32::MAX, places)?;
+    let answer = decide(alloc, game, player, choices, &marks)?;
+    Ok(answer)
+}

@@ -1,0 +1,96 @@
+//! Whether no place that is reached bears a losing priority and recurs: suggested by a fast search, checked, and else
+//! tested plainly.
+ghost use Rattle.std.specs.Prelude.{◌≡◌, ◌↔◌, ℕ, ◌<◌, length, vec_len, IfOk, IsTrue};
+ghost use Rattle.omega_game.specs.Checking.{AreChoices, AreClosed, NoneRecurs};
+
+use crate::checking::components::Edge;
+use crate::checking::nesting::{Finding, search_nested};
+use crate::checking::ordering::shows_none;
+use crate::checking::reaching::edges_left;
+use crate::checking::recurring::{is_losing, none_recurs, recurs};
+use crate::game::Game;
+use crate::player::Player;
+use std::alloc::{AllocError, Global};
+
+/// Whether no marked place of a priority that loses for the player recurs.
+pub(crate) fn decide(
+    alloc: Global,
+    game: &Game,
+    player: Player,
+    choices: &[Option<u32>],
+    marks: &[bool],
+) -> Result<bool, AllocError>
+    requires count { length marks.now ≡ length game.now }
+    requires choices { AreChoices game.now choices.now }
+    requires closed { AreClosed game.now choices.now marks.now }
+    ensures none { IfOk result (λ answer. IsTrue answer ↔ NoneRecurs game.now player choices.now marks.now) }
+{
+    let finding = suggest(alloc, game, player, choices, marks)?;
+    match finding {
+        Finding::Recurring(place) => {
+            if loses_at(alloc, game, player, choices, marks, place)? {
+                return Ok(false);
+            }
+        }
+        Finding::Order(order) => {
+            if shows_none(alloc, game, player, choices, marks, order.as_slice())? {
+                return Ok(true);
+            }
+        }
+    }
+    let answer = none_recurs(alloc, game, player, choices, marks)?;
+    Ok(answer)
+}
+
+/// Whether a place is marked, of a losing priority, and recurs.
+fn loses_at(
+    alloc: Global,
+    game: &Game,
+    player: Player,
+    choices: &[Option<u32>],
+    marks: &[bool],
+    place: u32,
+) -> Result<bool, AllocError>
+    requires count { length marks.now ≡ length game.now }
+    requires choices { AreChoices game.now choices.now }
+    ensures loses { IfOk result (λ answer. IsTrue answer → ¬ NoneRecurs game.now player choices.now marks.now) }
+{
+    if place as usize >= game.len() || !marks[place as usize] {
+        return Ok(false);
+    }
+    if !is_losing(player, game.priority(place)) {
+        return Ok(false);
+    }
+    let answer = recurs(alloc, game, choices, place)?;
+    Ok(answer)
+}
+
+/// What the fast search finds among the marked places.
+fn suggest(
+    alloc: Global,
+    game: &Game,
+    player: Player,
+    choices: &[Option<u32>],
+    marks: &[bool],
+) -> Result<Finding, AllocError>
+    requires count { length marks.now ≡ length game.now }
+    requires choices { AreChoices game.now choices.now }
+{
+    let mut priorities = Vec::with_capacity(alloc, game.len())?;
+    let mut edges = Vec::new(alloc);
+    for place in 0..game.len() as u32 {
+        priorities.push(game.priority(place))?;
+        if marks[place as usize] {
+            add_edges(place, edges_left(game, choices, place), &mut edges)?;
+        }
+    }
+    search_nested(alloc, player, priorities.as_slice(), marks, edges)
+}
+
+/// Adds the edges from a place.
+fn add_edges(from: u32, left: &[u32], edges: &mut Vec<Edge>) -> Result<(), AllocError> {
+    for to in left {
+        edges.push(Edge { from, to: *to })?;
+    }
+    Ok(())
+}

@@ -1,0 +1,176 @@
+//! A proof that a strategy wins, as an order of the places: each edge leads forward, or back to a place whose priority
+//! does not lose and is the greatest on the way. A closed walk passes its greatest priority by such a step back.
+ghost use Rattle.std.specs.Prelude.{◌≡◌, ℕ, ◌<◌, ◌≤◌, length, vec_len, All, IfOk, IsTrue, slice_index};
+ghost use Rattle.omega_game.specs.Checking.{mark_at, AreChoices, AreClosed, AreEnds, IsInOrder, NoneRecurs, StandsInOrder};
+
+use crate::checking::reaching::edges_left;
+use crate::checking::recurring::is_losing;
+use crate::game::Game;
+use crate::player::Player;
+use std::alloc::{AllocError, Global};
+
+/// Whether an order of the places shows that no marked place of a losing priority recurs. Linear in nodes and edges.
+pub(crate) fn shows_none(
+    alloc: Global,
+    game: &Game,
+    player: Player,
+    choices: &[Option<u32>],
+    marks: &[bool],
+    order: &[u32],
+) -> Result<bool, AllocError>
+    requires count { length marks.now ≡ length game.now }
+    requires choices { AreChoices game.now choices.now }
+    requires closed { AreClosed game.now choices.now marks.now }
+    ensures none { IfOk result (λ answer. IsTrue answer → NoneRecurs game.now player choices.now marks.now) }
+{
+    let numbers = numbers_in(alloc, game.len(), order)?;
+    let ranks = ranks_along(alloc, game, order)?;
+    let ends = ends_of(alloc, ranks.as_slice())?;
+    let shown = all_stand(
+        game,
+        player,
+        choices,
+        marks,
+        numbers.as_slice(),
+        ranks.as_slice(),
+        ends.as_slice(),
+    );
+    Ok(shown)
+}
+
+/// The position of each place in the order, 0 where it has none.
+fn numbers_in(alloc: Global, count: usize, order: &[u32]) -> Result<Vec<usize>, AllocError>
+    ensures { IfOk result (λ numbers. vec_len numbers ≡ count) }
+{
+    let mut numbers = vec![in alloc; 0; count]?;
+    for (number, place) in order.iter().enumerate() {
+        let index = *place as usize;
+        if index < count {
+            numbers[index] = number;
+        }
+    }
+    Ok(numbers)
+}
+
+/// The priorities of the places in the order.
+fn ranks_along(alloc: Global, game: &Game, order: &[u32]) -> Result<Vec<u32>, AllocError> {
+    let count = game.len();
+    let mut ranks = Vec::with_capacity(alloc, order.len())?;
+    for place in order {
+        let rank = if (*place as usize) < count {
+            game.priority(*place)
+        } else {
+            0
+        };
+        ranks.push(rank)?;
+    }
+    Ok(ranks)
+}
+
+/// For each position the first one behind it with a greater rank, or the length.
+fn ends_of(alloc: Global, ranks: &[u32]) -> Result<Vec<usize>, AllocError>
+    ensures count { IfOk result (λ ends. vec_len ends ≡ length ranks.now) }
+    ensures ends { IfOk result (λ ends. AreEnds ranks.now ends.items) }
+{
+    let mut ends = vec![in alloc; 0; ranks.len()]?;
+    let mut index = ranks.len();
+    while index > 0 {
+        index -= 1;
+        let end = end_behind(ranks, ends.as_slice(), index);
+        ends[index] = end;
+    }
+    Ok(ends)
+}
+
+/// The first position behind `index` with a greater rank, found by the ends of the positions behind it.
+fn end_behind(ranks: &[u32], ends: &[usize], index: usize) -> usize
+    requires index { index < length ranks.now }
+    requires count { length ends.now ≡ length ranks.now }
+    requires onward { (i : ℕ) → index < i → i < length ranks.now → i < slice_index ends.now i }
+    requires ends { (i k : ℕ) → index < i → i < length ranks.now → i ≤ k → k < slice_index ends.now i → slice_index ranks.now k ≤ slice_index ranks.now i }
+    ensures behind { index < result }
+    ensures ranks { (k : ℕ) → index ≤ k → k < result → slice_index ranks.now k ≤ slice_index ranks.now index }
+{
+    let mut end = index + 1;
+    while end < ranks.len() && ranks[end] <= ranks[index] {
+        end = ends[end];
+    }
+    end
+}
+
+/// Whether each marked place stands in the order.
+fn all_stand(
+    game: &Game,
+    player: Player,
+    choices: &[Option<u32>],
+    marks: &[bool],
+    numbers: &[usize],
+    ranks: &[u32],
+    ends: &[usize],
+) -> bool
+    requires count { length marks.now ≡ length game.now }
+    requires choices { AreChoices game.now choices.now }
+    requires closed { AreClosed game.now choices.now marks.now }
+    requires numbers { length numbers.now ≡ length game.now }
+    requires even { length ends.now ≡ length ranks.now }
+    requires ends { AreEnds ranks.now ends.now }
+    ensures { IsTrue result → NoneRecurs game.now player choices.now marks.now }
+{
+    for place in 0..game.len() as u32 {
+        if marks[place as usize] && !stands(game, player, choices, numbers, ranks, ends, place) {
+            return false;
+        }
+    }
+    true
+}
+
+/// Whether a place stands in the order at a position of its priority, with each of its edges in order.
+fn stands(
+    game: &Game,
+    player: Player,
+    choices: &[Option<u32>],
+    numbers: &[usize],
+    ranks: &[u32],
+    ends: &[usize],
+    place: u32,
+) -> bool
+    requires place { place < length game.now }
+    requires choices { AreChoices game.now choices.now }
+    requires numbers { length numbers.now ≡ length game.now }
+    requires ends { length ends.now ≡ length ranks.now }
+    ensures { IsTrue result → StandsInOrder game.now player choices.now numbers.now ranks.now ends.now place }
+{
+    let number = numbers[place as usize];
+    if number >= ranks.len() || ranks[number] != game.priority(place) {
+        return false;
+    }
+    for next in edges_left(game, choices, place) {
+        if !is_in_order(game, player, numbers, ends, place, *next) {
+            return false;
+        }
+    }
+    true
+}
+
+/// Whether an edge leads forward, or back to a place whose priority does not lose and is the greatest on the way.
+fn is_in_order(
+    game: &Game,
+    player: Player,
+    numbers: &[usize],
+    ends: &[usize],
+    place: u32,
+    next: u32,
+) -> bool
+    requires place { place < length game.now }
+    requires next { next < length game.now }
+    requires numbers { length numbers.now ≡ length game.now }
+    requires ends { slice_index numbers.now place < length ends.now }
+    ensures { IsTrue result → IsInOrder game.now player numbers.now ends.now place next }
+{
+    let number = numbers[place as usize];
+    let back = numbers[next as usize];
+    if number < back {
+        return true;
+    }
+    !is_losing(player, game.priority(next)) && number < ends[back]
+}

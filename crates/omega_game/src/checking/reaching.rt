@@ -1,0 +1,71 @@
+//! The search for the places that are reached along edges left possible.
+ghost use Rattle.std.specs.Prelude.{◌≡◌, ℕ, ◌<◌, length, vec_len, All, IfOk, OnOk};
+ghost use Rattle.omega_game.specs.Checking.{left_at, AreChoices, AreEntered, AreReached};
+
+use crate::game::Game;
+use std::alloc::{AllocError, Global};
+use std::slice;
+
+/// The places to which the choices leave an edge from a place possible: the one chosen, or each listed successor.
+pub(crate) fn edges_left<'a>(game: &'a Game, choices: &'a [Option<u32>], place: u32) -> &'a [u32]
+    requires inside { place < length game.now }
+    requires choices { AreChoices game.now choices.now }
+    ensures left { result.now ≡ left_at game.now choices.now place }
+    ensures inside { All (λ left. left < length game.now) result.now }
+{
+    let _count = game.len();
+    match &choices[place as usize] {
+        Some(chosen) => slice::from_ref(chosen),
+        None => game.successors(place),
+    }
+}
+
+/// Marks the places that are reached from the given ones through priorities at most `most`. Linear in nodes and edges.
+pub(crate) fn reached_from(
+    alloc: Global,
+    game: &Game,
+    choices: &[Option<u32>],
+    most: u32,
+    places: &[u32],
+) -> Result<Vec<bool>, AllocError>
+    requires inside { All (λ place. place < length game.now) places.now }
+    requires choices { AreChoices game.now choices.now }
+    ensures count { IfOk result (λ marks. vec_len marks ≡ length game.now) }
+    ensures reached { IfOk result (λ marks. AreReached game.now choices.now most places.now marks.items) }
+{
+    let mut marks = vec![in alloc; false; game.len()]?;
+    let mut stack = Vec::new(alloc);
+    enter(game, most, places, &mut marks, &mut stack)?;
+    while let Some(place) = stack.pop() {
+        enter(
+            game,
+            most,
+            edges_left(game, choices, place),
+            &mut marks,
+            &mut stack,
+        )?;
+    }
+    Ok(marks)
+}
+
+/// Marks the places of priority at most `most`, and stacks those that were not marked.
+fn enter(
+    game: &Game,
+    most: u32,
+    places: &[u32],
+    marks: &mut Vec<bool>,
+    stack: &mut Vec<u32>,
+) -> Result<(), AllocError>
+    requires inside { All (λ place. place < length game.now) places.now }
+    requires count { vec_len marks.old ≡ length game.now }
+    ensures entered { OnOk result (AreEntered game.now most places.now marks.old.items stack.old.items marks.new.items stack.new.items) }
+{
+    for place in places {
+        let index = *place as usize;
+        if game.priority(*place) <= most && !marks[index] {
+            marks[index] = true;
+            stack.push(*place)?;
+        }
+    }
+    Ok(())
+}

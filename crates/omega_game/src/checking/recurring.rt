@@ -1,0 +1,56 @@
+//! The plain test: whether a place that is reached bears a losing priority and recurs.
+ghost use Rattle.std.specs.Prelude.{◌≡◌, ◌↔◌, ℕ, ◌<◌, length, IfOk, IsTrue};
+ghost use Rattle.omega_game.specs.Winning.{loses};
+ghost use Rattle.omega_game.specs.Checking.{AreChoices, NoneRecurs, Recurs};
+
+use crate::checking::reaching::{edges_left, reached_from};
+use crate::game::Game;
+use crate::player::Player;
+use std::alloc::{AllocError, Global};
+
+/// Whether a priority loses for a player.
+pub(crate) fn is_losing(player: Player, priority: u32) -> bool
+    ensures { result ≡ loses player priority }
+{
+    match player {
+        Player::Zero => priority % 2 == 1,
+        Player::One => priority % 2 == 0,
+    }
+}
+
+/// Whether a place is reached again behind itself through priorities at most its own.
+pub(crate) fn recurs(
+    alloc: Global,
+    game: &Game,
+    choices: &[Option<u32>],
+    place: u32,
+) -> Result<bool, AllocError>
+    requires inside { place < length game.now }
+    requires choices { AreChoices game.now choices.now }
+    ensures recurs { IfOk result (λ answer. IsTrue answer ↔ Recurs game.now choices.now place) }
+{
+    let left = edges_left(game, choices, place);
+    let marks = reached_from(alloc, game, choices, game.priority(place), left)?;
+    Ok(marks[place as usize])
+}
+
+/// Whether no marked place of a priority that loses for the player recurs. One search for each such place.
+pub(crate) fn none_recurs(
+    alloc: Global,
+    game: &Game,
+    player: Player,
+    choices: &[Option<u32>],
+    marks: &[bool],
+) -> Result<bool, AllocError>
+    requires count { length marks.now ≡ length game.now }
+    requires choices { AreChoices game.now choices.now }
+    ensures none { IfOk result (λ answer. IsTrue answer ↔ NoneRecurs game.now player choices.now marks.now) }
+{
+    for place in 0..game.len() as u32 {
+        let losing = marks[place as usize] && is_losing(player, game.priority(place));
+        if losing && recurs(alloc, game, choices, place)? {
+            return Ok(false);
+        }
+    }
+    Ok(true)
+}

@@ -1,0 +1,164 @@
+ghost use Rattle.std.specs.Prelude.{◌≡◌, ℕ, ◌<◌, length, vec_len, map, option_map, position, ◌==◌, All, IfOk, IfErr, OnOk, None};
+
+use crate::builder::GameBuilder;
+use crate::classes::{Class, classes_of};
+use crate::entering::entering;
+use crate::identifiers::{identifier_at, place_among};
+use crate::lists::Lists;
+use crate::names::name_at;
+use crate::node_spec::NodeSpec;
+use crate::player::Player;
+use indexmap::IndexSet;
+use omega_text::Refusal;
+use std::alloc::{AllocError, Global};
+use std::marker::Model;
+
+/// A parity game. A place is a node's position, from 0, in rising order of identifiers.
+#[derive(Drop)]
+pub struct Game {
+    // Empty where the identifiers are 0 to n - 1: a place is then its identifier.
+    listed: IndexSet<u32>,
+    priorities: Vec<u32>,
+    owners: Vec<Player>,
+    successors: Lists<u32>,
+    predecessors: Lists<u32>,
+    // The name of each node behind an opening quote, so that an empty name differs from none. It ends with the
+    // last node that is named.
+    quoted: Lists<u8>,
+    classes: Vec<Class>,
+}
+
+impl Model for Game {
+    ghost use Rattle.std.specs.Prelude.{List};
+    ghost use Rattle.omega_game.specs.Game.{Node};
+    ghost use Rattle.omega_game.specs.Layout.{columns_of, nodes_of, IsLaidOut};
+
+    ghost Value = { List Node };
+
+    ghost view = { λ a. nodes_of (columns_of a.listed.keys a.priorities.items a.owners.items a.successors a.quoted) };
+
+    ghost invariant = { λ a. IsLaidOut (columns_of a.listed.keys a.priorities.items a.owners.items a.successors a.quoted) a.predecessors a.classes.items };
+}
+
+impl Game {
+    ghost use Rattle.omega_game.specs.Building.{IsBuildRefusal, IsGameOf, IsWellFormed, fault_of};
+    ghost use Rattle.omega_game.specs.Game.{IsGame, IsWithinLimits, edge_count, identifiers, node_at, owner_at, predecessors_of, priorities, priority_at, successors_at};
+    ghost use Rattle.omega_game.specs.Layout.{columns_of, nodes_of, AreClasses, AreEven};
+
+    /// The game of the specifications, which may come in any order. 10, 11, 13, 14 or 60: the least that applies.
+    pub fn build(alloc: Global, specs: Vec<NodeSpec>) -> Result<Game, Refusal>
+        requires listed { 0 < vec_len specs }
+        requires well_formed { All IsWellFormed specs.items }
+        ensures game { IfOk result (λ game. IsGameOf specs.items game) }
+        ensures faultless { OnOk result (fault_of specs.items ≡ None) }
+        ensures refused { IfErr result (IsBuildRefusal specs.items) }
+    {
+        let builder = GameBuilder::of(alloc, &specs)?;
+        builder.finish()
+    }
+
+    /// The game of these columns, with its predecessors and the classes of its priorities.
+    pub(crate) fn assembled(
+        alloc: Global,
+        listed: IndexSet<u32>,
+        priorities: Vec<u32>,
+        owners: Vec<Player>,
+        successors: Lists<u32>,
+        quoted: Lists<u8>,
+    ) -> Result<Game, AllocError>
+        requires even { AreEven (columns_of listed.keys priorities.items owners.items successors quoted) }
+        requires game { IsGame (nodes_of (columns_of listed.keys priorities.items owners.items successors quoted)) }
+        requires limits { IsWithinLimits (nodes_of (columns_of listed.keys priorities.items owners.items successors quoted)) }
+        ensures { IfOk result (λ game. game ≡ nodes_of (columns_of listed.keys priorities.items owners.items successors quoted)) }
+    {
+        let predecessors = entering(alloc, &successors)?;
+        let classes = classes_of(alloc, priorities.as_slice())?;
+        Ok(Game {
+            listed,
+            priorities,
+            owners,
+            successors,
+            predecessors,
+            quoted,
+            classes,
+        })
+    }
+
+    /// The number of nodes, at least 1.
+    pub fn len(&self) -> usize
+        ensures count { result ≡ length self.now }
+        ensures game { IsGame self.now }
+        ensures limits { IsWithinLimits self.now }
+    {
+        self.priorities.len()
+    }
+
+    /// The number of listed successors, repeats counted.
+    pub fn edges(&self) -> usize
+        ensures { result ≡ edge_count self.now }
+    {
+        self.successors.total()
+    }
+
+    /// The identifier of the node at a place.
+    pub fn id(&self, place: u32) -> u32
+        requires { place < length self.now }
+        ensures { result ≡ (node_at self.now place).identifier }
+    {
+        identifier_at(self.listed.as_slice(), place)
+    }
+
+    /// The priority of the node at a place.
+    pub fn priority(&self, place: u32) -> u32
+        requires { place < length self.now }
+        ensures { result ≡ priority_at self.now place }
+    {
+        self.priorities[place as usize]
+    }
+
+    /// The player who chooses the successor at a place.
+    pub fn owner(&self, place: u32) -> Player
+        requires { place < length self.now }
+        ensures { result ≡ owner_at self.now place }
+    {
+        self.owners[place as usize]
+    }
+
+    /// The name of the node at a place, without its quotes.
+    pub fn name(&self, place: u32) -> Option<&[u8]>
+        requires { place < length self.now }
+        ensures { option_map (λ name. name.now) result ≡ (node_at self.now place).name }
+    {
+        name_at(&self.quoted, place as usize)
+    }
+
+    /// The places of the successors of the node at a place, in the order listed, repeats kept.
+    pub fn successors(&self, place: u32) -> &[u32]
+        requires { place < length self.now }
+        ensures { result.now ≡ successors_at self.now place }
+    {
+        self.successors.list(place as usize)
+    }
+
+    /// The places with an edge to a place, rising, one entry for each listed edge.
+    pub fn predecessors(&self, place: u32) -> &[u32]
+        requires { place < length self.now }
+        ensures { result.now ≡ predecessors_of self.now place }
+    {
+        self.predecessors.list(place as usize)
+    }
+
+    /// The place of the node with an identifier.
+    pub fn place_of(&self, id: u32) -> Option<u32>
+        ensures { result ≡ position (λ x. x == id) (identifiers self.now) }
+    {
+        place_among(&self.listed, self.priorities.len(), id)
+    }
+
+    /// Each priority that is borne, once, with the number of nodes that bear it.
+    pub(crate) fn classes(&self) -> &[Class]
+        ensures { AreClasses (priorities self.now) result.now }
+    {
+        self.classes.as_slice()
+    }
+}

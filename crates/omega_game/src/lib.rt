@@ -1,0 +1,37 @@
+//! Parity games: their nodes, strategies and regions, the bound on lifts, and the part that a node reaches.
+#![tactic(auto)]
+
+mod bounds;
+mod builder;
+mod checking;
+mod classes;
+mod entering;
+mod game;
+mod identifiers;
+mod laws;
+mod limits;
+mod lists;
+mod names;
+mod node_spec;
+mod part;
+mod player;
+mod reached;
+mod resolving;
+mod sorting;
+mod strategy;
+#[cfg(test)]
+mod tests;
+
+pub use bounds::bound;
+pub use builder::GameBuilder;
+pub use checking::check_strategy;
+pub use game::Game;
+pub use laws::{
+    games_are_determined, games_exist, games_have_no_fault, games_keep_limits, parts_are_games,
+    regions_are_apart, regions_are_won_at_once, regions_cover, regions_of_parts, winning_is_kept,
+};
+pub use limits::{MOST_EDGES, MOST_NODES, MOST_NUMBER};
+pub use node_spec::NodeSpec;
+pub use omega_text::{GameFault, Refusal, Seq, TaskFault};
+pub use player::Player;
+pub use strategy::Strategy;

@@ -1,0 +1,156 @@
+ghost use Rattle.std.specs.Prelude.{◌≡◌, ℕ, ◌<◌, ◌≤◌, ◌-◌, ◌^◌, [], ◌∷◌, ◌++◌, length, map, take, vec_len, sum_by, slice_index_or, slice_set, IfOk, OnOk, OnErr};
+ghost use Rattle.std.specs.List.{list_all};
+ghost use Rattle.omega_game.specs.Layout.{list_at, lists_of, identifiers_of, AreStarts};
+ghost use Rattle.omega_game.specs.Resolving.{is_defined, resolved_in};
+
+use crate::resolving::resolve;
+use indexmap::IndexSet;
+use std::alloc::{AllocError, Global};
+use std::marker::Model;
+
+/// Lists that lie one behind the other in one vector, with the place where each starts.
+#[derive(Drop)]
+pub struct Lists<T> {
+    starts: Vec<usize>,
+    items: Vec<T>,
+}
+
+impl<T> Model for Lists<T> {
+    ghost use Rattle.std.specs.Prelude.{List};
+    ghost use Rattle.omega_game.specs.Layout.{lists_of, AreStarts};
+    ghost use Rattle.std.specs.Prelude.{length};
+
+    ghost Value = { List (List T) };
+
+    ghost view = { λ a. lists_of a.starts.items a.items.items };
+
+    ghost invariant = { λ a. AreStarts a.starts.items (length a.items.items) };
+}
+
+impl<T: Copy> Lists<T> {
+    /// No list, which takes no memory.
+    pub fn new(alloc: Global) -> Self
+        ensures { result ≡ [] }
+    {
+        Lists {
+            starts: Vec::new(alloc),
+            items: Vec::new(alloc),
+        }
+    }
+
+    /// The lists with these starts in these items.
+    pub fn from_parts(starts: Vec<usize>, items: Vec<T>) -> Self
+        requires { AreStarts starts.items (length items.items) }
+        ensures { result ≡ lists_of starts.items items.items }
+    {
+        Lists { starts, items }
+    }
+
+    /// The number of lists.
+    pub fn len(&self) -> usize
+        ensures { result ≡ length self.now }
+    {
+        self.starts.len()
+    }
+
+    /// The number of items of all lists together.
+    pub fn total(&self) -> usize
+        ensures { result ≡ sum_by (λ list. length list) self.now }
+    {
+        self.items.len()
+    }
+
+    /// The list at an index.
+    pub fn list(&self, index: usize) -> &[T]
+        requires { index < length self.now }
+        ensures { result.now ≡ slice_index_or self.now index [] }
+    {
+        list_in(self.starts.as_slice(), self.items.as_slice(), index)
+    }
+
+    /// The lists at these indices, in their order, an empty one where there is none.
+    pub fn picked(&self, alloc: Global, order: &[usize]) -> Result<Lists<T>, AllocError>
+        ensures { IfOk result (λ lists. lists ≡ map (λ i. slice_index_or self.now i []) order.now) }
+    {
+        let mut lists = Lists::new(alloc);
+        for index in order {
+            if *index < self.len() {
+                lists.push_list(self.list(*index))?;
+            } else {
+                lists.push_list(&[])?;
+            }
+        }
+        Ok(lists)
+    }
+
+    /// Adds a list behind the others.
+    pub fn push_list(&mut self, list: &[T]) -> Result<(), AllocError>
+        ensures ok { OnOk result (self.new ≡ self.old ++ list.now ∷ []) }
+        ensures err { OnErr result (self.new ≡ self.old) }
+    {
+        self.starts.push(self.items.len())?;
+        if self.items.extend_from_slice(list).is_err() {
+            let _ = self.starts.pop();
+            return Err(AllocError);
+        }
+        Ok(())
+    }
+
+    /// Adds an item to the last list.
+    pub fn push_item(&mut self, item: T) -> Result<(), AllocError>
+        requires { 0 < length self.old }
+        ensures ok { OnOk result (self.new ≡ slice_set self.old (length self.old - 1) (slice_index_or self.old (length self.old - 1) [] ++ item ∷ [])) }
+        ensures err { OnErr result (self.new ≡ self.old) }
+    {
+        self.items.push(item)?;
+        Ok(())
+    }
+}
+
+impl Lists<u8> {
+    /// Replaces the last list by an item and those behind it.
+    pub fn replace_last(&mut self, first: u8, rest: &[u8]) -> Result<(), AllocError>
+        requires { 0 < length self.old }
+        ensures ok { OnOk result (self.new ≡ slice_set self.old (length self.old - 1) (first ∷ rest.now)) }
+        ensures err { OnErr result (self.new ≡ self.old) }
+    {
+        let start = self.starts[self.starts.len() - 1];
+        replace_end(&mut self.items, start, first, rest)?;
+        Ok(())
+    }
+}
+
+impl Lists<u32> {
+    /// Replaces each identifier by its place, and says whether each has one. One that has none stays.
+    pub fn resolve(&mut self, listed: &IndexSet<u32>, count: usize) -> bool
+        requires { length listed.now.keys ≤ 2 ^ 31 }
+        ensures defined { result ≡ list_all (λ list. list_all (is_defined (identifiers_of count listed.now.keys)) list) self.old }
+        ensures places { self.new ≡ map (map (resolved_in (identifiers_of count listed.now.keys))) self.old }
+    {
+        resolve(self.items.as_mut_slice(), listed, count)
+    }
+}
+
+/// Replaces what stands from a place on by an item and those behind it.
+fn replace_end(items: &mut Vec<u8>, start: usize, first: u8, rest: &[u8]) -> Result<(), AllocError>
+    requires { start ≤ vec_len items.old }
+    ensures ok { OnOk result (items.new.items ≡ take start items.old.items ++ (first ∷ rest.now)) }
+    ensures err { OnErr result (items.new.items ≡ items.old.items) }
+{
+    items.reserve(rest.len() + 1)?;
+    items.truncate(start);
+    let _ = items.push(first);
+    let _ = items.extend_from_slice(rest);
+    Ok(())
+}
+
+/// The list at an index of those that lie one behind the other.
+fn list_in<'a, T>(starts: &[usize], items: &'a [T], index: usize) -> &'a [T]
+    requires within { index < length starts.now }
+    requires starts { AreStarts starts.now (length items.now) }
+    ensures { result.now ≡ list_at starts.now items.now index }
+{
+    let start = starts[index];
+    let end = starts.get(index + 1).copied().unwrap_or(items.len());
+    &items[start..end]
+}

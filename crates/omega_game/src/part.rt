@@ -1,0 +1,68 @@
+ghost use Rattle.std.specs.Prelude.{◌≡◌, ◌∷◌, ◌++◌, [], ◌<◌, length, IfOk, OnOk, IsOkUnless, None};
+ghost use Rattle.omega_game.specs.Building.{specified};
+ghost use Rattle.omega_game.specs.Game.{IsGame, IsWithinLimits, node_at};
+
+use crate::builder::GameBuilder;
+use crate::game::Game;
+use crate::reached::reached_from;
+use omega_text::Refusal;
+use std::alloc::Global;
+
+impl Game {
+    ghost use Rattle.omega_game.specs.Part.{IsPart};
+
+    /// The game of all nodes to which a list of listed edges leads from the place, itself included. 60 alone.
+    /// Takes time in the nodes, and in the successors and names of those that are kept.
+    pub fn part(&self, alloc: Global, place: u32) -> Result<Game, Refusal>
+        requires { place < length self.now }
+        ensures part { IfOk result (λ part. IsPart self.now place part) }
+        ensures memory { IsOkUnless result Refusal.Memory }
+    {
+        let flags = reached_from(alloc, self, place)?;
+        let mut builder = GameBuilder::new(alloc);
+        for kept in 0..self.len() {
+            if flags[kept] {
+                specify(&mut builder, self, kept as u32)?;
+            }
+        }
+        builder.finish()
+    }
+}
+
+/// Adds the specification of the node at a place.
+fn specify(builder: &mut GameBuilder, game: &Game, place: u32) -> Result<(), Refusal>
+    requires place { place < length game.now }
+    requires game { IsGame game.now }
+    requires limits { IsWithinLimits game.now }
+    ensures ok { OnOk result (builder.new ≡ builder.old ++ specified game.now (node_at game.now place) ∷ []) }
+    ensures memory { IsOkUnless result Refusal.Memory }
+{
+    specify_unnamed(builder, game, place)?;
+    if let Some(name) = game.name(place) {
+        builder.set_name(name)?;
+    }
+    Ok(())
+}
+
+/// Adds the specification of the node at a place, without its name.
+fn specify_unnamed(builder: &mut GameBuilder, game: &Game, place: u32) -> Result<(), Refusal>
+    requires place { place < length game.now }
+    requires game { IsGame game.now }
+    requires limits { IsWithinLimits game.now }
+    ensures ok { OnOk result (builder.new ≡ builder.old ++ record (specified game.now (node_at game.now place)) { name = None } ∷ []) }
+    ensures memory { IsOkUnless result Refusal.Memory }
+{
+    let successors = game.successors(place);
+    let first = game.id(successors[0]);
+    builder.add_node(
+        game.id(place),
+        game.priority(place),
+        game.owner(place),
+        first,
+    )?;
+    for index in 1..successors.len() {
+        let next = game.id(successors[index]);
+        builder.add_successor(next)?;
+    }
+    Ok(())
+}

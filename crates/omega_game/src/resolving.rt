@@ -1,0 +1,22 @@
+ghost use Rattle.std.specs.Prelude.{◌≡◌, ◌^◌, ◌≤◌, length, map};
+ghost use Rattle.std.specs.List.{list_all};
+ghost use Rattle.omega_game.specs.Layout.{identifiers_of};
+ghost use Rattle.omega_game.specs.Resolving.{is_defined, resolved_in};
+
+use crate::identifiers::place_among;
+use indexmap::IndexSet;
+
+/// Replaces each identifier by its place, and says whether each has one. One that has none stays.
+pub(crate) fn resolve(targets: &mut [u32], listed: &IndexSet<u32>, count: usize) -> bool
+    requires { length listed.now.keys ≤ 2 ^ 31 }
+    ensures defined { result ≡ list_all (is_defined (identifiers_of count listed.now.keys)) targets.old }
+    ensures places { targets.new ≡ map (resolved_in (identifiers_of count listed.now.keys)) targets.old }
+{
+    let mut defined = true;
+    for target in targets.iter_mut() {
+        let place = place_among(listed, count, *target);
+        defined = defined & place.is_some();
+        *target = place.unwrap_or(*target);
+    }
+    defined
+}

@@ -1,0 +1,49 @@
+ghost use Rattle.std.specs.Prelude.{◌≡◌, ◌↔◌, ◌<◌, length, IsTrue};
+ghost use Rattle.omega_game.specs.Game.{HasEdge, owner_at};
+ghost use Rattle.omega_game.specs.Winning.{IsStrategy};
+
+use crate::game::Game;
+use crate::player::Player;
+use omega_text::Seq;
+
+/// A strategy: for each place none, or the place that the player moves to.
+#[derive(Debug, Drop, PartialEq, Eq)]
+pub struct Strategy {
+    pub choice: Seq<Option<u32>>,
+}
+
+impl Strategy {
+    /// Whether there is an entry for each place, and each choice is a listed successor of a node that the player
+    /// owns. Takes time in the nodes and the successors of those with a choice, and no memory.
+    pub fn fits(&self, game: &Game, player: Player) -> bool
+        ensures { IsTrue result ↔ IsStrategy game.now player self.now.choice }
+    {
+        let choices = self.choice.as_slice();
+        if choices.len() != game.len() {
+            return false;
+        }
+        for place in 0..choices.len() {
+            if let Some(target) = choices[place]
+                && !is_own_move(game, player, place as u32, target)
+            {
+                return false;
+            }
+        }
+        true
+    }
+}
+
+/// Whether a node is the player's, and lists the target as a successor.
+fn is_own_move(game: &Game, player: Player, place: u32, target: u32) -> bool
+    requires { place < length game.now }
+    ensures { IsTrue result ↔ ((owner_at game.now place ≡ player) × HasEdge game.now place target) }
+{
+    is_same(game.owner(place), player) && game.successors(place).contains(&target)
+}
+
+/// Whether two players are one.
+fn is_same(player: Player, other: Player) -> bool
+    ensures { IsTrue result ↔ (player ≡ other) }
+{
+    player == other
+}
