@@ -1,0 +1,5 @@
+use Rattle.omega_lift.proofs.LeastMeasure.{allowance_is_strict}
+use Rattle.omega_lift.proofs.allowances.allowances_are_strict.Goals as goal
+
+pub returns : goal.returns
+returns c = allowance_is_strict

@@ -1,0 +1,5 @@
+use Rattle.omega_lift.proofs.LeastMeasure.{allowance_exceeds}
+use Rattle.omega_lift.proofs.allowances.allowances_exceed.Goals as goal
+
+pub returns : goal.returns
+returns c = allowance_exceeds

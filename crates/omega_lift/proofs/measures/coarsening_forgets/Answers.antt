@@ -1,0 +1,5 @@
+use Rattle.omega_lift.proofs.LeastMeasure.{coarsening}
+use Rattle.omega_lift.proofs.measures.coarsening_forgets.Goals as goal
+
+pub returns : goal.returns
+returns c = coarsening
