@@ -1,0 +1,14 @@
+pub mod Groups
+pub mod Listed
+pub mod Raising
+pub mod RowWrites
+pub mod Shapes
+pub mod Measures
+pub mod Allowances
+pub mod Contents
+pub mod PlainCalls
+pub mod Digits
+pub mod Packing
+pub mod PackedRows
+pub mod PackedMeasures
+pub mod PackedCalls

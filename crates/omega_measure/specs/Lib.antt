@@ -1,0 +1,16 @@
+pub use Rattle.omega_game.specs.Game
+pub use Rattle.omega_game.specs.Winning
+pub use Rattle.omega_game.specs.Bound
+pub use Rattle.omega_lift.specs.Measure
+pub use Rattle.omega_lift.specs.Allowance
+pub use Rattle.omega_lift.specs.Run
+pub use Rattle.omega_lift.specs.Answer
+pub use Rattle.omega_lift.specs.Laws
+pub mod Groups
+pub mod Shape
+pub mod Table
+pub mod Rows
+pub mod Plain
+pub mod Due
+pub mod Cell
+pub mod Packed

@@ -1,0 +1,22 @@
+//! Tables of small progress measures (Jurdziński 2000), one measure for each node of a game.
+#![tactic(auto)]
+
+mod cell;
+mod cells;
+mod due;
+mod limits;
+mod losing;
+mod packed;
+mod plain;
+mod rows;
+mod shape;
+mod table;
+#[cfg(test)]
+mod tests;
+mod words;
+
+pub use limits::MOST_CELLS;
+pub use omega_game::{Game, Player, Refusal, TaskFault};
+pub use packed::PackedTable;
+pub use plain::PlainTable;
+pub use table::MeasureTable;

@@ -1,0 +1,123 @@
+ghost use Rattle.std.specs.Prelude.{◌≡◌, ℕ, ◌+◌, ◌<◌, length};
+ghost use Rattle.omega_measure.specs.Cell.{last_cell};
+
+use crate::cell::Cell;
+use crate::cells::cells_of;
+use crate::due::is_short;
+use crate::shape::Shape;
+use crate::table::MeasureTable;
+use crate::words::{compare_at, is_top_at, raise_at};
+use omega_game::{Game, Player, Refusal};
+use omega_lift::{allowances_are_least_sufficient, allowances_exceed};
+use std::alloc::Global;
+use std::cmp::Ordering;
+use std::marker::Model;
+
+/// A table that packs each measure in words of 64 bits: one bit for top, and then the entries, that for the greatest
+/// priority first, each with as many bits as its limit needs and none across two words.
+#[derive(Drop)]
+pub struct PackedTable {
+    shape: Shape,
+    cells: Vec<Cell>,
+    size: usize,
+    words: Vec<u64>,
+}
+
+impl Model for PackedTable {
+    ghost use Rattle.omega_measure.specs.Table.{Content};
+
+    ghost Value = { Content };
+
+    ghost use Rattle.omega_measure.specs.Packed.{ArePackedRows, packed_content};
+
+    ghost view = { λ s. packed_content s.shape s.cells.items s.size s.words.items };
+
+    ghost invariant = { λ s. ArePackedRows s.shape s.cells.items s.size s.words.items };
+}
+
+impl MeasureTable for PackedTable {
+    ghost content = { λ table. table };
+
+    fn prepare(alloc: Global, game: &Game, player: Player) -> Result<PackedTable, Refusal> {
+        let shape = Shape::prepare(alloc, game, player)?;
+        let cells = cells_of(alloc, shape.limits())?;
+        let size = row_size(&cells);
+        let words = vec![in alloc; 0u64; shape.len() * size]?;
+        Ok(PackedTable {
+            shape,
+            cells,
+            size,
+            words,
+        })
+    }
+
+    fn is_top(&self, place: u32) -> bool {
+        is_top_at(&self.words, self.size, &self.cells, place as usize)
+    }
+
+    fn compare(&self, a: u32, b: u32, p: u32) -> Ordering {
+        let cell = self.cells[self.shape.kept_from(p)];
+        compare_at(&self.words, self.size, cell, a as usize, b as usize)
+    }
+
+    fn due(&self, v: u32, w: u32) -> bool {
+        let cell = self.cells[self.shape.kept(v)];
+        let order = compare_at(&self.words, self.size, cell, v as usize, w as usize);
+        let top = is_top_at(&self.words, self.size, &self.cells, v as usize);
+        allowances_are_least_sufficient();
+        allowances_exceed();
+        is_short(order, top, self.shape.is_strict(v))
+    }
+
+    fn raise(&mut self, v: u32, w: u32) {
+        let kept = self.shape.kept(v);
+        let strict = self.shape.is_strict(v);
+        let size = self.size;
+        allowances_are_least_sufficient();
+        raise_at(
+            &mut self.words,
+            size,
+            &self.cells,
+            kept,
+            strict,
+            v as usize,
+            w as usize,
+        );
+    }
+}
+
+/// How many words a row has.
+fn row_size(cells: &[Cell]) -> usize
+    requires { 0 < length cells.now }
+    ensures { result ≡ (last_cell cells.now).word + 1 }
+{
+    cells[cells.len() - 1].word as usize + 1
+}
+
+#[cfg(test)]
+mod tests {
+    use super::*;
+    use omega_game::GameBuilder;
+    use std::test::Fail;
+
+    /// The words of a row for a game in which node i has priority 2 * i + 1 and is its own successor.
+    fn words_for(alloc: Global, nodes: u8, player: Player) -> Result<usize, Refusal> {
+        let mut builder = GameBuilder::new(alloc);
+        builder.add_node(0, 1, Player::Zero, 0)?;
+        for i in 1..nodes {
+            let id = u32::from(i);
+            builder.add_node(id, 2 * id + 1, Player::Zero, id)?;
+        }
+        let table = PackedTable::prepare(alloc, &builder.finish()?, player)?;
+        Ok(table.size)
+    }
+
+    // A bit for top and one for each entry.
+    #[test]
+    fn sixty_four_bits_a_word(rt: HostRuntime) -> Result<(), Fail> {
+        assert_eq!(rt; words_for(rt.alloc(), 63, Player::Zero)?, 1);
+        assert_eq!(rt; words_for(rt.alloc(), 64, Player::Zero)?, 2);
+        assert_eq!(rt; words_for(rt.alloc(), 64, Player::One)?, 1);
+        Ok(())
+    }
+}

@@ -1,0 +1,50 @@
+ghost use Rattle.std.specs.Prelude.{◌≡◌, ◌↔◌, ◌<◌, false, length, IsTrue, IsOk, IfOk, IfErr, None};
+ghost use Rattle.omega_game.specs.Game.{priorities};
+ghost use Rattle.omega_lift.specs.Allowance.{measure_at};
+ghost use Rattle.omega_lift.specs.Measure.{compare_from};
+ghost use Rattle.omega_measure.specs.Table.{Content, Exceeds, IsPrepareRefusal, Raises, is_too_wide, zero_content};
+
+use omega_game::{Game, Player, Refusal};
+use std::alloc::Global;
+use std::cmp::Ordering;
+
+/// A table with a measure for each place of a game: top, or an entry for each priority that is borne and loses for
+/// the player (Jurdziński 2000). No call but `prepare` takes memory.
+pub trait MeasureTable: Drop {
+    /// The player, the nodes' priorities and the measures, however they are kept.
+    ghost content: { Self → Content };
+
+    /// The table in which every entry of every measure is 0. 50 where nodes times losing priorities borne are over
+    /// `MOST_CELLS`, or 60.
+    fn prepare(alloc: Global, game: &Game, player: Player) -> Result<Self, Refusal>
+    where
+        Self: Sized,
+        ensures zero { IfOk result (λ table. content table ≡ zero_content player (priorities game.now)) }
+        ensures fits { IsOk result → is_too_wide player (priorities game.now) ≡ false }
+        ensures refused { IfErr result (IsPrepareRefusal player (priorities game.now)) };
+
+    /// Whether the measure at a place is top.
+    fn is_top(&self, place: u32) -> bool
+        requires { place < length (content self.now).measures }
+        ensures { IsTrue result ↔ (measure_at (content self.now).measures place ≡ None) };
+
+    /// The measures at two places compared on the entries for priorities at least `p`; top is above all others.
+    fn compare(&self, a: u32, b: u32, p: u32) -> Ordering
+        requires first { a < length (content self.now).measures }
+        requires second { b < length (content self.now).measures }
+        ensures { let table = content self.now in
+            result ≡ compare_from table.player table.priorities p (measure_at table.measures a) (measure_at table.measures b) };
+
+    /// Whether the allowance of `v` towards `w` exceeds the measure of `v`.
+    fn due(&self, v: u32, w: u32) -> bool
+        requires lifted { v < length (content self.now).measures }
+        requires towards { w < length (content self.now).measures }
+        ensures { IsTrue result ↔ Exceeds (content self.now) v w };
+
+    /// Replaces the measure of `v` by its allowance towards `w`.
+    fn raise(&mut self, v: u32, w: u32)
+        requires lifted { v < length (content self.old).measures }
+        requires towards { w < length (content self.old).measures }
+        requires due { Exceeds (content self.old) v w }
+        ensures { Raises (content self.old) v w (content self.new) };
+}

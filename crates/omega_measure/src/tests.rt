@@ -1,0 +1,171 @@
+ghost use Rattle.std.specs.Prelude.{◌≡◌, ◌<◌, length, IfOk};
+
+use crate::{MeasureTable, PackedTable, PlainTable};
+use omega_game::{Game, GameBuilder, Player, Refusal, TaskFault};
+use std::alloc::Global;
+use std::cmp::Ordering;
+use std::process::Abort;
+use std::test::Fail;
+
+/// The game `0 1 0 0,1; 1 3 0 2; 2 4 0 2;`. For player 0 a measure has an entry for 3 and one for 1, each at most 1.
+fn example(alloc: Global) -> Result<Game, Refusal>
+    ensures { IfOk result (λ game. length game ≡ 3) }
+{
+    let mut builder = GameBuilder::new(alloc);
+    builder.add_node(0, 1, Player::Zero, 0)?;
+    builder.add_successor(1)?;
+    builder.add_node(1, 3, Player::Zero, 2)?;
+    builder.add_node(2, 4, Player::Zero, 2)?;
+    let game = builder.finish()?;
+    if game.len() == 3 {
+        Ok(game)
+    } else {
+        Err(Refusal::Io)
+    }
+}
+
+/// A game in which node i has priority 2 * i + 1, or that of the node `most` if i is above it, and is its own successor.
+fn odd_game(alloc: Global, nodes: u16, most: u16) -> Result<Game, Refusal> {
+    let mut builder = GameBuilder::new(alloc);
+    builder.add_node(0, 1, Player::Zero, 0)?;
+    for i in 1..nodes {
+        let id = u32::from(i);
+        builder.add_node(id, 2 * id.min(u32::from(most)) + 1, Player::Zero, id)?;
+    }
+    builder.finish()
+}
+
+/// A new table over three nodes.
+fn prepared<T: MeasureTable>(alloc: Global, game: &Game, player: Player) -> Result<T, Refusal>
+    requires { length game.now ≡ 3 }
+    ensures { IfOk result (λ table. length (T.content table).measures ≡ 3) }
+{
+    T::prepare(alloc, game, player)
+}
+
+/// Raises `v` to its allowance towards `w` where that is due, and says whether it was.
+fn lift<T: MeasureTable>(table: &mut T, v: u32, w: u32) -> bool
+    requires three { length (T.content table.old).measures ≡ 3 }
+    requires lifted { v < 3 }
+    requires towards { w < 3 }
+    ensures { length (T.content table.new).measures ≡ 3 }
+{
+    let due = table.due(v, w);
+    if due {
+        table.raise(v, w);
+    }
+    due
+}
+
+/// What is done with a table, and what is to come of it.
+#[derive(Clone, Copy)]
+enum Step {
+    /// A lift of one place towards another, and whether it is due.
+    Lift(u32, u32, bool),
+    /// Two places, a priority, and how their measures compare there.
+    Order(u32, u32, u32, Ordering),
+    /// A place, and whether its measure is top.
+    Top(u32, bool),
+}
+
+/// Takes a table over three nodes through the steps.
+fn follow<T: MeasureTable, R: Abort>(rt: &R, table: &mut T, steps: &[Step])
+    requires { length (T.content table.old).measures ≡ 3 }
+{
+    for step in steps {
+        match *step {
+            Step::Lift(v, w, due) => {
+                assert!(rt; v < 3);
+                assert!(rt; w < 3);
+                assert_eq!(rt; lift(table, v, w), due);
+            }
+            Step::Order(a, b, p, order) => {
+                assert!(rt; a < 3);
+                assert!(rt; b < 3);
+                assert_eq!(rt; table.compare(a, b, p), order);
+            }
+            Step::Top(place, top) => {
+                assert!(rt; place < 3);
+                assert_eq!(rt; table.is_top(place), top);
+            }
+        }
+    }
+}
+
+// Entries of (3, 1), by hand. The allowance of node 0 (priority 1, which loses) towards itself goes through (0, 1),
+// (1, 0), (1, 1) and top; that of node 1 (priority 3) towards node 2 is (1, 0); node 2 (priority 4) has none to raise.
+const LIFTS_OF_ZERO: [Step; 22] = [
+    Step::Lift(2, 2, false),
+    Step::Lift(1, 2, true),
+    Step::Lift(1, 2, false),
+    Step::Lift(0, 0, true),
+    Step::Order(0, 2, 1, Ordering::Greater),
+    Step::Order(0, 2, 2, Ordering::Equal),
+    Step::Order(0, 1, 1, Ordering::Less),
+    Step::Lift(0, 0, true),
+    Step::Order(0, 1, 0, Ordering::Equal),
+    Step::Order(0, 2, 3, Ordering::Greater),
+    Step::Order(0, 2, 4, Ordering::Equal),
+    Step::Lift(0, 1, true),
+    Step::Order(0, 1, 1, Ordering::Greater),
+    Step::Order(0, 1, 2, Ordering::Equal),
+    Step::Top(0, false),
+    Step::Lift(0, 0, true),
+    Step::Top(0, true),
+    Step::Lift(0, 0, false),
+    Step::Order(0, 1, 9, Ordering::Greater),
+    Step::Lift(2, 0, true),
+    Step::Top(2, true),
+    Step::Top(1, false),
+];
+
+// For player 1 there is an entry for 4, at most 1.
+const LIFTS_OF_ONE: [Step; 6] = [
+    Step::Lift(0, 1, false),
+    Step::Lift(2, 2, true),
+    Step::Lift(1, 2, true),
+    Step::Order(1, 2, 0, Ordering::Equal),
+    Step::Lift(2, 1, true),
+    Step::Top(2, true),
+];
+
+/// Takes new tables of both players through their steps.
+fn lifts_by_hand<T: MeasureTable, R: Abort>(rt: &R, alloc: Global) -> Result<(), Refusal> {
+    let game = example(alloc)?;
+    let mut zero: T = prepared(alloc, &game, Player::Zero)?;
+    follow(rt, &mut zero, &LIFTS_OF_ZERO);
+    let mut one: T = prepared(alloc, &game, Player::One)?;
+    follow(rt, &mut one, &LIFTS_OF_ONE);
+    Ok(())
+}
+
+#[test]
+fn plain_lifts(rt: HostRuntime) -> Result<(), Fail> {
+    lifts_by_hand::<PlainTable, HostRuntime>(&rt, rt.alloc())?;
+    Ok(())
+}
+
+#[test]
+fn packed_lifts(rt: HostRuntime) -> Result<(), Fail> {
+    lifts_by_hand::<PackedTable, HostRuntime>(&rt, rt.alloc())?;
+    Ok(())
+}
+
+// 8,192 times 8,192 is the limit, and 8,321 times 8,065 one more.
+#[test]
+fn too_wide_by_one(rt: HostRuntime) -> Result<(), Fail> {
+    let widest = odd_game(rt.alloc(), 8192, 8191)?;
+    assert!(rt; PackedTable::prepare(rt.alloc(), &widest, Player::Zero).is_ok());
+    let game = odd_game(rt.alloc(), 8321, 8064)?;
+    let refusal = Some(Refusal::Task(TaskFault::TooWide));
+    assert_eq!(rt;
+        PlainTable::prepare(rt.alloc(), &game, Player::Zero).err(),
+        refusal
+    );
+    assert_eq!(rt;
+        PackedTable::prepare(rt.alloc(), &game, Player::Zero).err(),
+        refusal
+    );
+    assert!(rt; PlainTable::prepare(rt.alloc(), &game, Player::One).is_ok());
+    Ok(())
+}
