@@ -1,0 +1,14 @@
+mod Order
+mod FirstBest
+mod Edges
+mod Due
+mod Flags
+mod Waking
+mod Answering
+mod Totals
+mod Attempts
+mod Lifting
+mod Starting
+mod Finishing
+mod Sweeping
+mod Queueing

@@ -1,0 +1,34 @@
+use Rattle.std.proofs.Common.{◌≡◌, ◌∙◌, false, ap, length, refl, subst, sym}
+use Rattle.omega_game.specs.Game.{priorities}
+use Rattle.omega_measure.specs.Table.{Content, zero_content}
+use Rattle.omega_solve.specs.Schedule.{Pending, all_pending}
+use Rattle.omega_solve.specs.Solver.{State, start_of}
+use Rattle.omega_solve.specs.Progress.{IsSolving}
+use Rattle.omega_solve.proofs.Starting.{answered_open, solving_start}
+use Rattle.omega_solve.proofs.solver.Solver.prepare.Goals as goal
+
+pub invariant_of-result : goal.invariant_of-result
+invariant_of-result g c =
+    let nodes = c.args.game.now in
+    let content = g.T.MeasureTable.content c.in_ok-table.table in
+    let pending = g.S.Schedule.waiting c.in_ok-schedule.schedule in
+    let state : State = record { nodes = nodes; player = c.args.player; table = content; pending = pending; lifts = 0; done = false } in
+    let all : pending ≡ all_pending (length nodes) = c.in_ok-schedule.ensures.all ∙ ap all_pending c.len-n.ensures.count in
+    let is_start : state ≡ start_of nodes c.args.player =
+    ap (λ (t : Content). record { nodes = nodes; player = c.args.player; table = t; pending = pending; lifts = 0; done = false })
+    c.in_ok-table.ensures.zero
+    ∙ ap (λ (p : Pending). record {
+      nodes = nodes;
+      player = c.args.player;
+      table = zero_content c.args.player (priorities nodes);
+      pending = p;
+      lifts = 0;
+      done = false;
+    }) all in
+    record {
+      solving = subst (λ (s : State). IsSolving s) (sym is_start)
+          (solving_start nodes c.args.player c.zero_tables_are_tables.ensures c.len-n.ensures.game c.len-n.ensures.limits);
+      answered = answered_open state c.in_ok-vec.field-0.items c.in_ok-vec-2.field-0.items refl
+          (sym c.in_ok-vec.field-0.ok.0 ∙ (c.in_ok-vec.ensures.len ∙ c.len-n.ensures.count))
+          (sym c.in_ok-vec-2.field-0.ok.0 ∙ (c.in_ok-vec-2.ensures.len ∙ c.len-n.ensures.count));
+    }

@@ -1,0 +1,24 @@
+use Rattle.std.proofs.Common.{◌∙◌, arith}
+use Rattle.omega_solve.proofs.Flags.{waits_taken}
+use Rattle.omega_solve.proofs.Lifting.{lifts_more}
+use Rattle.omega_solve.proofs.solver.Solver.run.Goals as goal
+
+pub loop-place-smaller-in-None : goal.loop-place-smaller-in-None
+loop-place-smaller-in-None g c =
+    rw c.settle.ensures (omega (arith, waits_taken c.loop-place.self.pending c.in-Some.place c.in-Some.ensures.pending))
+
+pub loop-place-preserved : goal.loop-place-preserved
+loop-place-preserved g c =
+    let kept = c.loop-place.invariant in
+    record {
+      same_nodes = c.lift.ensures.same_nodes ∙ kept.same_nodes;
+      same_player = c.lift.ensures.same_player ∙ kept.same_player;
+      lifted = lifts_more c.reopen.new.self c.loop-place.self c.lift.new.self c.loop-place.made c.in-Some.place
+          kept.same_nodes kept.same_player kept.lifted c.lift.ensures;
+      counted = omega (arith, c.lift.ensures.counted, kept.counted);
+      within = omega (arith, kept.within, c.if-made-budget.false);
+      goes_on = c.lift.ensures.same_done ∙ kept.goes_on;
+    }
+
+pub returns-clause-done : goal.returns-clause-done
+returns-clause-done g c done = rw c.finish.ensures c.in_default.ensures.finished

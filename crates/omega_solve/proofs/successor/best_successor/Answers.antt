@@ -1,0 +1,46 @@
+use Rattle.std.proofs.Common.{◌≡◌, arith, ap, subst, sym, ◌∙◌, ℕ, List, slice_index, Some}
+use Rattle.std.specs.List.{slice_get}
+use Rattle.std.proofs.lemmas.Option.{slice_get-get_or}
+use Rattle.omega_game.specs.Game.{priority_at}
+use Rattle.std.specs.Ordering.{ordering_index}
+use Rattle.std.proofs.lemmas.Bool.{eqb-true, eqb-false}
+use Rattle.omega_solve.specs.Successor.{order_from}
+use Rattle.omega_solve.proofs.Due.{order_total}
+use Rattle.omega_solve.proofs.Order.{same_from_index}
+use Rattle.omega_solve.proofs.Edges.{edge_at, edge_index}
+use Rattle.omega_solve.proofs.FirstBest.{first_best_more, first_best_same}
+use Rattle.omega_solve.proofs.successor.best_successor.Goals as goal
+use Rattle.omega_solve.proofs.successor.best_successor.Goals.{then-eq, else-eq}
+
+pub compare-requires-clause-first : goal.compare-requires-clause-first
+compare-requires-clause-first g c =
+    let edge = edge_index c.args.game.now c.args.place c.successors-successors.result.now c.loop-index.index
+    c.successors-successors.ensures c.loop-index-test.true in
+    omega (arith, c.requires.game.closed c.args.place _ edge, c.requires.entries)
+
+pub compare-requires-clause-second : goal.compare-requires-clause-second
+compare-requires-clause-second g c =
+    let listed = c.loop-index.invariant.listed in
+    let edge = edge_at c.args.game.now c.args.place c.loop-index.invariant.index c.loop-index.best
+    (subst (λ (xs : List ℕ). slice_get xs c.loop-index.invariant.index ≡ Some c.loop-index.best) c.successors-successors.ensures listed) in
+    omega (arith, c.requires.game.closed c.args.place _ edge, c.requires.entries)
+
+pub loop-index-preserved : goal.loop-index-preserved
+loop-index-preserved g c =
+    let content = g.T.MeasureTable.content c.args.table.now in
+    let order = order_from content (priority_at c.args.game.now c.args.place) in
+    let successors = c.successors-successors.result.now in
+    let successor = slice_index successors c.loop-index.index in
+    let at : slice_get successors c.loop-index.index ≡ Some successor = slice_get-get_or successors c.loop-index.index 0 c.loop-index-test.true in
+    let compared : c.compare.result ≡ order successor c.loop-index.best =
+    subst (λ (p : ℕ). c.compare.result ≡ order_from content p successor c.loop-index.best) c.priority-priority.ensures c.compare.ensures in
+    elim c.if-eq.branch [
+      | then-eq w ↦
+          rw w.best-is (first_best_more order c.args.wanted successors c.loop-index.index c.loop-index.best successor
+          (order_total content (priority_at c.args.game.now c.args.place) c.measures_are_ordered.ensures) c.requires.wanted c.loop-index.invariant at
+          (sym compared ∙ same_from_index c.compare.result c.args.wanted (eqb-true _ _ (sym w.if-eq.ensures))))
+      | else-eq w ↦
+          rw w.best-is (first_best_same order c.args.wanted successors c.loop-index.index c.loop-index.best successor
+          c.loop-index.invariant at
+          (λ same. eqb-false _ _ (sym w.if-eq.ensures) (ap ordering_index (compared ∙ same))))
+    ]

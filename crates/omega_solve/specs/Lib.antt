@@ -1,0 +1,16 @@
+pub use Rattle.omega_game.specs.Game
+pub use Rattle.omega_game.specs.Winning
+pub use Rattle.omega_game.specs.Bound
+pub use Rattle.omega_lift.specs.Measure
+pub use Rattle.omega_lift.specs.Allowance
+pub use Rattle.omega_lift.specs.Run
+pub use Rattle.omega_lift.specs.Answer
+pub use Rattle.omega_lift.specs.Laws
+pub use Rattle.omega_measure.specs.Table
+pub mod Schedule
+pub mod Sweep
+pub mod Worklist
+pub mod Solver
+pub mod Successor
+pub mod Wake
+pub mod Progress

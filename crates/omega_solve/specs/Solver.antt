@@ -1,0 +1,56 @@
+use Rattle.std.specs.Prelude.{◌≡◌, ℕ, ◌+◌, ◌*◌, ◌≤◌, Bool, false, List, length}
+use Rattle.omega_game.specs.declared.player.Player.{Player}
+use Rattle.omega_game.specs.Game.{Node, edge_count, priorities}
+use Rattle.omega_game.specs.Bound.{bound_of, product_of}
+use Rattle.omega_lift.specs.Run.{IsDue, IsRun, IsStable, zero_table}
+use Rattle.omega_measure.specs.Table.{Content, zero_content}
+use Rattle.omega_solve.specs.Schedule.{Pending, all_pending}
+
+-- a solver: its game and player, its table and schedule, how many lifts it made, and whether its last run ended with none due
+pub record State : Type 0 where
+  pub nodes : List Node
+  pub player : Player
+  pub table : Content
+  pub pending : Pending
+  pub lifts : ℕ
+  pub done : Bool
+
+-- a new solver: every measure is 0, all places are pending, and no lift was made
+abbrev pub start_of : List Node → Player → State
+start_of nodes player = record {
+  nodes = nodes;
+  player = player;
+  table = zero_content player (priorities nodes);
+  pending = all_pending (length nodes);
+  lifts = 0;
+  done = false;
+}
+
+-- a lifting run of at most the budget's entries leads from the old table to the new, and the lifts grew by as many
+pub record LiftsWithin (old : State) (budget : ℕ) (new : State) : Type 0 where
+  pub places : List ℕ
+  pub lifted : IsRun old.nodes old.player old.table.measures places new.table.measures
+  pub counted : new.lifts ≡ old.lifts + length places
+  pub within : length places ≤ budget
+
+-- the table is reached from the all-zero table by a lifting run of as many entries as there were lifts
+pub record IsReached (state : State) : Type 0 where
+  pub places : List ℕ
+  pub lifted : IsRun state.nodes state.player (zero_table state.player (priorities state.nodes)) places state.table.measures
+  pub counted : length places ≡ state.lifts
+
+-- no lift is due in the solver's table
+abbrev pub IsFinished : State → Type 0
+IsFinished state = IsStable state.nodes state.player state.table.measures
+
+-- a lift is due in the solver's table
+abbrev pub IsUnfinished : State → Type 0
+IsUnfinished state = (place : ℕ) × IsDue state.nodes state.player state.table.measures place
+
+-- the most lifts of a solver: the bound of its game for its player
+abbrev pub most_lifts : State → ℕ
+most_lifts state = bound_of state.player (priorities state.nodes)
+
+-- the most takes of a solver: one for each place, and one for each edge into a place with each of its lifts
+abbrev pub most_attempts : State → ℕ
+most_attempts state = length state.nodes + edge_count state.nodes * product_of state.player (priorities state.nodes)

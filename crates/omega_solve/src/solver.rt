@@ -1,0 +1,243 @@
+ghost use Rattle.std.specs.Prelude.{◌≡◌, ◌↔◌, ℕ, ◌+◌, ◌-◌, ◌^◌, ◌<◌, ◌≤◌, true, false, is_some, length, slice_get, Some, IsTrue, IsOk, IsSome, IfOk, IfErr, IfSome, MatchOption};
+ghost use Rattle.omega_game.specs.Game.{priorities};
+ghost use Rattle.omega_measure.specs.Table.{IsPrepareRefusal, is_too_wide};
+ghost use Rattle.omega_solve.specs.Solver.{start_of};
+
+use crate::answer::{AnswerRef, fill_answer};
+use crate::outcome::Outcome;
+use crate::schedule::Schedule;
+use crate::successor::due_towards;
+use crate::wake::wake_predecessors;
+use omega_lift::{
+    allowances_are_unique, choices_are_a_strategy, choices_win, places_are_lifted_boundedly,
+    regions_stay_below_top, runs_are_bounded, runs_keep_tables, zero_tables_are_tables,
+};
+use omega_measure::{Game, MeasureTable, Player, Refusal};
+use std::alloc::Global;
+use std::marker::Model;
+
+/// The most lifts of one solver, and the greatest budget.
+pub const MOST_LIFTS: u64 = 1_099_511_627_776;
+
+/// A solver of a game for one player by lifting small progress measures (Jurdziński 2000), over any table of measures
+/// and any schedule of places. No call but `prepare` takes memory.
+#[derive(Drop)]
+pub struct Solver<'g, T: MeasureTable, S: Schedule> {
+    game: &'g Game,
+    player: Player,
+    table: T,
+    schedule: S,
+    lifts: u64,
+    done: bool,
+    won: Vec<bool>,
+    choice: Vec<Option<u32>>,
+}
+
+impl<'g, T: MeasureTable, S: Schedule> Model for Solver<'g, T, S> {
+    ghost use Rattle.omega_solve.specs.Solver.{State};
+    ghost use Rattle.omega_solve.specs.Progress.{IsSolver};
+
+    ghost Value = { State };
+
+    ghost view = { λ s. record {
+      nodes = s.game.now;
+      player = s.player;
+      table = T.content s.table;
+      pending = S.waiting s.schedule;
+      lifts = s.lifts;
+      done = s.done;
+    } };
+
+    ghost invariant = { λ s. IsSolver (record {
+      nodes = s.game.now;
+      player = s.player;
+      table = T.content s.table;
+      pending = S.waiting s.schedule;
+      lifts = s.lifts;
+      done = s.done;
+    }) s.won.items s.choice.items };
+}
+
+impl<'g, T: MeasureTable, S: Schedule> Solver<'g, T, S> {
+    ghost use Rattle.omega_game.specs.Winning.{InRegion, IsStrategy, Wins};
+    ghost use Rattle.omega_lift.specs.Answer.{AreChoices, won_in};
+    ghost use Rattle.omega_lift.specs.Run.{IsDue};
+    ghost use Rattle.omega_solve.specs.declared.outcome.Outcome.TheVariants.{Done, Spent};
+    ghost use Rattle.omega_solve.specs.Schedule.{IsIdle, IsPending, with_taken};
+    ghost use Rattle.omega_solve.specs.Successor.{IsDueTowards};
+    ghost use Rattle.omega_solve.specs.Progress.{IsLifted};
+    ghost use Rattle.omega_solve.specs.Solver.{IsFinished, IsReached, IsUnfinished, LiftsWithin, most_attempts, most_lifts};
+
+    /// A solver with every measure 0 and all places pending. 50 where the table would be too wide, or 60.
+    pub fn prepare(
+        alloc: Global,
+        game: &'g Game,
+        player: Player,
+    ) -> Result<Solver<'g, T, S>, Refusal>
+        ensures start { IfOk result (λ solver. solver ≡ start_of game.entry.now player) }
+        ensures fits { IsOk result → is_too_wide player (priorities game.entry.now) ≡ false }
+        ensures refused { IfErr result (IsPrepareRefusal player (priorities game.entry.now)) }
+    {
+        zero_tables_are_tables();
+        let n = game.len();
+        let table = T::prepare(alloc, game, player)?;
+        let schedule = S::prepare(alloc, n as u32)?;
+        Ok(Solver {
+            game,
+            player,
+            table,
+            schedule,
+            lifts: 0,
+            done: false,
+            won: vec![in alloc; false; n]?,
+            choice: vec![in alloc; None; n]?,
+        })
+    }
+
+    /// Makes lifts until none is due, at most the budget. A later run goes on from there.
+    pub fn run(&mut self, budget: u64) -> Outcome
+        requires { self.old.lifts + budget ≤ 2 ^ 40 }
+        ensures game { self.new.nodes ≡ self.old.nodes }
+        ensures player { self.new.player ≡ self.old.player }
+        ensures ran { LiftsWithin self.old budget self.new }
+        ensures done { result ≡ Done → IsFinished self.new }
+        ensures spent { result ≡ Spent → self.new.lifts ≡ self.old.lifts + budget }
+        ensures unfinished { result ≡ Spent → IsUnfinished self.new }
+        ensures told { (self.new.done ≡ true) ↔ (result ≡ Done) }
+    {
+        self.reopen();
+        let mut made = 0;
+        while let Some(place) = self.next() {
+            match self.due_towards(place) {
+                None => self.settle(place),
+                Some(towards) => {
+                    if made == budget {
+                        return Outcome::Spent;
+                    }
+                    self.lift(place, towards);
+                    made += 1;
+                }
+            }
+        }
+        self.finish();
+        Outcome::Done
+    }
+
+    /// How many further lifts the solver may make.
+    pub fn room(&self) -> u64
+        ensures { result + self.now.lifts ≡ 2 ^ 40 }
+    {
+        MOST_LIFTS - self.lifts
+    }
+
+    /// The number of lifts of all runs.
+    pub fn lifts(&self) -> u64
+        ensures count { result ≡ self.now.lifts }
+        ensures reached { IsReached self.now }
+        ensures bounded { self.now.lifts ≤ most_lifts self.now }
+    {
+        runs_are_bounded();
+        self.lifts
+    }
+
+    /// The number of places taken out of the pending set by all runs. A place whose lift the budget held back stays
+    /// pending and is not counted.
+    pub fn attempts(&self) -> u64
+        ensures count { result ≡ self.now.pending.taken }
+        ensures lifts { self.now.lifts ≤ result }
+        ensures bounded { result ≤ most_attempts self.now }
+        ensures each { self.now.done ≡ true → length self.now.nodes ≤ result }
+    {
+        places_are_lifted_boundedly();
+        self.schedule.takes()
+    }
+
+    /// The nodes won and the choices there, or none unless the last run answered `Done`.
+    pub fn answer(&self) -> Option<AnswerRef<'_>>
+        ensures done { is_some result ≡ self.now.done }
+        ensures finished { IsSome result → IsFinished self.now }
+        ensures won { IfSome result (λ answer. answer.won.now ≡ won_in self.now.table.measures) }
+        ensures chosen { IfSome result (λ answer. AreChoices self.now.nodes self.now.player self.now.table.measures answer.choice.now) }
+        ensures strategy { IfSome result (λ answer. IsStrategy self.now.nodes self.now.player answer.choice.now) }
+        ensures wins { IfSome result (λ answer. (v : ℕ) → slice_get answer.won.now v ≡ Some true → Wins self.now.nodes self.now.player answer.choice.now v) }
+        ensures exactly { IfSome result (λ answer. (v : ℕ) → (slice_get answer.won.now v ≡ Some true) ↔ InRegion self.now.nodes self.now.player v) }
+    {
+        choices_are_a_strategy();
+        choices_win();
+        regions_stay_below_top();
+        if !self.done {
+            return None;
+        }
+        Some(AnswerRef {
+            won: &self.won,
+            choice: &self.choice,
+        })
+    }
+
+    /// The solver goes on.
+    fn reopen(&mut self)
+        ensures { self.new ≡ record self.old { done = false } }
+    {
+        self.done = false;
+    }
+
+    /// A pending place. Where there is none, no lift is due.
+    fn next(&self) -> Option<u32>
+        ensures pending { MatchOption result (IsIdle self.now.pending) (IsPending self.now.pending) }
+        ensures finished { MatchOption result (IsFinished self.now) (λ place. place < length self.now.nodes) }
+    {
+        self.schedule.look()
+    }
+
+    /// The successor towards which the place is to be lifted, or none where no lift is due.
+    fn due_towards(&self, place: u32) -> Option<u32>
+        requires { place < length self.now.nodes }
+        ensures { let solver = self.now in
+            MatchOption result (¬ IsDue solver.nodes solver.player solver.table.measures place) (IsDueTowards solver.nodes solver.player solver.table.measures place) }
+    {
+        due_towards(self.game, self.player, &self.table, place)
+    }
+
+    /// Takes out a place where no lift is due.
+    fn settle(&mut self, place: u32)
+        requires pending { IsPending self.old.pending place }
+        requires done { self.old.done ≡ false }
+        requires settled { ¬ IsDue self.old.nodes self.old.player self.old.table.measures place }
+        ensures { self.new ≡ record self.old { pending = with_taken self.old.pending place } }
+    {
+        self.schedule.take(place);
+    }
+
+    /// Lifts a place to its allowance towards a successor, takes it out, and makes its predecessors pending: in this
+    /// order, so that a place with an edge to itself stays pending.
+    fn lift(&mut self, place: u32, towards: u32)
+        requires pending { IsPending self.old.pending place }
+        requires done { self.old.done ≡ false }
+        requires due { IsDueTowards self.old.nodes self.old.player self.old.table.measures place towards }
+        requires room { self.old.lifts < 2 ^ 40 }
+        ensures { IsLifted self.old place self.new }
+    {
+        allowances_are_unique();
+        runs_keep_tables();
+        self.table.raise(place, towards);
+        self.schedule.take(place);
+        self.lifts += 1;
+        wake_predecessors(self.game, &self.table, &mut self.schedule, place);
+    }
+
+    /// Tells the answer of a solver that has no pending place.
+    fn finish(&mut self)
+        requires idle { IsIdle self.old.pending }
+        requires finished { IsFinished self.old }
+        ensures { self.new ≡ record self.old { done = true } }
+    {
+        fill_answer(
+            self.game,
+            self.player,
+            &self.table,
+            &mut self.won,
+            &mut self.choice,
+        );
+        self.done = true;
+    }
+}

@@ -1,0 +1,111 @@
+ghost use Rattle.std.specs.Prelude.{◌≡◌, ◌≢◌, ◌↔◌, ◌<◌, ℕ, length, IsTrue, MatchBool, MatchOption};
+ghost use Rattle.std.specs.declared.cmp.Ordering.TheVariants.{Equal};
+ghost use Rattle.omega_game.specs.Game.{IsGame, owner_at, priority_at, successors_at};
+ghost use Rattle.omega_lift.specs.Run.{IsDue};
+ghost use Rattle.omega_solve.specs.Successor.{ExceedsToAll, IsChoiceAt, IsDueTowards, IsFirstBest, IsTableOf, KeepsToSome, order_from};
+
+use omega_lift::{
+    allowances_are_monotone, allowances_are_strict, allowances_exist, measures_are_ordered,
+};
+use omega_measure::{Game, MeasureTable, Player};
+use std::cmp::Ordering;
+
+/// The successor towards which a place is to be lifted: that of least allowance where the player owns the place, else
+/// that of greatest. None where no lift is due.
+pub(crate) fn due_towards<T: MeasureTable>(
+    game: &Game,
+    player: Player,
+    table: &T,
+    place: u32,
+) -> Option<u32>
+    requires inside { place < length game.now }
+    requires game { IsGame game.now }
+    requires table { IsTableOf game.now player (T.content table.now) }
+    ensures { let measures = (T.content table.now).measures in
+        MatchOption result (¬ IsDue game.now player measures place) (IsDueTowards game.now player measures place) }
+{
+    measures_are_ordered();
+    allowances_exist();
+    allowances_are_monotone();
+    if owns(game, player, place) {
+        if exceeds_to_all(game, table, place) {
+            return Some(best_successor(game, table, place, Ordering::Less));
+        }
+        return None;
+    }
+    let greatest = best_successor(game, table, place, Ordering::Greater);
+    if table.due(place, greatest) {
+        Some(greatest)
+    } else {
+        None
+    }
+}
+
+/// The choice of an answer at a place: the first successor of least allowance where the player owns the place and its
+/// measure is below top. No lift is due at the place.
+pub(crate) fn choice_at<T: MeasureTable>(
+    game: &Game,
+    player: Player,
+    table: &T,
+    place: u32,
+) -> Option<u32>
+    requires inside { place < length game.now }
+    requires game { IsGame game.now }
+    requires table { IsTableOf game.now player (T.content table.now) }
+    requires finished { ¬ IsDue game.now player (T.content table.now).measures place }
+    ensures { IsChoiceAt game.now player (T.content table.now).measures place result }
+{
+    measures_are_ordered();
+    allowances_exist();
+    allowances_are_monotone();
+    allowances_are_strict();
+    if !owns(game, player, place) || table.is_top(place) {
+        return None;
+    }
+    Some(best_successor(game, table, place, Ordering::Less))
+}
+
+fn owns(game: &Game, player: Player, place: u32) -> bool
+    requires { place < length game.now }
+    ensures { IsTrue result ↔ (owner_at game.now place ≡ player) }
+{
+    game.owner(place) == player
+}
+
+/// Whether the allowance of a place towards each of its successors exceeds its measure.
+fn exceeds_to_all<T: MeasureTable>(game: &Game, table: &T, place: u32) -> bool
+    requires inside { place < length game.now }
+    requires game { IsGame game.now }
+    requires entries { length (T.content table.now).measures ≡ length game.now }
+    ensures { MatchBool result (ExceedsToAll game.now (T.content table.now) place) (KeepsToSome game.now (T.content table.now) place) }
+{
+    for successor in game.successors(place) {
+        if !table.due(place, *successor) {
+            return false;
+        }
+    }
+    true
+}
+
+/// The first successor of a place to whose measure no other's compares as wanted, on the entries for priorities at
+/// least that of the place.
+fn best_successor<T: MeasureTable>(game: &Game, table: &T, place: u32, wanted: Ordering) -> u32
+    requires inside { place < length game.now }
+    requires game { IsGame game.now }
+    requires entries { length (T.content table.now).measures ≡ length game.now }
+    requires wanted { wanted ≢ Equal }
+    ensures { let successors = successors_at game.now place in
+        IsFirstBest (order_from (T.content table.now) (priority_at game.now place)) wanted successors (length successors) result }
+{
+    measures_are_ordered();
+    let priority = game.priority(place);
+    let successors = game.successors(place);
+    let mut best = successors[0];
+    for index in 1..successors.len() {
+        let successor = successors[index];
+        if table.compare(successor, best, priority) == wanted {
+            best = successor;
+        }
+    }
+    best
+}
