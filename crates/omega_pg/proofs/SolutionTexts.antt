@@ -1,0 +1,67 @@
+-- Solution texts as they are read.
+use Rattle.std.proofs.Common.{◌≡◌, ℕ, ◌≤◌, inr, List, length, Result, Ok, Err, IfOk, IfErr, refl, sym, ◌∙◌, subst}
+use Rattle.omega_text.specs.declared.limits.TheConstants.{MOST_TEXT}
+use Rattle.omega_text.specs.declared.refusal.Refusal.{Refusal}
+use Rattle.omega_text.specs.declared.refusal.Refusal.TheVariants.{Text}
+use Rattle.omega_text.specs.declared.refusal.text.TextFault.TheVariants.{Syntax}
+use Rattle.omega_game.specs.Game.{Node}
+use Rattle.omega_pg.specs.SolutionLines.{IsOutcome}
+use Rattle.omega_pg.specs.SolutionReading.{IsSolutionRead}
+use Rattle.omega_pg.specs.SolutionText.{IsReadSolutionRefusal, IsSolutionText, SpellsSolution}
+use Rattle.omega_pg.specs.Symbols.{symbols_of}
+use Rattle.omega_pg.specs.Syntax.{Writes}
+use Rattle.omega_pg.specs.declared.solution.Solution.{Solution}
+use Rattle.omega_pg.specs.declared.solution_lines.SolutionLines.{SolutionLines}
+use Rattle.omega_pg.specs.declared.solution_stage.SolutionStage.{SolutionStage}
+use Rattle.omega_pg.specs.declared.solution_stage.SolutionStage.TheVariants.{Ended}
+use Rattle.omega_pg.proofs.SolutionGrammar.{IsUnfinished-from_run, SpellsSolution-from_run}
+
+-- a text whose tokens do not lead to the end of the header or of a line ends too early
+pub solution_early : (source : List ℕ) (nodes : List Node) (stage : SolutionStage) (greatest : ℕ) (lines : SolutionLines) → length source ≤ MOST_TEXT
+    → IsSolutionRead source nodes stage greatest lines → (stage ≡ Ended → ⊥) → IsReadSolutionRefusal nodes source (Text (Syntax (length source)))
+solution_early source nodes stage greatest lines short read open_stage =
+    inr (
+      short,
+      record {
+        lexemes = read.lexemes;
+        cut = read.cut;
+        fault_there = inr (IsUnfinished-from_run read.lexemes read.state read.runs (λ e. open_stage (read.keeps.same_stage ∙ e)), refl);
+      },
+    )
+
+-- the raw text that was read
+written_read : (source : List ℕ) (nodes : List Node) (stage : SolutionStage) (greatest : ℕ) (lines : SolutionLines)
+    → (read : IsSolutionRead source nodes stage greatest lines) → stage ≡ Ended
+    → Writes SpellsSolution source (record { greatest = greatest; lines = read.state.lines })
+written_read source nodes stage greatest lines read ended = record {
+  lexemes = read.lexemes;
+  cut = read.cut;
+  text = subst (λ n. SpellsSolution (symbols_of read.lexemes) (record { greatest = n; lines = read.state.lines })) (sym read.keeps.same_greatest)
+      (SpellsSolution-from_run (symbols_of read.lexemes) read.state read.runs (sym read.keeps.same_stage ∙ ended));
+}
+
+-- what the lines come to is what the text stands for
+module _ (source : List ℕ) (nodes : List Node) (stage : SolutionStage) (greatest : ℕ) (lines : SolutionLines) (short : length source ≤ MOST_TEXT)
+    (read : IsSolutionRead source nodes stage greatest lines) (ended : stage ≡ Ended) where
+  pub solution_read : (result : Result Solution Refusal) → IsOutcome nodes (record { greatest = greatest; lines = read.state.lines }) result
+      → IfOk result (IsSolutionText nodes source)
+  solution_read (Ok solution) outcome = record {
+    short = short;
+    writes = subst (Writes SpellsSolution source) outcome.1 (written_read source nodes stage greatest lines read ended);
+    fits = outcome.0;
+  }
+  solution_read (Err refusal) outcome = tt
+
+  pub solution_refused : (result : Result Solution Refusal) → IsOutcome nodes (record { greatest = greatest; lines = read.state.lines }) result
+      → IfErr result (IsReadSolutionRefusal nodes source)
+  solution_refused (Ok solution) outcome = tt
+  solution_refused (Err refusal) outcome =
+      subst (IsReadSolutionRefusal nodes source) (sym outcome.0) (inr (
+        refl,
+        record {
+          short = short;
+          raw = record { greatest = greatest; lines = read.state.lines };
+          writes = written_read source nodes stage greatest lines read ended;
+          wrong = outcome.1;
+        },
+      ))

@@ -1,0 +1,11 @@
+use Rattle.omega_game.specs.Game.{owner_at}
+use Rattle.omega_pg.specs.Solution.{choices_of}
+use Rattle.omega_pg.proofs.Solutions.{chosen_inside}
+use Rattle.omega_pg.proofs.solution_writing.write_line.Goals as goal
+
+pub write_choice-requires : goal.write_choice-requires
+write_choice-requires c =
+    let nodes = c.args.game.now in
+    let owner = owner_at nodes c.args.place in
+    rw (c.choice_of.ensures, c.owner.ensures)
+    (chosen_inside nodes owner (choices_of c.args.solution.now owner) c.args.place c.requires.game (c.requires.solution.strategies owner))

@@ -1,0 +1,16 @@
+pub mod Automaton
+pub mod Building
+pub mod Canonical
+pub mod Grammar
+pub mod Laws
+pub mod Reader
+pub mod Reading
+pub mod Refusing
+pub mod Solution
+pub mod SolutionAutomaton
+pub mod SolutionLines
+pub mod SolutionReading
+pub mod SolutionText
+pub mod Symbols
+pub mod Syntax
+pub mod Text

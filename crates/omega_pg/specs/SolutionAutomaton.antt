@@ -1,0 +1,81 @@
+-- The grammar of solution texts as an automaton over symbols, which keeps what it has read.
+use Rattle.std.specs.Prelude.{ℕ, Option, Some, None, List, [], ◌∷◌, ◌++◌, option_and_then, option_map}
+use Rattle.omega_game.specs.declared.player.Player.{Player}
+use Rattle.omega_pg.specs.Automaton.{player_of}
+use Rattle.omega_pg.specs.Solution.{Line}
+use Rattle.omega_pg.specs.Symbols.{Symbol, comma, name, number, parity, paritysol, semicolon}
+use Rattle.omega_pg.specs.declared.solution_stage.SolutionStage.{SolutionStage}
+use Rattle.omega_pg.specs.declared.solution_stage.SolutionStage.TheVariants.{Chosen, Ended, Identifier, Number, Start, Winner, Word}
+
+-- what was read so far: where it stands, the header's number and the lines
+pub record SolutionState : Type 0 where
+  pub stage : SolutionStage
+  pub greatest : ℕ
+  pub lines : List Line
+
+-- nothing was read
+abbrev pub initial : SolutionState
+initial = record { stage = Start; greatest = 0; lines = [] }
+
+-- the state at another stage
+abbrev pub to_stage : SolutionStage → SolutionState → SolutionState
+to_stage stage state = record state { stage = stage }
+
+-- the state with one line more
+abbrev pub with_line : ℕ → Player → Option ℕ → SolutionState → SolutionState
+with_line id winner successor state = record {
+  stage = Ended;
+  greatest = state.greatest;
+  lines = state.lines ++ record { identifier = id; winner = winner; successor = successor } ∷ [];
+}
+
+-- what a number makes of the state
+abbrev pub after_number : SolutionStage → SolutionState → ℕ → Option SolutionState
+after_number Start state n = None
+after_number Word state n = Some (to_stage (Number n) state)
+after_number (Number greatest) state n = None
+after_number Ended state n = Some (to_stage (Identifier n) state)
+after_number (Identifier id) state n = option_map (λ winner. to_stage (Winner id winner) state) (player_of n)
+after_number (Winner id winner) state n = Some (to_stage (Chosen id winner n) state)
+after_number (Chosen id winner successor) state n = None
+
+-- what the word `paritysol` makes of the state
+abbrev pub after_word : SolutionStage → SolutionState → Option SolutionState
+after_word Start state = Some (to_stage Word state)
+after_word _ state = None
+
+-- what a semicolon makes of the state
+abbrev pub after_semicolon : SolutionStage → SolutionState → Option SolutionState
+after_semicolon (Number greatest) state = Some (record { stage = Ended; greatest = greatest; lines = state.lines })
+after_semicolon (Winner id winner) state = Some (with_line id winner None state)
+after_semicolon (Chosen id winner successor) state = Some (with_line id winner (Some successor) state)
+after_semicolon _ state = None
+
+-- what a symbol makes of the state, or none where no text goes on so
+abbrev pub step : SolutionState → Symbol → Option SolutionState
+step state (number n) = after_number state.stage state n
+step state parity = None
+step state paritysol = after_word state.stage state
+step state semicolon = after_semicolon state.stage state
+step state comma = None
+step state (name bytes) = None
+
+-- what symbols make of the state
+abbrev pub run : SolutionState → List Symbol → Option SolutionState
+run state [] = Some state
+run state (symbol ∷ symbols) = option_and_then (λ next. run next symbols) (step state symbol)
+
+-- where a number leads
+abbrev pub stage_after_number : SolutionStage → ℕ → Option SolutionStage
+stage_after_number Start n = None
+stage_after_number Word n = Some (Number n)
+stage_after_number (Number greatest) n = None
+stage_after_number Ended n = Some (Identifier n)
+stage_after_number (Identifier id) n = option_map (λ winner. Winner id winner) (player_of n)
+stage_after_number (Winner id winner) n = Some (Chosen id winner n)
+stage_after_number (Chosen id winner successor) n = None
+
+-- where the word `paritysol` leads
+abbrev pub stage_after_word : SolutionStage → Option SolutionStage
+stage_after_word Start = Some Word
+stage_after_word _ = None

@@ -1,0 +1,28 @@
+//! Texts of parity games and of their solutions, read and written exactly.
+#![tactic(auto)]
+
+mod laws;
+mod reader;
+mod reading;
+mod solution;
+mod solution_lines;
+mod solution_reader;
+mod solution_reading;
+mod solution_stage;
+mod solution_writing;
+mod stage;
+mod writing;
+
+pub use laws::{
+    canonical_texts_are_read, games_are_not_refused, games_of_texts_are_one, refusals_are_one,
+    syntax_faults_are_first, texts_are_read_or_refused,
+};
+pub use omega_game::{Game, GameFault, Player, Refusal, Seq, Strategy, TaskFault};
+pub use reading::read_game;
+pub use solution::Solution;
+pub use solution_reading::read_solution;
+pub use solution_writing::write_solution;
+pub use writing::write_game;
+
+#[cfg(test)]
+mod tests;

@@ -1,0 +1,159 @@
+use super::*;
+use omega_text::TextFault;
+use std::alloc::Global;
+use std::test::*;
+
+fn lex(at: usize) -> Refusal {
+    Refusal::Text(TextFault::Lex { at })
+}
+
+fn number(at: usize) -> Refusal {
+    Refusal::Text(TextFault::Number { at })
+}
+
+fn syntax(at: usize) -> Refusal {
+    Refusal::Text(TextFault::Syntax { at })
+}
+
+/// The refusal of a game text, or none if it is read.
+fn refusal(alloc: Global, text: &[u8]) -> Option<Refusal> {
+    match read_game(alloc, text) {
+        Ok(_game) => None,
+        Err(refusal) => Some(refusal),
+    }
+}
+
+/// The canonical text of the game that a text stands for.
+fn canon(alloc: Global, text: &[u8]) -> Result<Vec<u8>, Refusal> {
+    let game = read_game(alloc, text)?;
+    write_game(alloc, &game)
+}
+
+/// The written form of the solution that a text stands for.
+fn solved(alloc: Global, game: &[u8], text: &[u8]) -> Result<Vec<u8>, Refusal> {
+    let game = read_game(alloc, game)?;
+    let solution = read_solution(alloc, &game, text)?;
+    write_solution(alloc, &game, &solution)
+}
+
+#[test]
+fn fronts_of_a_game_text(rt: HostRuntime) {
+    let text = b"parity 9; 9 3 1 4; 4 2 0 9,4 \"a\";".as_slice();
+    for length in 0..text.len() {
+        let want = match length {
+            1..=5 => lex(0),
+            18 | 19 => Refusal::Game(GameFault::UndefinedSuccessor),
+            30 | 31 => lex(29),
+            _ => syntax(length),
+        };
+        assert_eq!(rt;
+            refusal(rt.alloc(), &text[..length]),
+            Some(want),
+            "at {length}"
+        );
+    }
+    assert_eq!(rt; refusal(rt.alloc(), text), None);
+}
+
+#[test]
+fn refused_game_texts(rt: HostRuntime) {
+    let rows = [
+        (b"".as_slice(), syntax(0)),
+        (
+            b"parity 3; 4 0 0 4;".as_slice(),
+            Refusal::Game(GameFault::HeaderTooSmall),
+        ),
+        (
+            b"0 0 0 1;".as_slice(),
+            Refusal::Game(GameFault::UndefinedSuccessor),
+        ),
+        (
+            b"parity 0; 0 0 0 1; 0 0 0 0; 2 0 0 0;".as_slice(),
+            Refusal::Game(GameFault::DuplicateNode),
+        ),
+        (
+            b"0 0 0 0; 0 0 0 0;".as_slice(),
+            Refusal::Game(GameFault::DuplicateNode),
+        ),
+        (b"0 0 2 0;".as_slice(), syntax(4)),
+        (b"0 0 0;".as_slice(), syntax(5)),
+        (b"0 0 0 0".as_slice(), syntax(7)),
+        (b"00 0 0 0;".as_slice(), number(0)),
+        (b"0 0 0 1; $".as_slice(), lex(9)),
+        (b"2147483648 0 0 0;".as_slice(), number(0)),
+        (b"; ; 0 0 0 0; \"".as_slice(), lex(13)),
+        (b"paritysol 0;".as_slice(), syntax(0)),
+    ];
+    for (text, want) in rows {
+        assert_eq!(rt; refusal(rt.alloc(), text), Some(want));
+    }
+}
+
+#[test]
+fn long_game_texts(rt: HostRuntime) -> Result<(), Fail> {
+    let long = vec![in rt.alloc(); b'$'; 16_777_217]?;
+    assert_eq!(rt;
+        refusal(rt.alloc(), &long),
+        Some(Refusal::Text(TextFault::TooLong))
+    );
+    let signs = vec![in rt.alloc(); b';'; 1_000_000]?;
+    assert_eq!(rt; refusal(rt.alloc(), &signs), Some(syntax(0)));
+    Ok(())
+}
+
+#[test]
+fn canonical_game_texts(rt: HostRuntime) {
+    let rows = [
+        (
+            b"parity 9; 9 3 1 4; 4 2 0 9,4 \"a\";".as_slice(),
+            b"parity 9;\n4 2 0 9,4 \"a\";\n9 3 1 4;\n".as_slice(),
+        ),
+        (
+            b"2147483647 0 0 2147483647;".as_slice(),
+            b"parity 2147483647;\n2147483647 0 0 2147483647;\n".as_slice(),
+        ),
+        (
+            b"parity 4;\t4 0 1\r\n4 , 4,4\"\";".as_slice(),
+            b"parity 4;\n4 0 1 4,4,4 \"\";\n".as_slice(),
+        ),
+    ];
+    for (text, want) in rows {
+        match canon(rt.alloc(), text) {
+            Ok(found) => assert_eq!(rt; found.as_slice(), want),
+            Err(refusal) => assert!(rt; false, "{refusal:?}"),
+        }
+    }
+}
+
+#[test]
+fn solution_texts(rt: HostRuntime) {
+    let game = b"0 0 0 1,2; 1 1 1 0; 2 2 1 0;".as_slice();
+    let bad = Refusal::Task(TaskFault::BadSolution);
+    match solved(rt.alloc(), game, b"paritysol 2; 0 0 2; 1 0; 2 0;") {
+        Ok(found) => assert_eq!(rt;
+            found.as_slice(),
+            b"paritysol 2;\n0 0 2;\n1 0;\n2 0;\n".as_slice()
+        ),
+        Err(refusal) => assert!(rt; false, "{refusal:?}"),
+    }
+    let rows = [
+        (b"paritysol 2; 0 0; 1 0; 2 0;".as_slice(), bad),
+        (b"paritysol 3; 0 0 2; 1 0; 2 0;".as_slice(), bad),
+        (b"paritysol 2; 0 0 2; 2 0; 1 0;".as_slice(), bad),
+        (b"paritysol 2; 0 0 0; 1 0; 2 0;".as_slice(), bad),
+        (b"paritysol 2; 0 1 2; 1 0; 2 0;".as_slice(), bad),
+        (b"paritysol 2; 0 0 2; 1 0;".as_slice(), bad),
+        (b"paritysol 2;".as_slice(), bad),
+        (b"paritysol 2; 0 0 2; 1 0; 2 0; 3 0;".as_slice(), bad),
+        (b"paritysol 2; 0 2 2;".as_slice(), syntax(15)),
+        (b"paritysol 2; 0 0 2".as_slice(), syntax(18)),
+        (b"parity 2;".as_slice(), syntax(0)),
+        (b"paritysol 2; 0 0 2 2; 01".as_slice(), number(22)),
+    ];
+    for (text, want) in rows {
+        match solved(rt.alloc(), game, text) {
+            Ok(_found) => assert!(rt; false),
+            Err(refusal) => assert_eq!(rt; refusal, want),
+        }
+    }
+}
