@@ -1,0 +1,4 @@
+pub mod Named
+pub mod Places
+pub mod Solving
+pub mod Transfers

@@ -1,0 +1,12 @@
+pub mod Answer
+pub mod Canon
+pub mod Check
+pub mod Exit
+pub mod Lifting
+pub mod Line
+pub mod PlayerText
+pub mod RefusalLine
+pub mod Run
+pub mod Show
+pub mod Solve
+pub mod Transfer

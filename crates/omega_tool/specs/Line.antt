@@ -1,0 +1,26 @@
+use Rattle.std.specs.Prelude.{◌≤◌, ◌^◌, IsSome}
+use Rattle.omega_tool.specs.declared.command.Command.{Command}
+use Rattle.omega_tool.specs.declared.command.Command.TheVariants.{Canon, Check, Empty, Game, Show, Solve, Verify}
+use Rattle.omega_tool.specs.declared.command.Format.TheVariants.{Hoa, Pg}
+use Rattle.omega_tool.specs.declared.line.Line.{Line}
+use Rattle.omega_tool.specs.declared.line.Line.TheVariants as line
+
+-- the command is one that the program offers
+abbrev pub IsOffered : Command → Type 0
+IsOffered (Show Pg) = Unit {0}
+IsOffered (Show Hoa) = ⊥
+IsOffered (Check Pg) = Unit {0}
+IsOffered (Check Hoa) = ⊥
+IsOffered (Canon Pg) = Unit {0}
+IsOffered (Canon Hoa) = ⊥
+IsOffered (Solve player from) = IsSome player
+IsOffered (Verify game) = ⊥
+IsOffered Empty = ⊥
+IsOffered Game = ⊥
+
+-- what the line asks for can be done: its command is offered, and its budget is one that a solver takes
+abbrev pub IsRunnable : Line → Type 0
+IsRunnable (line.Run command budget) = IsOffered command × (budget ≤ 2 ^ 40)
+IsRunnable (line.Verify file) = ⊥
+IsRunnable (line.Help text) = Unit {0}
+IsRunnable (line.Fault text) = Unit {0}

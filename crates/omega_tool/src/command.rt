@@ -1,0 +1,36 @@
+use omega_game::Player;
+use omega_text::Seq;
+
+/// What the program does with the text on its input.
+#[derive(Debug, Drop)]
+pub enum Command {
+    /// Describes the value of the text: its size, and for a game the bounds on lifts.
+    Show(Format),
+    /// Says that the text is accepted.
+    Check(Format),
+    /// Writes the text in the one form that its value has.
+    Canon(Format),
+    /// Solves a game: for both players, or for one alone; whole, or the part that one node reaches.
+    Solve {
+        player: Option<Player>,
+        /// The identifier of the node whose part is solved.
+        from: Option<u32>,
+    },
+    /// Checks the solution of a game whose text is kept here.
+    Verify {
+        game: Seq<u8>,
+    },
+    /// Says whether an automaton accepts nothing, and shows a lasso where it does not.
+    Empty,
+    /// Writes the emptiness game of an automaton.
+    Game,
+}
+
+/// What kind of text is read.
+#[derive(Clone, Copy, Debug, PartialEq, Eq)]
+pub enum Format {
+    /// A game in the text of PGSolver.
+    Pg,
+    /// A stream of automata in the Hanoi Omega-Automata Format, version 1.
+    Hoa,
+}

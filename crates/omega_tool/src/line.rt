@@ -1,0 +1,14 @@
+use crate::command::Command;
+
+/// What a command line asks for.
+#[derive(Debug, Drop)]
+pub enum Line {
+    /// A command, and the most lifts of each of its runs.
+    Run(Command, u64),
+    /// To verify a solution of the game in a file.
+    Verify { file: String },
+    /// A text of help, which goes to standard output.
+    Help(String),
+    /// What is wrong with the command line, which goes to standard error.
+    Fault(String),
+}

@@ -1,0 +1,43 @@
+use clap::{Arg, value_parser};
+use std::alloc::Global;
+
+/// The formats that are offered.
+static FORMATS: [&str; 1] = ["pg"];
+
+/// The option that says what kind of text is read.
+pub fn format_option<'a>(alloc: Global) -> Arg<'a> {
+    Arg::new(alloc, "format")
+        .long("format")
+        .value_name("FORMAT")
+        .required(true)
+        .value_parser(FORMATS.as_slice())
+        .help("The kind of text: pg, a game in the text of PGSolver")
+}
+
+/// The option that says whose game is solved.
+pub fn player_option<'a>(alloc: Global) -> Arg<'a> {
+    Arg::new(alloc, "player")
+        .long("player")
+        .value_name("P")
+        .required(true)
+        .value_parser(value_parser!(u64).range(0..=1))
+        .help("The player to solve for, 0 or 1")
+}
+
+/// The option that names the node whose part is solved.
+pub fn from_option<'a>(alloc: Global) -> Arg<'a> {
+    Arg::new(alloc, "from")
+        .long("from")
+        .value_name("ID")
+        .value_parser(value_parser!(u32).range(0..=2_147_483_647))
+        .help("Solve only the part that the node with this identifier reaches")
+}
+
+/// The option that bounds the work.
+pub fn budget_option<'a>(alloc: Global) -> Arg<'a> {
+    Arg::new(alloc, "budget")
+        .long("budget")
+        .value_name("N")
+        .value_parser(value_parser!(u64).range(0..=1_099_511_627_776))
+        .help("Give up after N lifts, 0 to 1099511627776, which is also the default")
+}

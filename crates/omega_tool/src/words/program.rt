@@ -1,0 +1,46 @@
+use super::canon::canon_command;
+use super::check::check_command;
+use super::show::show_command;
+use super::solve::solve_command;
+use clap::Command;
+use std::alloc::{AllocError, Global};
+
+const DETAILS: &str = "\
+A game text, in the format of PGSolver, has for each node an identifier, a priority, its owner
+(player 0 or 1), the identifiers of its successors, and perhaps a name:
+
+  0 1 0 1; 1 2 1 0 \"goal\";
+
+Here node 0 has priority 1, belongs to player 0 and leads to node 1; node 1 has priority 2,
+belongs to player 1, leads to node 0 and is named goal. A header such as `parity 1;` with a number
+that no identifier exceeds may come first. At each node its owner chooses a successor, for ever;
+player 0 wins where the greatest priority that comes again and again is even, player 1 where it is
+odd.
+
+What is read comes from standard input, and the answer goes to standard output. Where the text or
+the task is refused, one line on standard error says why, as `omega: 3 Syntax at 0` for a text that
+is no game from its first byte on. Bytes are counted from 0.
+
+Exit status:
+  0  done
+  1  the text or the task is refused
+  2  the command line is wrong
+  3  the budget is used up
+  4  out of memory
+  5  a read or a write failed
+
+`omega <COMMAND> --help` tells more of a command.";
+
+/// The program's command line.
+pub fn whole_program<'a>(alloc: Global) -> Result<Command<'a>, AllocError> {
+    Command::new(alloc, "omega")
+        .bin_name("omega")?
+        .about("Reads, checks, writes and solves parity games.")
+        .after_help(DETAILS)
+        .subcommand_required(true)
+        .disable_help_subcommand(true)
+        .subcommand(show_command(alloc)?)?
+        .subcommand(check_command(alloc)?)?
+        .subcommand(canon_command(alloc)?)?
+        .subcommand(solve_command(alloc)?)
+}
