@@ -39,3 +39,6 @@ fn is_lost(player: Player, priority: u32) -> bool
         Player::One => priority % 2 == 0,
     }
 }
+
+#[cfg(test)]
+mod tests;

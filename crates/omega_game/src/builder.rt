@@ -268,3 +268,6 @@ impl GameBuilder {
         Ok(game)
     }
 }
+
+#[cfg(test)]
+mod tests;

@@ -162,3 +162,6 @@ impl Game {
         self.classes.as_slice()
     }
 }
+
+#[cfg(test)]
+mod tests;

@@ -16,11 +16,13 @@ mod node_spec;
 mod part;
 mod player;
 mod reached;
+#[cfg(test)]
+mod readings;
 mod resolving;
+#[cfg(test)]
+mod samples;
 mod sorting;
 mod strategy;
-#[cfg(test)]
-mod tests;
 
 pub use bounds::bound;
 pub use builder::GameBuilder;

@@ -47,3 +47,6 @@ fn is_same(player: Player, other: Player) -> bool
 {
     player == other
 }
+
+#[cfg(test)]
+mod tests;
