@@ -55,3 +55,6 @@ fn wins_from(
     let answer = decide(alloc, game, player, choices, &marks)?;
     Ok(answer)
 }
+
+#[cfg(test)]
+mod tests;
