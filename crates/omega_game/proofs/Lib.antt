@@ -34,9 +34,8 @@ pub mod ResolvingLemmas
 pub mod SortingLemmas
 pub mod Products
 pub mod Factors
-pub mod Searching
 pub mod PartGames
 pub mod Specifying
-pub mod Reaching
+pub mod ReachingLemmas
 pub mod Recurring
 pub mod Ordering

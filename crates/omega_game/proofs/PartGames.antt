@@ -1,5 +1,5 @@
 -- The part of a place is a game within the limits, and its specifications are those of the kept nodes.
-use Rattle.std.proofs.Common.{◌≡◌, ◌↔◌, ℕ, ◌+◌, ◌<◌, ◌≤◌, ◌⊎◌, inl, inr, Bool, true, false, cond, not, List, [], ◌∷◌, length, map, filter, slice_index, sum_by, Contains, None, IsPermutation, refl, sym, ap, ap₂, ◌∙◌, subst, arith}
+use Rattle.std.proofs.Common.{◌≡◌, ◌↔◌, ℕ, ◌+◌, ◌<◌, ◌≤◌, ◌⊎◌, inl, inr, Bool, true, false, cond, not, IsTrue, List, [], ◌∷◌, length, map, filter, slice_index, sum_by, Contains, None, IsPermutation, refl, sym, ap, ap₂, ◌∙◌, subst, arith}
 use Rattle.std.proofs.lemmas.Bool.{cases_lt, false≢true}
 use Rattle.std.proofs.lemmas.List.{length-map, get_or_default, get_or_past}
 use Rattle.std.proofs.lemmas.List.Elements.{All-contains, filter_passes}
@@ -12,7 +12,7 @@ use Rattle.std.specs.List.Sorted.{IsStrictlyIncreasing}
 use Rattle.omega_game.specs.declared.node_spec.NodeSpec.{NodeSpec}
 use Rattle.omega_text.specs.declared.refusal.Refusal.{Refusal}
 use Rattle.omega_text.specs.declared.refusal.Refusal.TheVariants.{Automaton, Game, Io, Memory, Task, Text}
-use Rattle.omega_game.specs.Flags.{flag_at, AreReached}
+use Rattle.omega_game.specs.Checking.{mark_at}
 use Rattle.omega_game.specs.Game.{Node, IsGame, IsWithinLimits, IsWritable, HasEdge, node_at, no_node, identifiers, successors_at, edge_count}
 use Rattle.omega_game.specs.Building.{IsBuildRefusal, IsGameOf, specified, fault_of}
 use Rattle.omega_game.specs.Part.{IsPart, IsPartAt, Reaches, new_place, restricted}
@@ -159,27 +159,27 @@ range_rises n k within =
 range_contains : (n u : ℕ) → u < n → Contains (range_with_len 0 n) u
 range_contains n u below = (u, omega (arith, below, length-range_with_len 0 n), get_or-range_with_len 0 n u u below ∙ omega arith)
 
-module _ (nodes : List Node) (v : ℕ) (flags : List Bool) (game : IsGame nodes) (node : v < length nodes) (are : AreReached nodes v flags) where
-  -- the flagged places
+module _ (nodes : List Node) (v : ℕ) (marks : List Bool) (game : IsGame nodes) (node : v < length nodes) (reached : (u : ℕ) → IsTrue (mark_at marks u) ↔ Reaches nodes v u) where
+  -- the marked places
   abbrev kept_places : List ℕ
-  kept_places = filter (flag_at flags) (range_with_len 0 (length nodes))
+  kept_places = filter (mark_at marks) (range_with_len 0 (length nodes))
 
   -- they are those reached
   kept_reached : (u : ℕ) → Contains kept_places u ↔ Reaches nodes v u
   kept_reached u = (
-    λ contained. (are.reached u).0 (All-contains (λ x. flag_at flags x ≡ true) kept_places u (filter_passes (flag_at flags) (range_with_len 0 (length nodes))) contained),
-    λ reaches. Contains-filter (flag_at flags) (range_with_len 0 (length nodes)) u (range_contains (length nodes) u (reached_is_node nodes v u reaches)) ((are.reached u).1 reaches),
+    λ contained. (reached u).0 (All-contains (λ x. mark_at marks x ≡ true) kept_places u (filter_passes (mark_at marks) (range_with_len 0 (length nodes))) contained),
+    λ reaches. Contains-filter (mark_at marks) (range_with_len 0 (length nodes)) u (range_contains (length nodes) u (reached_is_node nodes v u reaches)) ((reached u).1 reaches),
   )
 
   -- the nodes there are the part
   restricted_is_part : IsPartAt nodes v kept_places (restricted nodes kept_places)
   restricted_is_part = record {
-    rising = IsStrictlyIncreasing-filter (flag_at flags) (range_with_len 0 (length nodes)) (range_rises (length nodes));
+    rising = IsStrictlyIncreasing-filter (mark_at marks) (range_with_len 0 (length nodes)) (range_rises (length nodes));
     reached = kept_reached;
     kept_nodes = refl;
   }
 
-  -- the specifications of the flagged nodes
+  -- the specifications of the marked nodes
   abbrev pub kept_specs : List NodeSpec
   kept_specs = map (λ u. specified nodes (node_at nodes u)) kept_places
 
@@ -194,7 +194,7 @@ module _ (nodes : List Node) (v : ℕ) (flags : List Bool) (game : IsGame nodes)
   kept_faultless limits =
       without_fault kept_specs (restricted nodes kept_places)
       (part_is_game_of nodes (restricted nodes kept_places) v kept_places game restricted_is_part node)
-      (part_within_limits nodes (restricted nodes kept_places) v (flag_at flags) game restricted_is_part limits)
+      (part_within_limits nodes (restricted nodes kept_places) v (mark_at marks) game restricted_is_part limits)
 
   -- and their game is the part
   pub part_from_specs : (part : List Node) → IsGameOf kept_specs part → IsPart nodes v part

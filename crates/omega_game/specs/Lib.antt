@@ -4,7 +4,6 @@ pub mod Winning
 pub mod Bound
 pub mod Factors
 pub mod Part
-pub mod Flags
 pub mod Checking
 pub mod Building
 pub mod Laws

@@ -7,15 +7,14 @@ mod deciding;
 mod nesting;
 mod numbers;
 mod ordering;
-mod reaching;
 mod recurring;
 
 use crate::game::Game;
 use crate::player::Player;
+use crate::reaching::reached_from;
 use crate::strategy::Strategy;
 use deciding::decide;
 use omega_text::Refusal;
-use reaching::reached_from;
 use std::alloc::{AllocError, Global};
 
 /// Whether a strategy of the player wins from each of the places, which may come in any order and repeatedly: yes where

@@ -15,7 +15,7 @@ mod names;
 mod node_spec;
 mod part;
 mod player;
-mod reached;
+mod reaching;
 #[cfg(test)]
 mod readings;
 mod resolving;

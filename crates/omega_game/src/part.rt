@@ -4,7 +4,7 @@ ghost use Rattle.omega_game.specs.Game.{IsGame, IsWithinLimits, node_at};
 
 use crate::builder::GameBuilder;
 use crate::game::Game;
-use crate::reached::reached_from;
+use crate::reaching::reached_from;
 use omega_text::Refusal;
 use std::alloc::Global;
 
@@ -18,10 +18,11 @@ impl Game {
         ensures part { IfOk result (λ part. IsPart self.now place part) }
         ensures memory { IsOkUnless result Refusal.Memory }
     {
-        let flags = reached_from(alloc, self, place)?;
+        let count = self.len();
+        let marks = reached_from(alloc, self, &[], u32::MAX, &[place])?;
         let mut builder = GameBuilder::new(alloc);
-        for kept in 0..self.len() {
-            if flags[kept] {
+        for kept in 0..count {
+            if marks[kept] {
                 specify(&mut builder, self, kept as u32)?;
             }
         }

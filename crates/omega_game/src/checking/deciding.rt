@@ -6,7 +6,7 @@ ghost use Rattle.omega_game.specs.Checking.{AreChoices, AreClosed, NoneRecurs};
 use crate::checking::components::Edge;
 use crate::checking::nesting::{Finding, search_nested};
 use crate::checking::ordering::shows_none;
-use crate::checking::reaching::edges_left;
+use crate::reaching::edges_left;
 use crate::checking::recurring::{is_losing, none_recurs, recurs};
 use crate::game::Game;
 use crate::player::Player;

@@ -3,7 +3,7 @@
 ghost use Rattle.std.specs.Prelude.{◌≡◌, ℕ, ◌<◌, ◌≤◌, length, vec_len, All, IfOk, IsTrue, slice_index};
 ghost use Rattle.omega_game.specs.Checking.{mark_at, AreChoices, AreClosed, AreEnds, IsInOrder, NoneRecurs, StandsInOrder};
 
-use crate::checking::reaching::edges_left;
+use crate::reaching::edges_left;
 use crate::checking::recurring::is_losing;
 use crate::game::Game;
 use crate::player::Player;

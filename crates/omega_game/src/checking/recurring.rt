@@ -3,7 +3,7 @@ ghost use Rattle.std.specs.Prelude.{◌≡◌, ◌↔◌, ℕ, ◌<◌, length, 
 ghost use Rattle.omega_game.specs.Winning.{loses};
 ghost use Rattle.omega_game.specs.Checking.{AreChoices, NoneRecurs, Recurs};
 
-use crate::checking::reaching::{edges_left, reached_from};
+use crate::reaching::{edges_left, reached_from};
 use crate::game::Game;
 use crate::player::Player;
 use std::alloc::{AllocError, Global};

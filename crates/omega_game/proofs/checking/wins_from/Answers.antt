@@ -1,6 +1,6 @@
 use Rattle.std.proofs.Common.{List, Bool, sym, subst, arith}
 use Rattle.omega_game.specs.Checking.{AreReached}
-use Rattle.omega_game.proofs.Reaching.{reached_closed}
+use Rattle.omega_game.proofs.ReachingLemmas.{reached_closed}
 use Rattle.omega_game.proofs.Recurring.{choices_of_strategy, priorities_low, wins_if_none, none_if_wins}
 use Rattle.omega_game.proofs.checking.wins_from.Goals as goal
 

@@ -1,14 +1,17 @@
-use Rattle.std.proofs.Common.{◌≡◌, None, ℕ, ◌<◌, [], ◌∷◌, ◌++◌, List, Bool, false, length, map, filter, sym, ap, ◌∙◌, subst, arith}
+use Rattle.std.proofs.Common.{◌≡◌, None, ℕ, ◌<◌, [], ◌∷◌, ◌++◌, List, Bool, false, IsTrue, ◌↔◌, length, map, filter, sym, ap, ◌∙◌, subst, arith}
 use Rattle.std.proofs.lemmas.List.{get_or_default}
 use Rattle.std.proofs.lemmas.Result.{IfOk-weaker, IfErr-weaker}
 use Rattle.std.specs.List.{range_with_len}
 use Rattle.omega_text.specs.declared.refusal.Refusal.TheVariants.{Memory}
 use Rattle.omega_game.specs.declared.node_spec.NodeSpec.{NodeSpec}
 use Rattle.omega_game.specs.Building.{specified, IsGameOf, IsBuildRefusal, fault_of}
-use Rattle.omega_game.specs.Flags.{flag_at, AreReached}
-use Rattle.omega_game.specs.Game.{Node, IsGame, node_at}
-use Rattle.omega_game.specs.Part.{IsPart}
+use Rattle.omega_game.specs.Checking.{mark_at, AreReached}
+use Rattle.omega_game.specs.Part.{Reaches}
+use Rattle.omega_game.specs.Game.{Node, IsGame, IsWithinLimits, node_at}
+use Rattle.omega_game.specs.Part.{IsPart, Reaches}
 use Rattle.omega_game.proofs.PartGames.{kept_specs, some_kept, kept_faultless, part_from_specs, memory_alone}
+use Rattle.omega_game.proofs.ReachingLemmas.{reached_by_listed}
+use Rattle.omega_game.proofs.Recurring.{priorities_low}
 use Rattle.omega_game.proofs.Specifying.{specified_passing, specified_failing}
 use Rattle.omega_game.proofs.game.Game.part.Goals as goal
 use Rattle.omega_game.proofs.game.Game.part.Goals.{then-index+in_ok-specify, else-index}
@@ -16,48 +19,58 @@ use Rattle.omega_game.proofs.game.Game.part.Goals.{then-index+in_ok-specify, els
 pub loop-kept-preserved : goal.loop-kept-preserved
 loop-kept-preserved c =
     let nodes : List Node = c.args.self.now in
-    let flags : List Bool = c.in_ok-flags.flags.items in
+    let marks : List Bool = c.in_ok-marks.marks.items in
     let place : ℕ = c.loop-kept.kept in
-    let below : place < length flags = omega (arith, c.loop-kept-test.true, c.in_ok-flags.ensures.entries, c.len-kept-end.ensures.count) in
-    let read : flag_at flags place ≡ c.index.result.now = get_or_default flags place false c.index.result.now below ∙ sym c.index.ensures in
+    let below : place < length marks = omega (arith, c.loop-kept-test.true, c.in_ok-marks.ensures.count, c.len-count.ensures.count) in
+    let read : mark_at marks place ≡ c.index.result.now = get_or_default marks place false c.index.result.now below ∙ sym c.index.ensures in
     elim c.if-index.branch [
       | then-index+in_ok-specify w ↦
           w.builder-is ∙ w.in_ok-specify.ensures.ok
           ∙ ap (λ (specs : List NodeSpec). specs ++ specified nodes (node_at nodes place) ∷ []) c.loop-kept.invariant
-          ∙ sym (specified_passing (flag_at flags) (λ v. specified nodes (node_at nodes v)) place (read ∙ w.if-index.true))
+          ∙ sym (specified_passing (mark_at marks) (λ v. specified nodes (node_at nodes v)) place (read ∙ w.if-index.true))
       | else-index w ↦
           w.builder-is ∙ c.loop-kept.invariant
-          ∙ sym (specified_failing (flag_at flags) (λ v. specified nodes (node_at nodes v)) place (read ∙ w.if-index.false))
+          ∙ sym (specified_failing (mark_at marks) (λ v. specified nodes (node_at nodes v)) place (read ∙ w.if-index.false))
     ]
 
--- the specifications at the end are those of all flagged nodes
-all_kept : (nodes : List Node) (v k : ℕ) (flags : List Bool) (specs : List NodeSpec) (game : IsGame nodes) (node : v < length nodes) (are : AreReached nodes v flags)
-    → specs ≡ map (λ u. specified nodes (node_at nodes u)) (filter (flag_at flags) (range_with_len 0 k)) → k ≡ length nodes → specs ≡ kept_specs nodes v flags game node are
-all_kept nodes v k flags specs game node are so_far is =
-    so_far ∙ ap (λ (n : ℕ). map (λ u. specified nodes (node_at nodes u)) (filter (flag_at flags) (range_with_len 0 n))) is
+-- the specifications at the end are those of all marked nodes
+all_kept : (nodes : List Node) (v k : ℕ) (marks : List Bool) (specs : List NodeSpec) (game : IsGame nodes) (node : v < length nodes)
+    (are : (u : ℕ) → IsTrue (mark_at marks u) ↔ Reaches nodes v u)
+    → specs ≡ map (λ u. specified nodes (node_at nodes u)) (filter (mark_at marks) (range_with_len 0 k)) → k ≡ length nodes → specs ≡ kept_specs nodes v marks game node are
+all_kept nodes v k marks specs game node are so_far is =
+    so_far ∙ ap (λ (n : ℕ). map (λ u. specified nodes (node_at nodes u)) (filter (mark_at marks) (range_with_len 0 n))) is
+
+-- the marks are those of the places that the place reaches
+reached : (nodes : List Node) (v : ℕ) (marks : List Bool) → IsGame nodes → IsWithinLimits nodes → v < length nodes
+    → AreReached nodes [] 4294967295 (v ∷ []) marks → (u : ℕ) → IsTrue (mark_at marks u) ↔ Reaches nodes v u
+reached nodes v marks game limits within are =
+    reached_by_listed nodes 4294967295 (priorities_low nodes 4294967295 limits (omega arith)) game v marks within are
 
 pub finish-requires : goal.finish-requires
 finish-requires c =
-    let are : AreReached c.args.self.now c.args.place c.in_ok-flags.flags.items = c.in_ok-flags.ensures in
-    let whole : c.loop-kept.kept ≡ length c.args.self.now = omega (arith, c.loop-kept-test.false, c.loop-kept.auto.kept-end, c.len-kept-end.ensures.count) in
-    let specs = all_kept c.args.self.now c.args.place c.loop-kept.kept c.in_ok-flags.flags.items c.loop-kept.builder c.len-kept-end.ensures.game c.requires are c.loop-kept.invariant whole in
-    omega (arith, ap length specs, some_kept c.args.self.now c.args.place c.in_ok-flags.flags.items c.len-kept-end.ensures.game c.requires are)
+    let are : (u : ℕ) → IsTrue (mark_at c.in_ok-marks.marks.items u) ↔ Reaches c.args.self.now c.args.place u =
+    reached c.args.self.now c.args.place c.in_ok-marks.marks.items c.len-count.ensures.game c.len-count.ensures.limits c.requires c.in_ok-marks.ensures.reached in
+    let whole : c.loop-kept.kept ≡ length c.args.self.now = omega (arith, c.loop-kept-test.false, c.loop-kept.auto.kept-end, c.len-count.ensures.count) in
+    let specs = all_kept c.args.self.now c.args.place c.loop-kept.kept c.in_ok-marks.marks.items c.loop-kept.builder c.len-count.ensures.game c.requires are c.loop-kept.invariant whole in
+    omega (arith, ap length specs, some_kept c.args.self.now c.args.place c.in_ok-marks.marks.items c.len-count.ensures.game c.requires are)
 
 pub returns-clause-part : goal.returns-clause-part
 returns-clause-part c =
-    let are : AreReached c.args.self.now c.args.place c.in_ok-flags.flags.items = c.in_ok-flags.ensures in
-    let whole : c.loop-kept.kept ≡ length c.args.self.now = omega (arith, c.loop-kept-test.false, c.loop-kept.auto.kept-end, c.len-kept-end.ensures.count) in
-    let specs = all_kept c.args.self.now c.args.place c.loop-kept.kept c.in_ok-flags.flags.items c.loop-kept.builder c.len-kept-end.ensures.game c.requires are c.loop-kept.invariant whole in
+    let are : (u : ℕ) → IsTrue (mark_at c.in_ok-marks.marks.items u) ↔ Reaches c.args.self.now c.args.place u =
+    reached c.args.self.now c.args.place c.in_ok-marks.marks.items c.len-count.ensures.game c.len-count.ensures.limits c.requires c.in_ok-marks.ensures.reached in
+    let whole : c.loop-kept.kept ≡ length c.args.self.now = omega (arith, c.loop-kept-test.false, c.loop-kept.auto.kept-end, c.len-count.ensures.count) in
+    let specs = all_kept c.args.self.now c.args.place c.loop-kept.kept c.in_ok-marks.marks.items c.loop-kept.builder c.len-count.ensures.game c.requires are c.loop-kept.invariant whole in
     IfOk-weaker c.finish.result (λ game. IsGameOf c.loop-kept.builder game) (λ part. IsPart c.args.self.now c.args.place part)
-    (λ part given. part_from_specs c.args.self.now c.args.place c.in_ok-flags.flags.items c.len-kept-end.ensures.game c.requires are part
+    (λ part given. part_from_specs c.args.self.now c.args.place c.in_ok-marks.marks.items c.len-count.ensures.game c.requires are part
     (subst (λ (given_specs : List NodeSpec). IsGameOf given_specs part) specs given)) c.finish.ensures.game
 
 pub returns-clause-memory : goal.returns-clause-memory
 returns-clause-memory c =
-    let are : AreReached c.args.self.now c.args.place c.in_ok-flags.flags.items = c.in_ok-flags.ensures in
-    let whole : c.loop-kept.kept ≡ length c.args.self.now = omega (arith, c.loop-kept-test.false, c.loop-kept.auto.kept-end, c.len-kept-end.ensures.count) in
-    let specs = all_kept c.args.self.now c.args.place c.loop-kept.kept c.in_ok-flags.flags.items c.loop-kept.builder c.len-kept-end.ensures.game c.requires are c.loop-kept.invariant whole in
+    let are : (u : ℕ) → IsTrue (mark_at c.in_ok-marks.marks.items u) ↔ Reaches c.args.self.now c.args.place u =
+    reached c.args.self.now c.args.place c.in_ok-marks.marks.items c.len-count.ensures.game c.len-count.ensures.limits c.requires c.in_ok-marks.ensures.reached in
+    let whole : c.loop-kept.kept ≡ length c.args.self.now = omega (arith, c.loop-kept-test.false, c.loop-kept.auto.kept-end, c.len-count.ensures.count) in
+    let specs = all_kept c.args.self.now c.args.place c.loop-kept.kept c.in_ok-marks.marks.items c.loop-kept.builder c.len-count.ensures.game c.requires are c.loop-kept.invariant whole in
     let faultless : fault_of c.loop-kept.builder ≡ None =
-    ap fault_of specs ∙ kept_faultless c.args.self.now c.args.place c.in_ok-flags.flags.items c.len-kept-end.ensures.game c.requires are c.len-kept-end.ensures.limits in
+    ap fault_of specs ∙ kept_faultless c.args.self.now c.args.place c.in_ok-marks.marks.items c.len-count.ensures.game c.requires are c.len-count.ensures.limits in
     IfErr-weaker c.finish.result (IsBuildRefusal c.loop-kept.builder) (λ refusal. refusal ≡ Memory)
     (λ refusal is. memory_alone c.loop-kept.builder refusal faultless is) c.finish.ensures.refused

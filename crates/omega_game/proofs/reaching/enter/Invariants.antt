@@ -1,6 +1,6 @@
 use Rattle.std.proofs.Common.{take}
 use Rattle.omega_game.specs.Checking.{AreEntered}
-use Rattle.omega_game.proofs.checking.reaching.enter.Given as goal
+use Rattle.omega_game.proofs.reaching.enter.Given as goal
 
 abbrev pub invariant-loop-place : goal.invariant-loop-place
 invariant-loop-place l =

@@ -1,4 +1,4 @@
-//! The search for the places that are reached along edges left possible.
+//! The search for the places that are reached along edges that choices leave possible.
 ghost use Rattle.std.specs.Prelude.{◌≡◌, ℕ, ◌<◌, length, vec_len, All, IfOk, OnOk};
 ghost use Rattle.omega_game.specs.Checking.{left_at, AreChoices, AreEntered, AreReached};
 
@@ -6,7 +6,8 @@ use crate::game::Game;
 use std::alloc::{AllocError, Global};
 use std::slice;
 
-/// The places to which the choices leave an edge from a place possible: the one chosen, or each listed successor.
+/// The places to which the choices leave an edge from a place possible: the one chosen, or each listed successor where
+/// none is chosen or the choices end before the place.
 pub(crate) fn edges_left<'a>(game: &'a Game, choices: &'a [Option<u32>], place: u32) -> &'a [u32]
     requires inside { place < length game.now }
     requires choices { AreChoices game.now choices.now }
@@ -14,9 +15,9 @@ pub(crate) fn edges_left<'a>(game: &'a Game, choices: &'a [Option<u32>], place: 
     ensures inside { All (λ left. left < length game.now) result.now }
 {
     let _count = game.len();
-    match &choices[place as usize] {
-        Some(chosen) => slice::from_ref(chosen),
-        None => game.successors(place),
+    match choices.get(place as usize) {
+        Some(Some(chosen)) => slice::from_ref(chosen),
+        _ => game.successors(place),
     }
 }
 

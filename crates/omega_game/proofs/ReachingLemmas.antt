@@ -1,10 +1,11 @@
 -- The search along edges left possible: what marking places keeps, and what the marks are when nothing waits any more.
-use Rattle.std.proofs.Common.{◌≡◌, ◌≢◌, ℕ, ◌+◌, ◌<◌, ◌≤◌, ◌⊎◌, inl, inr, Bool, true, false, not, cond, IsTrue, Option, List, [], ◌∷◌, ◌++◌, length, set, get_or, take, replicate, Contains, count_by, All, refl, sym, ◌∙◌, ap, subst, arith, get_or-set_same, get_or-set_other}
+use Rattle.std.proofs.Common.{◌≡◌, ◌≢◌, ℕ, ◌+◌, ◌<◌, ◌≤◌, ◌⊎◌, ◌↔◌, inl, inr, Bool, true, false, not, cond, IsTrue, Option, List, [], ◌∷◌, ◌++◌, length, set, get_or, take, replicate, Contains, count_by, All, refl, sym, ◌∙◌, ap, subst, arith, get_or-set_same, get_or-set_other}
 use Rattle.std.proofs.lemmas.Bool.{cases_eq, cases_lt, false≢true}
 use Rattle.std.proofs.lemmas.List.{length-set, length_push, take_more, get_or_past, get_or-replicate, length-replicate}
 use Rattle.std.proofs.lemmas.List.Elements.{Contains-append_left, Contains-push, Contains-push_cases, Contains-get_or}
 use Rattle.std.proofs.lemmas.List.Sums.{sum_by-set}
-use Rattle.omega_game.specs.Game.{Node, priority_at}
+use Rattle.omega_game.specs.Game.{Node, IsGame, priority_at}
+use Rattle.omega_game.specs.Part.{IsPath as IsListedPath, Reaches}
 use Rattle.omega_game.specs.Winning.{end_of}
 use Rattle.omega_game.specs.Checking.{left_at, mark_at, IsPath, IsReached, AreReached, AreEntered, AreChoices, AreClosed}
 use Rattle.omega_game.proofs.Membership.{Contains-nothing}
@@ -277,3 +278,45 @@ pub step_push : (nodes : List Node) (most : ℕ) (xs : List ℕ) (i : ℕ) (mark
     → AreEntered nodes most (take (i + 1) xs) marks stack m s
 step_push nodes most xs i marks stack marks' stack' m s within so_far below low unmarked m-is s-is =
     rw (m-is, s-is, take_more xs i 0 within) (entered_push nodes most (take i xs) marks stack marks' stack' so_far (get_or xs i 0) below low unmarked)
+
+-- where nothing is chosen each edge leads to a node
+pub nothing_chosen : (nodes : List Node) → IsGame nodes → AreChoices nodes []
+nothing_chosen nodes game = record { inside = game.closed }
+
+module _ (nodes : List Node) (most : ℕ) (low : (v : ℕ) → priority_at nodes v ≤ most) (game : IsGame nodes) where
+  -- a path along the edges that no choice leaves is one of listed edges
+  listed_path : (v : ℕ) (ws : List ℕ) → v < length nodes → IsPath nodes [] most v ws → IsListedPath nodes v ws
+  listed_path v [] within path = within
+  listed_path v (w ∷ ws) within path = (path.1, listed_path w ws (game.closed v w path.1) path.2)
+
+  -- and the other way round
+  path_listed : (v : ℕ) (ws : List ℕ) → IsListedPath nodes v ws → IsPath nodes [] most v ws
+  path_listed v [] path = low v
+  path_listed v (w ∷ ws) path = (low v, path.0, path_listed w ws path.1)
+
+  -- the marks of what is reached from a place without choices are those of the places that it reaches
+  pub reached_by_listed : (v : ℕ) (marks : List Bool) → v < length nodes → AreReached nodes [] most (v ∷ []) marks
+      → (u : ℕ) → IsTrue (mark_at marks u) ↔ Reaches nodes v u
+  reached_by_listed v marks within are u = (
+    λ mark. there ((are u).0 mark),
+    λ reaches. (are u).1 (record {
+      start = v;
+      listed = Contains-push [] v;
+      after = reaches.path;
+      path = path_listed v reaches.path reaches.joined;
+      ends = reaches.ends;
+    }),
+  )
+    where
+      only : (start : ℕ) → Contains [] start ⊎ (v ≡ start) → v ≡ start
+      only start (inl nothing) = absurd (Contains-nothing start nothing)
+      only start (inr same) = same
+
+      there : IsReached nodes [] most (v ∷ []) u → Reaches nodes v u
+      there reached =
+          let same : v ≡ reached.start = only reached.start (Contains-push_cases [] v reached.start reached.listed) in
+          record {
+            path = reached.after;
+            joined = listed_path v reached.after within (subst (λ start. IsPath nodes [] most start reached.after) (sym same) reached.path);
+            ends = ap (λ start. end_of start reached.after) same ∙ reached.ends;
+          }

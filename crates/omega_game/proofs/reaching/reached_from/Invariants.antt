@@ -1,6 +1,6 @@
 use Rattle.std.proofs.Common.{◌+◌, not, length, count_by}
-use Rattle.omega_game.proofs.Reaching.{IsSearch}
-use Rattle.omega_game.proofs.checking.reaching.reached_from.Given as goal
+use Rattle.omega_game.proofs.ReachingLemmas.{IsSearch}
+use Rattle.omega_game.proofs.reaching.reached_from.Given as goal
 
 abbrev pub invariant-loop-place : goal.invariant-loop-place
 invariant-loop-place l = IsSearch l.game l.choices l.most l.places l.marks.items l.stack.items

@@ -1,7 +1,7 @@
 use Rattle.std.proofs.Common.{◌≡◌, ℕ, List, false, replicate, subst, arith}
 use Rattle.omega_game.specs.Checking.{AreEntered}
-use Rattle.omega_game.proofs.Reaching.{IsSearch, search_begins, search_goes_on, search_ends, top_below, empty_of_none}
-use Rattle.omega_game.proofs.checking.reaching.reached_from.Goals as goal
+use Rattle.omega_game.proofs.ReachingLemmas.{IsSearch, search_begins, search_goes_on, search_ends, top_below, empty_of_none}
+use Rattle.omega_game.proofs.reaching.reached_from.Goals as goal
 
 pub loop-place-init : goal.loop-place-init
 loop-place-init c =
