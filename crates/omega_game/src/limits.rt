@@ -5,4 +5,4 @@ pub const MOST_NODES: usize = 1_048_576;
 pub const MOST_EDGES: usize = 8_388_608;
 
 /// The greatest identifier and the greatest priority of a node.
-pub const MOST_NUMBER: u32 = 2_147_483_647;
+pub const MOST_NUMBER: u32 = omega_text::MOST_NUMBER;
