@@ -6,10 +6,10 @@ ghost use Rattle.omega_game.specs.Checking.{AreChoices, AreClosed, NoneRecurs};
 use crate::checking::components::Edge;
 use crate::checking::nesting::{Finding, search_nested};
 use crate::checking::ordering::shows_none;
-use crate::reaching::edges_left;
 use crate::checking::recurring::{is_losing, none_recurs, recurs};
 use crate::game::Game;
 use crate::player::Player;
+use crate::reaching::edges_left;
 use std::alloc::{AllocError, Global};
 
 /// Whether no marked place of a priority that loses for the player recurs.
@@ -94,3 +94,6 @@ fn add_edges(from: u32, left: &[u32], edges: &mut Vec<Edge>) -> Result<(), Alloc
     }
     Ok(())
 }
+
+#[cfg(test)]
+mod tests;

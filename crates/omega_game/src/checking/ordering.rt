@@ -3,10 +3,10 @@
 ghost use Rattle.std.specs.Prelude.{◌≡◌, ℕ, ◌<◌, ◌≤◌, length, vec_len, All, IfOk, IsTrue, slice_index};
 ghost use Rattle.omega_game.specs.Checking.{mark_at, AreChoices, AreClosed, AreEnds, IsInOrder, NoneRecurs, StandsInOrder};
 
-use crate::reaching::edges_left;
 use crate::checking::recurring::is_losing;
 use crate::game::Game;
 use crate::player::Player;
+use crate::reaching::edges_left;
 use std::alloc::{AllocError, Global};
 
 /// Whether an order of the places shows that no marked place of a losing priority recurs. Linear in nodes and edges.

@@ -3,9 +3,9 @@ ghost use Rattle.std.specs.Prelude.{◌≡◌, ◌↔◌, ℕ, ◌<◌, length, 
 ghost use Rattle.omega_game.specs.Winning.{loses};
 ghost use Rattle.omega_game.specs.Checking.{AreChoices, NoneRecurs, Recurs};
 
-use crate::reaching::{edges_left, reached_from};
 use crate::game::Game;
 use crate::player::Player;
+use crate::reaching::{edges_left, reached_from};
 use std::alloc::{AllocError, Global};
 
 /// Whether a priority loses for a player.

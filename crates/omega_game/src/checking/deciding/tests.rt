@@ -1,0 +1,79 @@
+ghost use Rattle.std.specs.Prelude.{◌<◌};
+
+use super::*;
+use crate::Player::{One, Zero};
+use crate::{GameBuilder, MOST_NUMBER, Refusal};
+use std::test::Fail;
+
+/// Whether what the fast search suggests about all places, without a choice, is confirmed.
+fn is_confirmed(alloc: Global, game: &Game, player: Player) -> Result<bool, AllocError> {
+    let marks = vec![in alloc; true; game.len()]?;
+    match suggest(alloc, game, player, &[], marks.as_slice())? {
+        Finding::Recurring(place) => { loses_at(alloc, game, player, &[], marks.as_slice(), place) }
+        Finding::Order(order) => shows_none(
+            alloc,
+            game,
+            player,
+            &[],
+            marks.as_slice(),
+            order.as_slice(),
+        ),
+    }
+}
+
+/// The number behind another in a pseudo-random order.
+fn next(number: u64) -> u64 {
+    number
+        .wrapping_mul(6_364_136_223_846_793_005)
+        .wrapping_add(1_442_695_040_888_963_407)
+}
+
+/// A number below another, drawn by a number of a pseudo-random order.
+fn drawn(number: u64, below: u32) -> u32
+    ensures { result < 65536 }
+{
+    (number >> 48) as u32 % below.max(1)
+}
+
+/// A pseudo-random game of so many nodes with priorities below 8, and one to three successors for each.
+fn random(alloc: Global, nodes: u16, seed: u64) -> Result<Game, Refusal> {
+    let count = u32::from(nodes);
+    let mut builder = GameBuilder::new(alloc);
+    let mut number = seed;
+    for id in 0..count {
+        let priority = next(number);
+        let first = next(priority);
+        builder.add_node(id, drawn(priority, 8), Zero, drawn(first, count))?;
+        number = next(first);
+        for _ in 0..drawn(number, 3) {
+            number = next(number);
+            list(&mut builder, drawn(number, count))?;
+        }
+    }
+    if builder.len() == 0 {
+        return Err(Refusal::Io);
+    }
+    builder.finish()
+}
+
+/// Lists a successor more at the last node, or answers Io where there is none.
+fn list(builder: &mut GameBuilder, successor: u32) -> Result<(), Refusal> {
+    if builder.len() == 0 || successor > MOST_NUMBER {
+        return Err(Refusal::Io);
+    }
+    builder.add_successor(successor)
+}
+
+#[test]
+fn the_fast_search_is_confirmed(rt: HostRuntime) -> Result<(), Fail> {
+    for seed in 0..400u16 {
+        let game = random(rt.alloc(), 1 + seed % 24, u64::from(seed))?;
+        for player in [Zero, One] {
+            assert!(rt;
+                is_confirmed(rt.alloc(), &game, player)?,
+                "{player:?}, seed {seed}"
+            );
+        }
+    }
+    Ok(())
+}
