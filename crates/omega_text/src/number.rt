@@ -5,7 +5,23 @@ use crate::refusal::Refusal;
 use itoa::Buffer;
 
 /// Appends a number in decimal. Refusal 60 leaves the vector as it was.
+#[inline(always)]
 pub fn write_number(n: u128, out: &mut Vec<u8>) -> Result<(), Refusal>
+    ensures ok { OnOk result (out.new.items ≡ out.old.items ++ decimal n) }
+    ensures err { OnErr result (out.new.items ≡ out.old.items) }
+    ensures only_memory { IsOkUnless result Refusal.Memory }
+{
+    // One digit, as owners and most priorities have, needs no buffer.
+    if n < 10 {
+        out.push(b'0' + n as u8)?;
+        Ok(())
+    } else {
+        write_digits(n, out)
+    }
+}
+
+/// The same by a buffer.
+fn write_digits(n: u128, out: &mut Vec<u8>) -> Result<(), Refusal>
     ensures ok { OnOk result (out.new.items ≡ out.old.items ++ decimal n) }
     ensures err { OnErr result (out.new.items ≡ out.old.items) }
     ensures only_memory { IsOkUnless result Refusal.Memory }
