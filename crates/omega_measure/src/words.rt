@@ -7,6 +7,14 @@ use crate::cell::Cell;
 use crate::rows::{copy_row, row};
 use std::cmp::Ordering;
 
+/// The cell of the flag for top: the first bit of each row.
+const TOP: Cell = Cell {
+    word: 0,
+    shift: 63,
+    bits: 1,
+    limit: 1,
+};
+
 /// What stands in a cell of a row.
 fn digit(row: &[u64], cell: Cell) -> u64
     requires { IsInside (length row.now) cell }
@@ -81,7 +89,7 @@ pub(crate) fn is_top_at(words: &[u64], size: usize, cells: &[Cell], place: usize
     requires cells { AreCells size cells.now }
     ensures { IsTrue result ↔ (flag_in cells.now (row_of size words.now place) ≢ 0) }
 {
-    digit(row(words, size, place), cells[0]) != 0
+    digit(row(words, size, place), TOP) != 0
 }
 
 /// The measures at two places compared on their first entries; top is above all others.

@@ -89,6 +89,7 @@ fn exceeds_to_all<T: MeasureTable>(game: &Game, table: &T, place: u32) -> bool
 
 /// The first successor of a place to whose measure no other's compares as wanted, on the entries for priorities at
 /// least that of the place.
+#[inline(always)]
 fn best_successor<T: MeasureTable>(game: &Game, table: &T, place: u32, wanted: Ordering) -> u32
     requires inside { place < length game.now }
     requires game { IsGame game.now }
