@@ -10,5 +10,9 @@ mod Attempts
 mod Lifting
 mod Starting
 mod Finishing
+mod Exactness
 mod Sweeping
 mod Queueing
+mod Dealing
+mod Solved
+mod Parting

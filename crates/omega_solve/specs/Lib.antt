@@ -14,3 +14,5 @@ pub mod Solver
 pub mod Successor
 pub mod Wake
 pub mod Progress
+pub mod Headline
+pub mod Determinacy

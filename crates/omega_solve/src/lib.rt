@@ -1,7 +1,9 @@
-//! The lifting solver (Jurdziński 2000): schedules of pending places, runs within a budget, and answers.
+//! The lifting solver (Jurdziński 2000): schedules of pending places, runs within a budget,
+//! answers, and the laws of these.
 #![tactic(auto)]
 
 mod answer;
+mod laws;
 mod outcome;
 mod schedule;
 mod solver;
@@ -11,7 +13,8 @@ mod wake;
 mod worklist;
 
 pub use answer::AnswerRef;
-pub use omega_measure::{Game, MeasureTable, Player, Refusal, TaskFault};
+pub use laws::{answers_part_the_game, headline};
+pub use omega_measure::{Game, MeasureTable, PackedTable, PlainTable, Player, Refusal, TaskFault};
 pub use outcome::Outcome;
 pub use schedule::Schedule;
 pub use solver::{MOST_LIFTS, Solver};

@@ -63,6 +63,7 @@ impl<'g, T: MeasureTable, S: Schedule> Solver<'g, T, S> {
     ghost use Rattle.omega_lift.specs.Answer.{AreChoices, won_in};
     ghost use Rattle.omega_lift.specs.Run.{IsDue};
     ghost use Rattle.omega_solve.specs.declared.outcome.Outcome.TheVariants.{Done, Spent};
+    ghost use Rattle.omega_solve.specs.Headline.{IsExact, Runs};
     ghost use Rattle.omega_solve.specs.Schedule.{IsIdle, IsPending, with_taken};
     ghost use Rattle.omega_solve.specs.Successor.{IsDueTowards};
     ghost use Rattle.omega_solve.specs.Progress.{IsLifted};
@@ -104,6 +105,8 @@ impl<'g, T: MeasureTable, S: Schedule> Solver<'g, T, S> {
         ensures spent { result ≡ Spent → self.new.lifts ≡ self.old.lifts + budget }
         ensures unfinished { result ≡ Spent → IsUnfinished self.new }
         ensures told { (self.new.done ≡ true) ↔ (result ≡ Done) }
+        // All but the outcome in one: the call of which `headline` speaks.
+        ensures call { Runs self.old budget self.new }
     {
         self.reopen();
         let mut made = 0;
@@ -161,6 +164,8 @@ impl<'g, T: MeasureTable, S: Schedule> Solver<'g, T, S> {
         ensures strategy { IfSome result (λ answer. IsStrategy self.now.nodes self.now.player answer.choice.now) }
         ensures wins { IfSome result (λ answer. (v : ℕ) → slice_get answer.won.now v ≡ Some true → Wins self.now.nodes self.now.player answer.choice.now v) }
         ensures exactly { IfSome result (λ answer. (v : ℕ) → (slice_get answer.won.now v ≡ Some true) ↔ InRegion self.now.nodes self.now.player v) }
+        // The last three in one, in the words of `headline`.
+        ensures exact { IfSome result (λ answer. IsExact self.now.nodes self.now.player answer.won.now answer.choice.now) }
     {
         choices_are_a_strategy();
         choices_win();

@@ -1,10 +1,20 @@
-use Rattle.std.proofs.Common.{◌≡◌, ◌∙◌, List, Bool, Option, Some, ℕ, ap, subst, sym, true}
-use Rattle.std.specs.List.{slice_get}
-use Rattle.omega_game.specs.Winning.{IsStrategy, Wins}
+use Rattle.std.proofs.Common.{◌≡◌, ◌∙◌, List, Bool, Option, ℕ, ap, subst, sym, true}
+use Rattle.omega_lift.specs.Laws.{ChoicesAreAStrategy, ChoicesWin, RegionsStayBelowTop}
+use Rattle.omega_solve.specs.Headline.{IsExact}
 use Rattle.omega_solve.specs.Solver.{State}
 use Rattle.omega_solve.specs.Progress.{IsSolver}
-use Rattle.omega_solve.proofs.Finishing.{choices_win_at, finished_idle, region_is}
+use Rattle.omega_solve.proofs.Exactness.{answer_exact}
+use Rattle.omega_solve.proofs.Finishing.{finished_idle}
 use Rattle.omega_solve.proofs.solver.Solver.answer.Goals as goal
+
+-- the buffers of a solver that is done hold an exact answer
+exact : (state : State) (won : List Bool) (choices : List (Option ℕ)) → ChoicesAreAStrategy → ChoicesWin → RegionsStayBelowTop
+    → IsSolver state won choices → state.done ≡ true → IsExact state.nodes state.player won choices
+exact state won choices strategy win stay kept done =
+    let s = kept.solving in
+    subst (λ (flags : List Bool). IsExact state.nodes state.player flags choices) (sym (kept.answered.places_won done))
+    (answer_exact state.nodes state.player s.places state.table.measures choices strategy win stay s.game s.content.is_table s.lifted
+    (finished_idle state s (kept.answered.idle done)) (kept.answered.chosen done))
 
 pub returns-clause-finished : goal.returns-clause-finished
 returns-clause-finished g c some =
@@ -12,30 +22,21 @@ returns-clause-finished g c some =
     let done : c.args.self.now.done ≡ true = sym (ap (λ (s : State). s.done) c.self.view_is) ∙ c.if-not-self.false in
     finished_idle c.args.self.now kept.solving (kept.answered.idle done)
 
-pub returns-clause-strategy : goal.returns-clause-strategy
-returns-clause-strategy g c =
+pub returns-clause-exact : goal.returns-clause-exact
+returns-clause-exact g c =
+    let state : State = c.args.self.now in
     let kept = subst (λ (s : State). IsSolver s c.self.inside.won.items c.self.inside.choice.items) c.self.view_is c.self.invariant in
-    let done : c.args.self.now.done ≡ true = sym (ap (λ (s : State). s.done) c.self.view_is) ∙ c.if-not-self.false in
-    subst (λ (choices : List (Option ℕ)). IsStrategy c.args.self.now.nodes c.args.self.now.player choices) (sym c.deref-2.ensures.value)
-    (c.choices_are_a_strategy.ensures c.args.self.now.nodes c.args.self.now.player c.args.self.now.table.measures c.self.inside.choice.items
-    (kept.answered.chosen done))
+    let done : state.done ≡ true = sym (ap (λ (s : State). s.done) c.self.view_is) ∙ c.if-not-self.false in
+    subst (λ (won : List Bool). IsExact state.nodes state.player won c.deref-2.result.now) (sym c.deref.ensures.value)
+    (subst (λ (choices : List (Option ℕ)). IsExact state.nodes state.player c.self.inside.won.items choices) (sym c.deref-2.ensures.value)
+    (exact state c.self.inside.won.items c.self.inside.choice.items c.choices_are_a_strategy.ensures c.choices_win.ensures
+    c.regions_stay_below_top.ensures kept done))
+
+pub returns-clause-strategy : goal.returns-clause-strategy
+returns-clause-strategy g c = (returns-clause-exact g c).strategy
 
 pub returns-clause-wins : goal.returns-clause-wins
-returns-clause-wins g c v at =
-    let kept = subst (λ (s : State). IsSolver s c.self.inside.won.items c.self.inside.choice.items) c.self.view_is c.self.invariant in
-    let done : c.args.self.now.done ≡ true = sym (ap (λ (s : State). s.done) c.self.view_is) ∙ c.if-not-self.false in
-    subst (λ (choices : List (Option ℕ)). Wins c.args.self.now.nodes c.args.self.now.player choices v) (sym c.deref-2.ensures.value)
-    (choices_win_at c.args.self.now c.self.inside.won.items c.self.inside.choice.items c.choices_win.ensures kept.solving
-    (finished_idle c.args.self.now kept.solving (kept.answered.idle done)) (kept.answered.places_won done) (kept.answered.chosen done) v
-    (subst (λ (won : List Bool). slice_get won v ≡ Some true) c.deref.ensures.value at))
+returns-clause-wins g c v at = (returns-clause-exact g c).wins v (((returns-clause-exact g c).exactly v).0 at)
 
 pub returns-clause-exactly : goal.returns-clause-exactly
-returns-clause-exactly g c v =
-    let kept = subst (λ (s : State). IsSolver s c.self.inside.won.items c.self.inside.choice.items) c.self.view_is c.self.invariant in
-    let done : c.args.self.now.done ≡ true = sym (ap (λ (s : State). s.done) c.self.view_is) ∙ c.if-not-self.false in
-    let region = region_is c.args.self.now c.self.inside.won.items c.self.inside.choice.items
-    c.choices_are_a_strategy.ensures c.choices_win.ensures c.regions_stay_below_top.ensures kept.solving
-    (finished_idle c.args.self.now kept.solving (kept.answered.idle done)) (kept.answered.places_won done) (kept.answered.chosen done) v in (
-      λ at. region.0 (subst (λ (won : List Bool). slice_get won v ≡ Some true) c.deref.ensures.value at),
-      λ inside. subst (λ (won : List Bool). slice_get won v ≡ Some true) (sym c.deref.ensures.value) (region.1 inside),
-    )
+returns-clause-exactly g c = (returns-clause-exact g c).exactly

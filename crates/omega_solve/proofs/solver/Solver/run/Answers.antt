@@ -1,5 +1,6 @@
 use Rattle.std.proofs.Common.{◌∙◌, arith}
 use Rattle.omega_solve.proofs.Flags.{waits_taken}
+use Rattle.omega_solve.proofs.Dealing.{call_done}
 use Rattle.omega_solve.proofs.Lifting.{lifts_more}
 use Rattle.omega_solve.proofs.solver.Solver.run.Goals as goal
 
@@ -22,3 +23,9 @@ loop-place-preserved g c =
 
 pub returns-clause-done : goal.returns-clause-done
 returns-clause-done g c done = rw c.finish.ensures c.in_default.ensures.finished
+
+pub returns-clause-call : goal.returns-clause-call
+returns-clause-call g c =
+    let kept = c.loop-place.invariant in
+    call_done c.args.self.now c.reopen.new.self c.loop-place.self c.finish.new.self c.loop-place.made c.args.budget c.reopen.ensures
+    kept.same_nodes kept.same_player kept.lifted kept.within c.in_default.ensures.finished c.finish.ensures

@@ -1,0 +1,47 @@
+use Rattle.std.specs.Prelude.{◌≡◌, ◌↔◌, ℕ, ◌+◌, ◌≤◌, Bool, true, false, Option, Some, List, [], ◌∷◌, slice_get, sum}
+use Rattle.omega_game.specs.declared.player.Player.{Player}
+use Rattle.omega_game.specs.Game.{Node, IsGame, priorities}
+use Rattle.omega_game.specs.Bound.{bound_of}
+use Rattle.omega_game.specs.Winning.{InRegion, IsStrategy, Wins}
+use Rattle.omega_lift.specs.Answer.{AreChoices, won_in}
+use Rattle.omega_solve.specs.Solver.{State, IsFinished, IsReached, IsUnfinished, LiftsWithin, start_of}
+
+-- a call of `run`: the game and the player stay, and lifts are made within the budget. It is done and no lift is due, or
+-- the whole budget was used up and a lift is due
+pub record Runs (old : State) (budget : ℕ) (new : State) : Type 0 where
+  pub same_nodes : new.nodes ≡ old.nodes
+  pub same_player : new.player ≡ old.player
+  pub lifted : LiftsWithin old budget new
+  pub done : new.done ≡ true → IsFinished new
+  pub spent : new.done ≡ false → (new.lifts ≡ old.lifts + budget) × IsUnfinished new
+
+-- a budget is dealt out: calls of `run`, one with each of the budgets, lead from one state to another
+abbrev pub DealsOut : State → List ℕ → State → Type 0
+DealsOut old [] new = old ≡ new
+DealsOut old (budget ∷ budgets) new = (next : State) × Runs old budget next × DealsOut next budgets new
+
+-- an answer is exactly the nodes from which the player has a winning strategy, with one strategy for all
+pub record IsExact (nodes : List Node) (player : Player) (won : List Bool) (choices : List (Option ℕ)) : Type 0 where
+  pub exactly : (v : ℕ) → (slice_get won v ≡ Some true) ↔ InRegion nodes player v
+  pub strategy : IsStrategy nodes player choices
+  pub wins : (v : ℕ) → InRegion nodes player v → Wins nodes player choices v
+
+-- a solver for the game and the player, once these budgets were dealt out: the lifts are those of a lifting run from the
+-- all-zero table, and at most the bound; budgets that together reach the bound suffice; and a solver that is done has an exact answer
+pub record Solves (nodes : List Node) (player : Player) (budgets : List ℕ) (solver : State) : Type 0 where
+  pub same_nodes : solver.nodes ≡ nodes
+  pub same_player : solver.player ≡ player
+  pub reached : IsReached solver
+  pub bounded : solver.lifts ≤ bound_of player (priorities nodes)
+  pub enough : bound_of player (priorities nodes) ≤ sum budgets → solver.done ≡ true
+  pub exact :
+      solver.done ≡ true → (choices : List (Option ℕ)) → AreChoices nodes player solver.table.measures choices
+      → IsExact nodes player (won_in solver.table.measures) choices
+
+-- For every game, of n nodes, a run for either player makes, however the budget is dealt out, at most n times the product of
+-- 1 + N_q over the priorities q that lose for that player, lifts; where the budget does not refuse, its answer is exactly the
+-- nodes from which that player has a winning positional strategy, with one strategy for all
+abbrev pub Headline : Type 0
+Headline =
+    (nodes : List Node) (player : Player) (budgets : List ℕ) (solver : State)
+    → IsGame nodes → DealsOut (start_of nodes player) budgets solver → Solves nodes player budgets solver

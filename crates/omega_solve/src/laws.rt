@@ -1,0 +1,33 @@
+//! Laws of the definitions that the calls of `Solver` speak of: what holds of any solver that keeps their contracts.
+ghost use Rattle.omega_solve.specs.Determinacy.{AnswersPartTheGame};
+ghost use Rattle.omega_solve.specs.Headline.{Headline};
+
+use omega_game::regions_cover;
+use omega_lift::{
+    answers_are_apart, choices_are_a_strategy, choices_win, regions_stay_below_top,
+    runs_are_bounded, runs_keep_tables, zero_tables_are_tables,
+};
+
+/// However a budget is dealt out to the runs of a solver, it makes at most as many lifts as the bound, and once it is
+/// done its answer is exact.
+pub fn headline()
+    ensures { Headline }
+{
+    zero_tables_are_tables();
+    runs_keep_tables();
+    runs_are_bounded();
+    choices_are_a_strategy();
+    choices_win();
+    regions_stay_below_top();
+}
+
+/// Of the answers of two solvers of one game that are done, one for each player, each node is in exactly one.
+pub fn answers_part_the_game()
+    ensures { AnswersPartTheGame }
+{
+    zero_tables_are_tables();
+    runs_keep_tables();
+    regions_stay_below_top();
+    regions_cover();
+    answers_are_apart();
+}
