@@ -9,6 +9,8 @@ mod schedule;
 mod solver;
 mod successor;
 mod sweep;
+#[cfg(test)]
+mod tests;
 mod wake;
 mod worklist;
 
