@@ -107,6 +107,20 @@ greatest_allowance nodes player content v w x table monotone best allows u y edg
     (λ above. best.best at.0 u at.1 at.2 (order_is nodes player content (priority_at nodes v) u w Greater table above))
     allows_u allows
 
+-- a lift is due towards a successor whose allowance is the lift value and exceeds the measure
+towards_due : (nodes : List Node) (player : Player) (content : Content) (v w : ℕ)
+    → IsTableOf nodes player content → v < length nodes → HasEdge nodes v w → (exceeds : Exceeds content v w)
+    → (IsAllowanceOf nodes player content.measures v w exceeds.allowance → IsLiftValue nodes player content.measures v exceeds.allowance)
+    → IsDueTowards nodes player content.measures v w
+towards_due nodes player content v w table lt edge exceeds value =
+    let allows = allowance_of nodes player content v w exceeds.allowance table lt exceeds.is in
+    record {
+      value = exceeds.allowance;
+      listed = edge;
+      allowance = allows;
+      lifts = record { value = value allows; above = exceeds.above };
+    }
+
 -- at the player's own place a lift is due towards the least successor if the allowances towards all exceed the measure
 pub owned_due : (nodes : List Node) (player : Player) (content : Content) (v w : ℕ)
     → IsTableOf nodes player content → v < length nodes → MeasuresAreOrdered → AllowancesAreMonotone
@@ -115,23 +129,13 @@ pub owned_due : (nodes : List Node) (player : Player) (content : Content) (v w :
     → IsDueTowards nodes player content.measures v w
 owned_due nodes player content v w table lt order monotone own all best =
     let edge = edge_at nodes v best.index w best.listed in
-    let exceeds = all w edge in
-    let allows = allowance_of nodes player content v w exceeds.allowance table lt exceeds.is in
-    record {
-      value = exceeds.allowance;
+    towards_due nodes player content v w table lt edge (all w edge) (λ allows. record {
+      successor = w;
       listed = edge;
       allowance = allows;
-      lifts = record {
-        value = record {
-          successor = w;
-          listed = edge;
-          allowance = allows;
-          least = λ _. least_allowance nodes player content v w exceeds.allowance table order monotone best allows;
-          greatest = λ other. absurd (other own);
-        };
-        above = exceeds.above;
-      };
-    }
+      least = λ _. least_allowance nodes player content v w (all w edge).allowance table order monotone best allows;
+      greatest = λ other. absurd (other own);
+    })
 
 -- and none is due if that towards one does not
 pub owned_not_due : (nodes : List Node) (player : Player) (content : Content) (v : ℕ)
@@ -151,22 +155,13 @@ pub other_due : (nodes : List Node) (player : Player) (content : Content) (v w :
     → IsDueTowards nodes player content.measures v w
 other_due nodes player content v w table lt monotone other exceeds best =
     let edge = edge_at nodes v best.index w best.listed in
-    let allows = allowance_of nodes player content v w exceeds.allowance table lt exceeds.is in
-    record {
-      value = exceeds.allowance;
+    towards_due nodes player content v w table lt edge exceeds (λ allows. record {
+      successor = w;
       listed = edge;
       allowance = allows;
-      lifts = record {
-        value = record {
-          successor = w;
-          listed = edge;
-          allowance = allows;
-          least = λ own. absurd (other own);
-          greatest = λ _. greatest_allowance nodes player content v w exceeds.allowance table monotone best allows;
-        };
-        above = exceeds.above;
-      };
-    }
+      least = λ own. absurd (other own);
+      greatest = λ _. greatest_allowance nodes player content v w exceeds.allowance table monotone best allows;
+    })
 
 -- and none is due if it does not
 pub other_not_due : (nodes : List Node) (player : Player) (content : Content) (v w : ℕ)

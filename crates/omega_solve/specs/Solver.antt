@@ -15,16 +15,21 @@ pub record State : Type 0 where
   pub lifts : ℕ
   pub done : Bool
 
--- a new solver: every measure is 0, all places are pending, and no lift was made
-abbrev pub start_of : List Node → Player → State
-start_of nodes player = record {
+-- the solver with these parts
+abbrev pub state_of : List Node → Player → Content → Pending → ℕ → Bool → State
+state_of nodes player table pending lifts done = record {
   nodes = nodes;
   player = player;
-  table = zero_content player (priorities nodes);
-  pending = all_pending (length nodes);
-  lifts = 0;
-  done = false;
+  table = table;
+  pending = pending;
+  lifts = lifts;
+  done = done;
 }
+
+-- a new solver: every measure is 0, all places are pending, and no lift was made
+abbrev pub start_of : List Node → Player → State
+start_of nodes player =
+    state_of nodes player (zero_content player (priorities nodes)) (all_pending (length nodes)) 0 false
 
 -- a lifting run of at most the budget's entries leads from the old table to the new, and the lifts grew by as many
 pub record LiftsWithin (old : State) (budget : ℕ) (new : State) : Type 0 where

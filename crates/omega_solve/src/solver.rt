@@ -34,28 +34,14 @@ pub struct Solver<'g, T: MeasureTable, S: Schedule> {
 }
 
 impl<'g, T: MeasureTable, S: Schedule> Model for Solver<'g, T, S> {
-    ghost use Rattle.omega_solve.specs.Solver.{State};
+    ghost use Rattle.omega_solve.specs.Solver.{State, state_of};
     ghost use Rattle.omega_solve.specs.Progress.{IsSolver};
 
     ghost Value = { State };
 
-    ghost view = { λ s. record {
-      nodes = s.game.now;
-      player = s.player;
-      table = T.content s.table;
-      pending = S.waiting s.schedule;
-      lifts = s.lifts;
-      done = s.done;
-    } };
+    ghost view = { λ s. state_of s.game.now s.player (T.content s.table) (S.waiting s.schedule) s.lifts s.done };
 
-    ghost invariant = { λ s. IsSolver (record {
-      nodes = s.game.now;
-      player = s.player;
-      table = T.content s.table;
-      pending = S.waiting s.schedule;
-      lifts = s.lifts;
-      done = s.done;
-    }) s.won.items s.choice.items };
+    ghost invariant = { λ s. IsSolver (state_of s.game.now s.player (T.content s.table) (S.waiting s.schedule) s.lifts s.done) s.won.items s.choice.items };
 }
 
 impl<'g, T: MeasureTable, S: Schedule> Solver<'g, T, S> {

@@ -1,5 +1,5 @@
 use Rattle.std.proofs.Common.{◌+◌, ◌<◌, ◌^◌, ◌∙◌, ap, arith, length, subst, sym}
-use Rattle.omega_solve.specs.Solver.{State}
+use Rattle.omega_solve.specs.Solver.{State, state_of}
 use Rattle.omega_solve.specs.Progress.{IsLifted}
 use Rattle.omega_game.specs.Game.{predecessors_of}
 use Rattle.omega_solve.specs.Schedule.{IsPending, Pending}
@@ -14,14 +14,9 @@ use Rattle.omega_solve.proofs.solver.Solver.lift.Goals as goal
 
 pub raise-requires-clause-towards : goal.raise-requires-clause-towards
 raise-requires-clause-towards g c =
-    let state : State = record {
-      nodes = c.self.inside.game.now;
-      player = c.self.inside.player;
-      table = g.T.MeasureTable.content c.self.inside.table;
-      pending = g.S.Schedule.waiting c.self.inside.schedule;
-      lifts = c.self.inside.lifts;
-      done = c.self.inside.done;
-    } in
+    let inside = c.self.inside in
+    let state =
+    state_of inside.game.now inside.player (g.T.MeasureTable.content inside.table) (g.S.Schedule.waiting inside.schedule) inside.lifts inside.done in
     let due = subst (λ (s : State). IsDueTowards s.nodes s.player s.table.measures c.args.place c.args.towards) (sym c.self.view_is) c.requires.due in
     let solving = c.self.invariant.solving in
     omega (
@@ -32,14 +27,9 @@ raise-requires-clause-towards g c =
 
 pub raise-requires-clause-due : goal.raise-requires-clause-due
 raise-requires-clause-due g c =
-    let state : State = record {
-      nodes = c.self.inside.game.now;
-      player = c.self.inside.player;
-      table = g.T.MeasureTable.content c.self.inside.table;
-      pending = g.S.Schedule.waiting c.self.inside.schedule;
-      lifts = c.self.inside.lifts;
-      done = c.self.inside.done;
-    } in
+    let inside = c.self.inside in
+    let state =
+    state_of inside.game.now inside.player (g.T.MeasureTable.content inside.table) (g.S.Schedule.waiting inside.schedule) inside.lifts inside.done in
     let due = subst (λ (s : State). IsDueTowards s.nodes s.player s.table.measures c.args.place c.args.towards) (sym c.self.view_is) c.requires.due in
     record {
       allowance = due.value;
@@ -53,14 +43,9 @@ take-requires-clause-counted g c = takes_fit _ c.self.invariant.solving
 
 pub invariant_of-self : goal.invariant_of-self
 invariant_of-self g c =
-    let state : State = record {
-      nodes = c.self.inside.game.now;
-      player = c.self.inside.player;
-      table = g.T.MeasureTable.content c.self.inside.table;
-      pending = g.S.Schedule.waiting c.self.inside.schedule;
-      lifts = c.self.inside.lifts;
-      done = c.self.inside.done;
-    } in
+    let inside = c.self.inside in
+    let state =
+    state_of inside.game.now inside.player (g.T.MeasureTable.content inside.table) (g.S.Schedule.waiting inside.schedule) inside.lifts inside.done in
     let due = subst (λ (s : State). IsDueTowards s.nodes s.player s.table.measures c.args.place c.args.towards) (sym c.self.view_is) c.requires.due in
     let content = g.T.MeasureTable.content c.raise.new.self in
     let woken = g.S.Schedule.waiting c.wake_predecessors.new.schedule in
@@ -79,27 +64,15 @@ invariant_of-self g c =
 
 pub returns : goal.returns
 returns g c =
-    let state : State = record {
-      nodes = c.self.inside.game.now;
-      player = c.self.inside.player;
-      table = g.T.MeasureTable.content c.self.inside.table;
-      pending = g.S.Schedule.waiting c.self.inside.schedule;
-      lifts = c.self.inside.lifts;
-      done = c.self.inside.done;
-    } in
+    let inside = c.self.inside in
+    let state =
+    state_of inside.game.now inside.player (g.T.MeasureTable.content inside.table) (g.S.Schedule.waiting inside.schedule) inside.lifts inside.done in
     let due = subst (λ (s : State). IsDueTowards s.nodes s.player s.table.measures c.args.place c.args.towards) (sym c.self.view_is) c.requires.due in
     let content = g.T.MeasureTable.content c.raise.new.self in
     let woken = g.S.Schedule.waiting c.wake_predecessors.new.schedule in
     let predecessors = predecessors_of state.nodes c.args.place in
     let wakes = subst (λ (p : Pending). Wakes content.measures predecessors (length predecessors) p woken) c.take.ensures c.wake_predecessors.ensures in
     subst
-    (λ (s : State). IsLifted s c.args.place (record {
-      nodes = state.nodes;
-      player = state.player;
-      table = content;
-      pending = woken;
-      lifts = state.lifts + 1;
-      done = state.done;
-    }))
+    (λ (s : State). IsLifted s c.args.place (state_of state.nodes state.player content woken (state.lifts + 1) state.done))
     c.self.view_is
     (one_lifted state c.args.place c.args.towards content woken c.allowances_are_unique.ensures c.self.invariant.solving due c.raise.ensures wakes)

@@ -2,7 +2,7 @@ use Rattle.std.proofs.Common.{◌≡◌, ◌∙◌, false, ap, length, refl, sub
 use Rattle.omega_game.specs.Game.{priorities}
 use Rattle.omega_measure.specs.Table.{Content, zero_content}
 use Rattle.omega_solve.specs.Schedule.{Pending, all_pending}
-use Rattle.omega_solve.specs.Solver.{State, start_of}
+use Rattle.omega_solve.specs.Solver.{State, start_of, state_of}
 use Rattle.omega_solve.specs.Progress.{IsSolving}
 use Rattle.omega_solve.proofs.Starting.{answered_open, solving_start}
 use Rattle.omega_solve.proofs.solver.Solver.prepare.Goals as goal
@@ -12,19 +12,12 @@ invariant_of-result g c =
     let nodes = c.args.game.now in
     let content = g.T.MeasureTable.content c.in_ok-table.table in
     let pending = g.S.Schedule.waiting c.in_ok-schedule.schedule in
-    let state : State = record { nodes = nodes; player = c.args.player; table = content; pending = pending; lifts = 0; done = false } in
+    let state = state_of nodes c.args.player content pending 0 false in
     let all : pending ≡ all_pending (length nodes) = c.in_ok-schedule.ensures.all ∙ ap all_pending c.len-n.ensures.count in
     let is_start : state ≡ start_of nodes c.args.player =
-    ap (λ (t : Content). record { nodes = nodes; player = c.args.player; table = t; pending = pending; lifts = 0; done = false })
+    ap (λ (t : Content). state_of nodes c.args.player t pending 0 false)
     c.in_ok-table.ensures.zero
-    ∙ ap (λ (p : Pending). record {
-      nodes = nodes;
-      player = c.args.player;
-      table = zero_content c.args.player (priorities nodes);
-      pending = p;
-      lifts = 0;
-      done = false;
-    }) all in
+    ∙ ap (λ (p : Pending). state_of nodes c.args.player (zero_content c.args.player (priorities nodes)) p 0 false) all in
     record {
       solving = subst (λ (s : State). IsSolving s) (sym is_start)
           (solving_start nodes c.args.player c.zero_tables_are_tables.ensures c.len-n.ensures.game c.len-n.ensures.limits);
