@@ -4,6 +4,9 @@ ghost use Rattle.omega_solve.specs.Schedule.{IsIdle, IsPending, Pending, all_pen
 use omega_measure::Refusal;
 use std::alloc::Global;
 
+#[cfg(test)]
+mod tests;
+
 /// The places that a solver has yet to look at, in an order of its own. No call but `prepare` takes memory.
 pub trait Schedule: Drop {
     /// Which places are pending and how many takes were made, however they are kept.
