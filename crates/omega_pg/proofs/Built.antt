@@ -21,7 +21,8 @@ use Rattle.omega_pg.specs.Symbols.{symbols_of}
 use Rattle.omega_pg.specs.Syntax.{Writes}
 use Rattle.omega_pg.specs.Text.{Covers, IsGameText}
 use Rattle.omega_pg.specs.declared.stage.Stage.TheVariants.{Ended}
-use Rattle.omega_pg.proofs.Grammar.{IsUnfinished-from_run, SpellsGame-from_run, raw_of, small_from_run}
+use Rattle.omega_pg.proofs.Deciding.{IsUnfinished-from_run}
+use Rattle.omega_pg.proofs.Grammar.{SpellsGame-from_run, decides_games, raw_of, small_from_run}
 
 -- a text whose tokens lead to the end of a node writes what was kept
 writes_kept : (source : List ℕ) (state : State) → IsRead source state → state.stage ≡ Ended → Writes SpellsGame source (raw_of state)
@@ -35,7 +36,7 @@ writes_kept source state read ended = record {
 pub refused_early : (source : List ℕ) (state : State) → length source ≤ MOST_TEXT → IsRead source state → (state.stage ≡ Ended → ⊥)
     → IsReadRefusal source (Text (Syntax (length source)))
 refused_early source state short read open_stage =
-    inr (short, record { lexemes = read.lexemes; cut = read.cut; fault_there = inr (IsUnfinished-from_run read.lexemes state read.runs open_stage, refl) })
+    inr (short, record { lexemes = read.lexemes; cut = read.cut; fault_there = inr (IsUnfinished-from_run decides_games read.lexemes state read.runs open_stage, refl) })
 
 -- the refusal of what was kept is the text's
 pub refused_built : (source : List ℕ) (state : State) (refusal : Refusal) → length source ≤ MOST_TEXT → IsRead source state → state.stage ≡ Ended

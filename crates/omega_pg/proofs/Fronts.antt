@@ -59,3 +59,15 @@ module _ {Raw : Type 0} (Grammar : List Symbol → Raw → Type 0) where
   -- what begins a text has no wrong token
   pub IsWrongAt-begins : (lexemes : List Lexeme) (place : ℕ) → IsWrongAt Grammar lexemes place → Begins Grammar (symbols_of lexemes) → ⊥
   IsWrongAt-begins lexemes place there begins = there.ends (Begins-through there.front lexemes there.wrong (there.rest, there.split) begins)
+
+  -- the first wrong token stays so, whatever follows
+  pub IsWrongAt-more : (lexemes more : List Lexeme) (place : ℕ) → IsWrongAt Grammar lexemes place → IsWrongAt Grammar (lexemes ++ more) place
+  IsWrongAt-more lexemes more place there = record {
+    front = there.front;
+    wrong = there.wrong;
+    rest = there.rest ++ more;
+    split = ap (λ list. list ++ more) there.split ∙ append_assoc there.front (there.wrong ∷ there.rest) more;
+    begins = there.begins;
+    ends = there.ends;
+    there = there.there;
+  }

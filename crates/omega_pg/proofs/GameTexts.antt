@@ -14,23 +14,16 @@ use Rattle.omega_game.specs.declared.node_spec.NodeSpec.{NodeSpec}
 use Rattle.omega_pg.specs.Grammar.{RawGame, SpellsGame}
 use Rattle.omega_pg.specs.Laws.{GamesAreNotRefused, GamesOfTextsAreOne, RefusalsAreOne}
 use Rattle.omega_pg.specs.Refusing.{fault_in, is_header_small}
-use Rattle.omega_pg.specs.Symbols.{symbols_of}
-use Rattle.omega_pg.specs.Syntax.{Writes}
 use Rattle.omega_pg.specs.Text.{Covers}
+use Rattle.omega_pg.proofs.Deciding.{Writes-one}
 use Rattle.omega_pg.proofs.Faults.{IsTextFault-apart, IsTextFault-one}
-use Rattle.omega_pg.proofs.Spelled.{SpellsGame-one}
-
--- bytes write at most one raw text
-pub Writes-one : CutsAreOne → (source : List ℕ) (one other : RawGame) → Writes SpellsGame source one → Writes SpellsGame source other → one ≡ other
-Writes-one cuts source one other a b =
-    SpellsGame-one (symbols_of b.lexemes) one other
-    (subst (λ lexemes. SpellsGame (symbols_of lexemes) one) (cuts source a.lexemes b.lexemes a.cut b.cut) a.text) b.text
+use Rattle.omega_pg.proofs.Grammar.{decides_games}
 
 -- a text stands for at most one game
 pub games_one : CutsAreOne → GamesAreDetermined → GamesOfTextsAreOne
 games_one cuts determined source one other a b =
     determined b.raw.specs one other
-    (subst (λ (raw : RawGame). IsGameOf raw.specs one) (Writes-one cuts source a.raw b.raw a.writes b.writes) a.rearranged) b.rearranged
+    (subst (λ (raw : RawGame). IsGameOf raw.specs one) (Writes-one decides_games cuts source a.raw b.raw a.writes b.writes) a.rearranged) b.rearranged
 
 -- a header that covers the identifiers is not too small
 small_from_Covers : (header : Option ℕ) (specs : List NodeSpec) → Covers header specs → is_header_small header specs ≡ false
@@ -60,7 +53,7 @@ pub games_apart : CutsAreOne → CutsHaveNoFault → GamesHaveNoFault → GamesA
 games_apart cuts none faultless source game (Text fault) text refused =
     IsTextFault-apart SpellsGame cuts none source fault text.raw text.short text.writes refused
 games_apart cuts none faultless source game (Game fault) text refused =
-    let same : text.raw ≡ refused.raw = Writes-one cuts source text.raw refused.raw text.writes refused.writes in
+    let same : text.raw ≡ refused.raw = Writes-one decides_games cuts source text.raw refused.raw text.writes refused.writes in
     let no_fault : fault_in text.raw ≡ None = fault_in-none text.raw (faultless text.raw.specs game text.rearranged text.limits) text.covers in
     let clash : ◌≡◌ {A = Option GameFault} (Some fault) None = sym refused.fault_there ∙ ap fault_in (sym same) ∙ no_fault in
     cc
@@ -75,7 +68,7 @@ refusals_one cuts none same source (Text a) (Text b) x y = ap (λ fault. Text fa
 refusals_one cuts none same source (Text a) (Game b) x y = absurd (IsTextFault-apart SpellsGame cuts none source a y.raw y.short y.writes x)
 refusals_one cuts none same source (Game a) (Text b) x y = absurd (IsTextFault-apart SpellsGame cuts none source b x.raw x.short x.writes y)
 refusals_one cuts none same source (Game a) (Game b) x y =
-    let raws : x.raw ≡ y.raw = Writes-one cuts source x.raw y.raw x.writes y.writes in
+    let raws : x.raw ≡ y.raw = Writes-one decides_games cuts source x.raw y.raw x.writes y.writes in
     let faults : ◌≡◌ {A = Option GameFault} (Some a) (Some b) = sym x.fault_there ∙ ap fault_in raws ∙ y.fault_there in
     cc
 refusals_one cuts none same source (Automaton a) other x y = absurd x

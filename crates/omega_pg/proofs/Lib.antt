@@ -1,6 +1,7 @@
 pub mod Built
 pub mod Changes
 pub mod Decided
+pub mod Deciding
 pub mod Faults
 pub mod Fronts
 pub mod GameTexts

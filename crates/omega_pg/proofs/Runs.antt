@@ -1,61 +1,48 @@
--- Runs of the automaton over symbols, joined and completed.
-use Rattle.std.proofs.Common.{◌≡◌, ℕ, Bool, Option, Some, None, List, [], ◌∷◌, ◌++◌, refl, ap, ◌∙◌}
+-- Runs of an automaton over symbols, joined.
+use Rattle.std.proofs.Common.{◌≡◌, Option, Some, None, IfSome, List, [], ◌∷◌, ◌++◌, refl, ap, sym, ◌∙◌, subst, append_assoc, append-nil}
 use Rattle.std.specs.Prelude.{option_and_then}
-use Rattle.omega_game.specs.declared.node_spec.NodeSpec.{NodeSpec}
-use Rattle.omega_pg.specs.Automaton.{State, run, step}
-use Rattle.omega_pg.specs.Symbols.{Symbol, number, semicolon}
-use Rattle.omega_pg.specs.declared.stage.Stage.{Stage}
-use Rattle.omega_pg.specs.declared.stage.Stage.TheVariants.{Comma, Ended, Headed, Identifier, Listed, Named, Number, Owner, Priority, Start, Word}
+use Rattle.omega_pg.specs.Run.{run_by}
+use Rattle.omega_pg.specs.Symbols.{Symbol}
 
--- a run over two lists is a run over the one and then over the other
-pub run-append : (state : State) (xs ys : List Symbol) → run state (xs ++ ys) ≡ option_and_then (λ next. run next ys) (run state xs)
-run-append state [] ys = refl
-run-append state (x ∷ xs) ys =
-    elim (step state x)
-    as (λ o. option_and_then (λ next. run next (xs ++ ys)) o ≡ option_and_then (λ next. run next ys) (option_and_then (λ next. run next xs) o))
-    [ None ↦ refl | Some next ↦ run-append next xs ys ]
+module _ {State : Type 0} (step : State → Symbol → Option State) where
+  -- a run over two lists is a run over the one and then over the other
+  pub run_by-append : (state : State) (xs ys : List Symbol)
+      → run_by step state (xs ++ ys) ≡ option_and_then (λ next. run_by step next ys) (run_by step state xs)
+  run_by-append state [] ys = refl
+  run_by-append state (x ∷ xs) ys =
+      elim (step state x)
+      as (λ o. option_and_then (λ next. run_by step next (xs ++ ys)) o
+      ≡ option_and_then (λ next. run_by step next ys) (option_and_then (λ next. run_by step next xs) o))
+      [ None ↦ refl | Some next ↦ run_by-append next xs ys ]
 
--- a run over one symbol more
-pub run_push : (state middle : State) (xs : List Symbol) (x : Symbol) → run state xs ≡ Some middle → run state (xs ++ x ∷ []) ≡ step middle x
-run_push state middle xs x e =
-    run-append state xs (x ∷ [])
-    ∙ ap (option_and_then (λ next. run next (x ∷ []))) e
-    ∙ alone (step middle x)
-  where
-    alone : (o : Option State) → option_and_then (λ next. run next []) o ≡ o
-    alone None = refl
-    alone (Some next) = refl
+  -- a run that went on from where another ended
+  pub run_by_on : (state middle : State) (xs ys : List Symbol) → run_by step state xs ≡ Some middle
+      → run_by step state (xs ++ ys) ≡ run_by step middle ys
+  run_by_on state middle xs ys e = run_by-append state xs ys ∙ ap (option_and_then (λ next. run_by step next ys)) e
 
--- what completes a text from a stage
-abbrev pub completion : Stage → List Symbol
-completion Start = number 0 ∷ number 0 ∷ number 0 ∷ number 0 ∷ semicolon ∷ []
-completion Word = number 0 ∷ semicolon ∷ number 0 ∷ number 0 ∷ number 0 ∷ number 0 ∷ semicolon ∷ []
-completion (Number n) = semicolon ∷ number 0 ∷ number 0 ∷ number 0 ∷ number 0 ∷ semicolon ∷ []
-completion Headed = number 0 ∷ number 0 ∷ number 0 ∷ number 0 ∷ semicolon ∷ []
-completion Ended = []
-completion (Identifier id) = number 0 ∷ number 0 ∷ number 0 ∷ semicolon ∷ []
-completion (Priority id priority) = number 0 ∷ number 0 ∷ semicolon ∷ []
-completion (Owner id priority owner) = number 0 ∷ semicolon ∷ []
-completion Listed = semicolon ∷ []
-completion Comma = number 0 ∷ semicolon ∷ []
-completion Named = semicolon ∷ []
+  -- a run over one symbol more
+  pub run_by_push : (state middle : State) (xs : List Symbol) (x : Symbol) → run_by step state xs ≡ Some middle
+      → run_by step state (xs ++ x ∷ []) ≡ step middle x
+  run_by_push state middle xs x e = run_by_on state middle xs (x ∷ []) e ∙ alone (step middle x)
+    where
+      alone : (o : Option State) → option_and_then (λ next. run_by step next []) o ≡ o
+      alone None = refl
+      alone (Some next) = refl
 
--- the completion leads to the end of a node
-pub record IsCompleted (state : State) (symbols : List Symbol) : Type 0 where
-  pub next : State
-  pub runs : run state symbols ≡ Some next
-  pub ended : next.stage ≡ Ended
+  -- a run that stopped stays so
+  pub run_by_stopped : (state : State) (xs ys : List Symbol) → run_by step state xs ≡ None → run_by step state (xs ++ ys) ≡ None
+  run_by_stopped state xs ys e = run_by-append state xs ys ∙ ap (option_and_then (λ next. run_by step next ys)) e
 
-pub run-completion : (stage : Stage) (header : Option ℕ) (specs : List NodeSpec) (small : Bool)
-    → IsCompleted (record { stage = stage; header = header; specs = specs; small = small }) (completion stage)
-run-completion Start header specs small = record { next = _; runs = refl; ended = refl }
-run-completion Word header specs small = record { next = _; runs = refl; ended = refl }
-run-completion (Number n) header specs small = record { next = _; runs = refl; ended = refl }
-run-completion Headed header specs small = record { next = _; runs = refl; ended = refl }
-run-completion Ended header specs small = record { next = _; runs = refl; ended = refl }
-run-completion (Identifier id) header specs small = record { next = _; runs = refl; ended = refl }
-run-completion (Priority id priority) header specs small = record { next = _; runs = refl; ended = refl }
-run-completion (Owner id priority owner) header specs small = record { next = _; runs = refl; ended = refl }
-run-completion Listed header specs small = record { next = _; runs = refl; ended = refl }
-run-completion Comma header specs small = record { next = _; runs = refl; ended = refl }
-run-completion Named header specs small = record { next = _; runs = refl; ended = refl }
+  -- what holds of each step holds of a run
+  pub run_by_shown : (Shows : State → List Symbol → Type 0)
+      → ((state : State) (xs : List Symbol) (x : Symbol) → Shows state xs → IfSome (step state x) (λ next. Shows next (xs ++ x ∷ [])))
+      → (state : State) (xs ys : List Symbol) → Shows state xs → IfSome (run_by step state ys) (λ next. Shows next (xs ++ ys))
+  run_by_shown Shows step_shown state xs [] shows = subst (Shows state) (sym (append-nil xs)) shows
+  run_by_shown Shows step_shown state xs (y ∷ ys) shows =
+      elim (step state y)
+      as (λ o. IfSome o (λ next. Shows next (xs ++ y ∷ [])) → IfSome (option_and_then (λ next. run_by step next ys) o) (λ next. Shows next (xs ++ y ∷ ys))) [
+        | None ↦ λ h. tt
+        | Some next ↦ λ h. subst (λ list. IfSome (run_by step next ys) (λ last. Shows last list)) (append_assoc xs (y ∷ []) ys)
+            (run_by_shown Shows step_shown next (xs ++ y ∷ []) ys h)
+      ]
+      (step_shown state xs y shows)

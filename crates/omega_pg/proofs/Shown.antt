@@ -2,7 +2,7 @@
 use Rattle.std.proofs.Common.{◌≡◌, ℕ, ◌<◌, nat_lt, length-append, Bool, append-nil, Option, Some, None, List, [], ◌∷◌, ◌++◌, length, refl, ap, sym, ◌∙◌, subst, append_assoc, arith, All, IfSome, ◌||◌}
 use Rattle.std.proofs.Math.Bool.{or-false}
 use Rattle.std.proofs.lemmas.Bool.{cond_both, eqb-true}
-use Rattle.std.specs.Prelude.{option_and_then, option_map, ◌==◌, if◌then◌else◌}
+use Rattle.std.specs.Prelude.{option_map, ◌==◌, if◌then◌else◌}
 use Rattle.std.specs.List.{flat_map, list_any}
 use Rattle.std.proofs.lemmas.List.Concat.{flat_map-append}
 use Rattle.std.proofs.lemmas.List.Elements.{All-push, All-nil}
@@ -10,7 +10,7 @@ use Rattle.std.proofs.lemmas.List.Folds.{list_any-append}
 use Rattle.omega_game.specs.Building.{with_last, with_name, with_successor}
 use Rattle.omega_game.specs.declared.node_spec.NodeSpec.{NodeSpec}
 use Rattle.omega_game.specs.declared.player.Player.TheVariants.{One, Zero}
-use Rattle.omega_pg.specs.Automaton.{State, after_comma, after_name, after_number, after_semicolon, after_word, begun, is_above, player_of, run, step, to_stage}
+use Rattle.omega_pg.specs.Automaton.{State, after_comma, after_name, after_number, after_semicolon, after_word, begun, is_above, player_of, step, to_stage}
 use Rattle.omega_pg.specs.Grammar.{header_symbols, name_symbols, node_symbols, successor_symbols}
 use Rattle.omega_pg.specs.Refusing.{is_header_small}
 use Rattle.omega_pg.specs.Symbols.{Symbol, comma, name, number, parity, paritysol, player_number, semicolon}
@@ -306,7 +306,7 @@ name_shown Listed header specs small symbols bytes shows =
 name_shown _ header specs small symbols bytes shows = tt
 
 -- what a symbol leads to is shown
-step_shown : (state : State) (symbols : List Symbol) (symbol : Symbol) → Shows state symbols
+pub step_shown : (state : State) (symbols : List Symbol) (symbol : Symbol) → Shows state symbols
     → IfSome (step state symbol) (λ next. Shows next (symbols ++ symbol ∷ []))
 step_shown state symbols (number n) shows = number_shown state.stage state.header state.specs state.small symbols n shows
 step_shown state symbols parity shows = word_shown state.stage state.header state.specs state.small symbols shows
@@ -314,14 +314,3 @@ step_shown state symbols paritysol shows = tt
 step_shown state symbols semicolon shows = semicolon_shown state.stage state.header state.specs state.small symbols shows
 step_shown state symbols comma shows = comma_shown state.stage state.header state.specs state.small symbols shows
 step_shown state symbols (name bytes) shows = name_shown state.stage state.header state.specs state.small symbols bytes shows
-
--- what symbols lead to is shown
-pub run_shown : (state : State) (xs ys : List Symbol) → Shows state xs → IfSome (run state ys) (λ next. Shows next (xs ++ ys))
-run_shown state xs [] shows = subst (Shows state) (sym (append-nil xs)) shows
-run_shown state xs (y ∷ ys) shows =
-    elim (step state y)
-    as (λ o. IfSome o (λ next. Shows next (xs ++ y ∷ [])) → IfSome (option_and_then (λ next. run next ys) o) (λ next. Shows next (xs ++ y ∷ ys))) [
-      | None ↦ λ h. tt
-      | Some next ↦ λ h. subst (λ list. IfSome (run next ys) (λ last. Shows last list)) (append_assoc xs (y ∷ []) ys) (run_shown next (xs ++ y ∷ []) ys h)
-    ]
-    (step_shown state xs y shows)

@@ -1,20 +1,19 @@
 -- The automaton of solution texts decides their grammar.
-use Rattle.std.proofs.Common.{◌≡◌, ℕ, Option, Some, None, IfSome, List, [], ◌∷◌, ◌++◌, refl, ap, sym, ◌∙◌, subst, append_assoc, append-nil}
-use Rattle.std.specs.Prelude.{option_and_then, option_map}
+use Rattle.std.proofs.Common.{◌≡◌, ℕ, ◌⊎◌, inl, inr, Option, Some, None, IfSome, List, [], ◌∷◌, ◌++◌, refl, ap, sym, ◌∙◌, subst, append_assoc, append-nil}
+use Rattle.std.specs.Prelude.{option_map}
 use Rattle.std.specs.List.{flat_map}
-use Rattle.std.proofs.lemmas.List.{map-append}
 use Rattle.std.proofs.lemmas.List.Concat.{flat_map-append}
-use Rattle.omega_text.specs.Lexeme.{Lexeme}
 use Rattle.omega_game.specs.declared.player.Player.{Player}
 use Rattle.omega_game.specs.declared.player.Player.TheVariants.{One, Zero}
 use Rattle.omega_pg.specs.Automaton.{player_of}
 use Rattle.omega_pg.specs.Solution.{Line, RawSolution}
 use Rattle.omega_pg.specs.SolutionAutomaton.{SolutionState, after_number, after_semicolon, after_word, initial, run, step, to_stage}
 use Rattle.omega_pg.specs.SolutionText.{SpellsSolution, line_symbols}
-use Rattle.omega_pg.specs.Symbols.{Symbol, comma, name, number, parity, paritysol, player_number, semicolon, symbol, symbols_of}
-use Rattle.omega_pg.specs.Syntax.{Begins, IsUnfinished, IsWrongAt}
+use Rattle.omega_pg.specs.Symbols.{Symbol, comma, name, number, parity, paritysol, player_number, semicolon}
 use Rattle.omega_pg.specs.declared.solution_stage.SolutionStage.{SolutionStage}
 use Rattle.omega_pg.specs.declared.solution_stage.SolutionStage.TheVariants.{Chosen, Ended, Identifier, Number, Start, Winner, Word}
+use Rattle.omega_pg.proofs.Deciding.{Completes, Decides, Reads}
+use Rattle.omega_pg.proofs.Runs.{run_by_shown}
 use Rattle.omega_pg.proofs.Shown.{player_of-number}
 
 -- a state with these parts
@@ -29,25 +28,6 @@ raw_of state = record { greatest = state.greatest; lines = state.lines }
 abbrev spelled : ℕ → List Line → List Symbol
 spelled greatest lines = paritysol ∷ number greatest ∷ semicolon ∷ flat_map line_symbols lines
 
--- a run over two lists is a run over the one and then over the other
-run-append : (state : SolutionState) (xs ys : List Symbol) → run state (xs ++ ys) ≡ option_and_then (λ next. run next ys) (run state xs)
-run-append state [] ys = refl
-run-append state (x ∷ xs) ys =
-    elim (step state x)
-    as (λ o. option_and_then (λ next. run next (xs ++ ys)) o ≡ option_and_then (λ next. run next ys) (option_and_then (λ next. run next xs) o))
-    [ None ↦ refl | Some next ↦ run-append next xs ys ]
-
--- a run over one symbol more
-run_push : (state middle : SolutionState) (xs : List Symbol) (x : Symbol) → run state xs ≡ Some middle → run state (xs ++ x ∷ []) ≡ step middle x
-run_push state middle xs x e =
-    run-append state xs (x ∷ [])
-    ∙ ap (option_and_then (λ next. run next (x ∷ []))) e
-    ∙ alone (step middle x)
-  where
-    alone : (o : Option SolutionState) → option_and_then (λ next. run next []) o ≡ o
-    alone None = refl
-    alone (Some next) = refl
-
 -- what completes a text from a stage
 abbrev completion : SolutionStage → List Symbol
 completion Start = paritysol ∷ number 0 ∷ semicolon ∷ []
@@ -58,20 +38,20 @@ completion (Identifier id) = number 0 ∷ semicolon ∷ []
 completion (Winner id winner) = semicolon ∷ []
 completion (Chosen id winner successor) = semicolon ∷ []
 
--- the completion leads to the end of the header or of a line
-record IsCompleted (state : SolutionState) (symbols : List Symbol) : Type 0 where
-  pub next : SolutionState
-  pub runs : run state symbols ≡ Some next
-  pub ended : next.stage ≡ Ended
+-- a text has ended behind the header or a line
+abbrev pub IsEnded : SolutionState → Type 0
+IsEnded state = state.stage ≡ Ended
 
-run-completion : (stage : SolutionStage) (greatest : ℕ) (lines : List Line) → IsCompleted (at stage greatest lines) (completion stage)
-run-completion Start greatest lines = record { next = _; runs = refl; ended = refl }
-run-completion Word greatest lines = record { next = _; runs = refl; ended = refl }
-run-completion (Number n) greatest lines = record { next = _; runs = refl; ended = refl }
-run-completion Ended greatest lines = record { next = _; runs = refl; ended = refl }
-run-completion (Identifier id) greatest lines = record { next = _; runs = refl; ended = refl }
-run-completion (Winner id winner) greatest lines = record { next = _; runs = refl; ended = refl }
-run-completion (Chosen id winner successor) greatest lines = record { next = _; runs = refl; ended = refl }
+-- the completion leads to the end of the header or of a line
+completes : (stage : SolutionStage) (greatest : ℕ) (lines : List Line) → Completes step IsEnded (at stage greatest lines)
+completes Start greatest lines = record { more = completion Start; state = _; runs = refl; ended = refl }
+completes Word greatest lines = record { more = completion Word; state = _; runs = refl; ended = refl }
+completes (Number n) greatest lines = record { more = completion (Number n); state = _; runs = refl; ended = refl }
+completes Ended greatest lines = record { more = completion Ended; state = _; runs = refl; ended = refl }
+completes (Identifier id) greatest lines = record { more = completion (Identifier id); state = _; runs = refl; ended = refl }
+completes (Winner id winner) greatest lines = record { more = completion (Winner id winner); state = _; runs = refl; ended = refl }
+completes (Chosen id winner successor) greatest lines =
+    record { more = completion (Chosen id winner successor); state = _; runs = refl; ended = refl }
 
 -- the symbols of a line add it
 run_line : (greatest : ℕ) (lines : List Line) (id : ℕ) (winner : Player) (successor : Option ℕ) (rest : List Symbol)
@@ -89,23 +69,10 @@ run_lines greatest lines (line ∷ more) =
     ∙ run_lines greatest (lines ++ line ∷ []) more
     ∙ ap (λ list. Some (at Ended greatest list)) (append_assoc lines (line ∷ []) more)
 
--- each text of the grammar is run, and kept
-pub run_text : (symbols : List Symbol) (raw : RawSolution) → SpellsSolution symbols raw → run initial symbols ≡ Some (at Ended raw.greatest raw.lines)
-run_text symbols raw text = ap (run initial) text ∙ run_lines raw.greatest [] raw.lines
-
--- symbols spell at most one raw text
-pub SpellsSolution-one : (symbols : List Symbol) (one other : RawSolution) → SpellsSolution symbols one → SpellsSolution symbols other → one ≡ other
-SpellsSolution-one symbols one other a b =
-    let same : Some (at Ended one.greatest one.lines) ≡ Some (at Ended other.greatest other.lines) = sym (run_text symbols one a) ∙ run_text symbols other b in
-    let states : at Ended one.greatest one.lines ≡ at Ended other.greatest other.lines = cc in
-    ap raw_of states
-
--- what begins a text is run
-run_begins : (symbols : List Symbol) → Begins SpellsSolution symbols → run initial symbols ≡ None → ⊥
-run_begins symbols begins none =
-    let e : run initial (symbols ++ begins.0) ≡ None = run-append initial symbols begins.0 ∙ ap (option_and_then (λ next. run next begins.0)) none in
-    let clash : Some (at Ended begins.1.greatest begins.1.lines) ≡ None = sym (run_text (symbols ++ begins.0) begins.1 begins.2) ∙ e in
-    cc
+-- each text of the grammar is run to its end
+reads : (symbols : List Symbol) (raw : RawSolution) → SpellsSolution symbols raw → Reads step initial IsEnded raw_of symbols raw
+reads symbols raw text =
+    record { state = at Ended raw.greatest raw.lines; runs = ap (run initial) text ∙ run_lines raw.greatest [] raw.lines; ended = refl; kept = refl }
 
 -- nothing but the beginning of a header
 record IsHeader (lines : List Line) (begun symbols : List Symbol) : Type 0 where
@@ -184,62 +151,24 @@ step_shown state symbols semicolon shows = semicolon_shown state.stage state.gre
 step_shown state symbols comma shows = tt
 step_shown state symbols (name bytes) shows = tt
 
--- what symbols lead to is shown
-run_shown : (state : SolutionState) (xs ys : List Symbol) → IsShown state xs → IfSome (run state ys) (λ next. IsShown next (xs ++ ys))
-run_shown state xs [] shows = subst (IsShown state) (sym (append-nil xs)) shows
-run_shown state xs (y ∷ ys) shows =
-    elim (step state y)
-    as (λ o. IfSome o (λ next. IsShown next (xs ++ y ∷ [])) → IfSome (option_and_then (λ next. run next ys) o) (λ next. IsShown next (xs ++ y ∷ ys))) [
-      | None ↦ λ h. tt
-      | Some next ↦ λ h. subst (λ list. IfSome (run next ys) (λ last. IsShown last list)) (append_assoc xs (y ∷ []) ys) (run_shown next (xs ++ y ∷ []) ys h)
-    ]
-    (step_shown state xs y shows)
-
 -- a run that ends behind the header or a line has read a text
 pub SpellsSolution-from_run : (symbols : List Symbol) (state : SolutionState) → run initial symbols ≡ Some state → state.stage ≡ Ended
     → SpellsSolution symbols (raw_of state)
 SpellsSolution-from_run symbols state e ended =
-    let shown : IfSome (run initial symbols) (λ next. IsShown next symbols) = run_shown initial [] symbols (record { empty = refl; shown = refl }) in
+    let shown : IfSome (run initial symbols) (λ next. IsShown next symbols) = run_by_shown step IsShown step_shown initial [] symbols (record { empty = refl; shown = refl }) in
     let there : IsShown state symbols = subst (λ o. IfSome o (λ next. IsShown next symbols)) e shown in
     subst (λ stage. Shows stage state.greatest state.lines symbols) ended there
 
--- what is run begins a text
-pub Begins-from_run : (symbols : List Symbol) (state : SolutionState) → run initial symbols ≡ Some state → Begins SpellsSolution symbols
-Begins-from_run symbols state e =
-    let more = completion state.stage in
-    let completed = run-completion state.stage state.greatest state.lines in
-    let runs : run initial (symbols ++ more) ≡ Some completed.next =
-    run-append initial symbols more ∙ ap (option_and_then (λ next. run next more)) e ∙ completed.runs in
-    (more, raw_of completed.next, SpellsSolution-from_run (symbols ++ more) completed.next runs completed.ended)
+-- it has ended behind the header or a line, or has not
+ended_or_open : (stage : SolutionStage) → (stage ≡ Ended) ⊎ (stage ≡ Ended → ⊥)
+ended_or_open Ended = inl refl
+ended_or_open _ = inr (λ e. cc)
 
--- tokens that were all taken, but not up to the end of the header or of a line
-pub IsUnfinished-from_run : (lexemes : List Lexeme) (state : SolutionState) → run initial (symbols_of lexemes) ≡ Some state → (state.stage ≡ Ended → ⊥)
-    → IsUnfinished SpellsSolution lexemes
-IsUnfinished-from_run lexemes state e open_stage = record {
-  begins = Begins-from_run (symbols_of lexemes) state e;
-  partial = λ raw text.
-      let same : Some state ≡ Some (at Ended raw.greatest raw.lines) = sym e ∙ run_text (symbols_of lexemes) raw text in
-      let states : state ≡ at Ended raw.greatest raw.lines = cc in
-      open_stage (ap (λ (next : SolutionState). next.stage) states);
-}
-
--- a token that is taken goes on with the run
-pub run_taken : (lexemes : List Lexeme) (lexeme : Lexeme) (state : SolutionState) → run initial (symbols_of lexemes) ≡ Some state
-    → run initial (symbols_of (lexemes ++ lexeme ∷ [])) ≡ step state (symbol lexeme.kind lexeme.value lexeme.text)
-run_taken lexemes lexeme state e =
-    ap (run initial) (map-append (λ (one : Lexeme). symbol one.kind one.value one.text) lexemes (lexeme ∷ []))
-    ∙ run_push initial state (symbols_of lexemes) (symbol lexeme.kind lexeme.value lexeme.text) e
-
--- a token that is not taken is the first wrong one
-pub IsWrongAt-refused : (lexemes : List Lexeme) (lexeme : Lexeme) (state : SolutionState) → run initial (symbols_of lexemes) ≡ Some state
-    → step state (symbol lexeme.kind lexeme.value lexeme.text) ≡ None
-    → IsWrongAt SpellsSolution (lexemes ++ lexeme ∷ []) lexeme.span.start
-IsWrongAt-refused lexemes lexeme state e none = record {
-  front = lexemes;
-  wrong = lexeme;
-  rest = [];
-  split = refl;
-  begins = Begins-from_run (symbols_of lexemes) state e;
-  ends = λ begins. run_begins (symbols_of (lexemes ++ lexeme ∷ [])) begins (run_taken lexemes lexeme state e ∙ none);
-  there = refl;
+-- the automaton decides the grammar
+pub decides_solutions : Decides SpellsSolution step initial IsEnded raw_of
+decides_solutions = record {
+  reads = reads;
+  text = SpellsSolution-from_run;
+  completes = λ state. completes state.stage state.greatest state.lines;
+  ends = λ state. ended_or_open state.stage;
 }

@@ -1,5 +1,5 @@
 -- One token more of a solution text.
-use Rattle.std.proofs.Common.{◌≡◌, ℕ, Bool, true, false, Option, Some, None, List, [], ◌∷◌, ◌++◌, refl, ap, sym, ◌∙◌, subst, append_assoc}
+use Rattle.std.proofs.Common.{◌≡◌, ℕ, Bool, true, false, Option, Some, None, List, [], ◌∷◌, ◌++◌, refl, ap, sym, ◌∙◌, subst}
 use Rattle.std.specs.Prelude.{is_some, option_map}
 use Rattle.omega_text.specs.Cut.{Follows}
 use Rattle.omega_text.specs.Lexeme.{Lexeme}
@@ -12,11 +12,12 @@ use Rattle.omega_pg.specs.SolutionLines.{AreJudged}
 use Rattle.omega_pg.specs.SolutionReading.{GoesOn, IsSolutionReadTo, Keeps, TakesOrRefuses}
 use Rattle.omega_pg.specs.SolutionText.{SpellsSolution}
 use Rattle.omega_pg.specs.Symbols.{symbol}
-use Rattle.omega_pg.specs.Syntax.{IsWrongAt}
 use Rattle.omega_pg.specs.declared.solution_lines.SolutionLines.{SolutionLines}
 use Rattle.omega_pg.specs.declared.solution_stage.SolutionStage.{SolutionStage}
 use Rattle.omega_pg.specs.declared.solution_stage.SolutionStage.TheVariants.{Chosen, Ended, Identifier, Number, Start, Winner, Word}
-use Rattle.omega_pg.proofs.SolutionGrammar.{IsWrongAt-refused, run_taken}
+use Rattle.omega_pg.proofs.Deciding.{IsWrongAt-refused, run_taken}
+use Rattle.omega_pg.proofs.Fronts.{IsWrongAt-more}
+use Rattle.omega_pg.proofs.SolutionGrammar.{decides_solutions}
 use Rattle.omega_pg.proofs.Tokens.{Cuts-push}
 
 -- a number changes the stage alone
@@ -92,18 +93,6 @@ line_ends nodes state stage greatest id winner successor lines lines' is keeps a
   record { same_stage = refl; same_greatest = keeps.same_greatest; judged = added state.lines keeps.judged },
 )
 
--- it stays wrong, whatever follows
-IsWrongAt-more : (lexemes more : List Lexeme) (place : ℕ) → IsWrongAt SpellsSolution lexemes place → IsWrongAt SpellsSolution (lexemes ++ more) place
-IsWrongAt-more lexemes more place there = record {
-  front = there.front;
-  wrong = there.wrong;
-  rest = there.rest ++ more;
-  split = ap (λ list. list ++ more) there.split ∙ append_assoc there.front (there.wrong ∷ there.rest) more;
-  begins = there.begins;
-  ends = there.ends;
-  there = there.there;
-}
-
 -- a token that is not taken is noted as the first wrong one
 pub read_refused : (source : List ℕ) (place : ℕ) (wrong : Option ℕ) (nodes : List Node) (stage stage' : SolutionStage) (greatest greatest' : ℕ) (lines lines' : SolutionLines) (lexeme : Lexeme) (taken : Bool)
     → IsSolutionReadTo source place wrong nodes stage greatest lines → Follows source place lexeme → is_some wrong ≡ false
@@ -118,7 +107,7 @@ read_refused source place None nodes stage stage' greatest greatest' lines lines
 read_refused source place None nodes stage stage' greatest greatest' lines lines' lexeme false read follows none takes was = record {
   lexemes = read.lexemes ++ lexeme ∷ [];
   cuts = Cuts-push source 0 place read.lexemes lexeme read.cuts follows;
-  so_far = IsWrongAt-refused read.lexemes lexeme read.so_far.0 read.so_far.1 (takes read.so_far.0 read.so_far.2);
+  so_far = IsWrongAt-refused decides_solutions read.lexemes lexeme read.so_far.0 read.so_far.1 (takes read.so_far.0 read.so_far.2);
 }
 
 -- a token that is taken leads to the next state
@@ -137,7 +126,7 @@ read_taken source place None nodes stage stage' greatest greatest' lines lines' 
     record {
       lexemes = read.lexemes ++ lexeme ∷ [];
       cuts = Cuts-push source 0 place read.lexemes lexeme read.cuts follows;
-      so_far = (next.0, run_taken read.lexemes lexeme read.so_far.0 read.so_far.1 ∙ next.1, next.2);
+      so_far = (next.0, run_taken decides_solutions read.lexemes lexeme read.so_far.0 read.so_far.1 ∙ next.1, next.2);
     }
 
 -- behind a wrong token the others are cut
@@ -148,5 +137,5 @@ read_past source place None nodes stage greatest lines lexeme read follows none 
 read_past source place (Some noted) nodes stage greatest lines lexeme read follows none = record {
   lexemes = read.lexemes ++ lexeme ∷ [];
   cuts = Cuts-push source 0 place read.lexemes lexeme read.cuts follows;
-  so_far = IsWrongAt-more read.lexemes (lexeme ∷ []) noted read.so_far;
+  so_far = IsWrongAt-more SpellsSolution read.lexemes (lexeme ∷ []) noted read.so_far;
 }

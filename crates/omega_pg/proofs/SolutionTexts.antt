@@ -14,7 +14,8 @@ use Rattle.omega_pg.specs.declared.solution.Solution.{Solution}
 use Rattle.omega_pg.specs.declared.solution_lines.SolutionLines.{SolutionLines}
 use Rattle.omega_pg.specs.declared.solution_stage.SolutionStage.{SolutionStage}
 use Rattle.omega_pg.specs.declared.solution_stage.SolutionStage.TheVariants.{Ended}
-use Rattle.omega_pg.proofs.SolutionGrammar.{IsUnfinished-from_run, SpellsSolution-from_run}
+use Rattle.omega_pg.proofs.Deciding.{IsUnfinished-from_run}
+use Rattle.omega_pg.proofs.SolutionGrammar.{SpellsSolution-from_run, decides_solutions}
 
 -- a text whose tokens do not lead to the end of the header or of a line ends too early
 pub solution_early : (source : List ℕ) (nodes : List Node) (stage : SolutionStage) (greatest : ℕ) (lines : SolutionLines) → length source ≤ MOST_TEXT
@@ -25,7 +26,7 @@ solution_early source nodes stage greatest lines short read open_stage =
       record {
         lexemes = read.lexemes;
         cut = read.cut;
-        fault_there = inr (IsUnfinished-from_run read.lexemes read.state read.runs (λ e. open_stage (read.keeps.same_stage ∙ e)), refl);
+        fault_there = inr (IsUnfinished-from_run decides_solutions read.lexemes read.state read.runs (λ e. open_stage (read.keeps.same_stage ∙ e)), refl);
       },
     )
 

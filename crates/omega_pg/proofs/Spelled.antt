@@ -11,10 +11,7 @@ use Rattle.omega_pg.specs.Grammar.{RawGame, SpellsGame, header_symbols, name_sym
 use Rattle.omega_pg.specs.Symbols.{Symbol, comma, number, player_number, semicolon}
 use Rattle.omega_pg.specs.declared.stage.Stage.{Stage}
 use Rattle.omega_pg.specs.declared.stage.Stage.TheVariants.{Ended, Identifier, Listed, Owner, Priority}
-use Rattle.omega_pg.specs.Syntax.{Begins}
 use Rattle.omega_pg.proofs.Changes.{with_last_push}
-use Rattle.omega_pg.proofs.Runs.{run-append}
-use Rattle.std.specs.Prelude.{option_and_then}
 
 -- a state with these parts
 abbrev pub at : Stage → Option ℕ → List NodeSpec → Bool → State
@@ -109,27 +106,3 @@ pub run_text : (symbols : List Symbol) (raw : RawGame) → SpellsGame symbols ra
 run_text symbols raw text =
     let found = run_spelling raw.header raw.specs text.specified text.continued in
     record { small = found.small; runs = ap (run initial) text.spelled ∙ found.runs }
-
--- raw texts with the same parts are the same
-raw_same : (h k : Option ℕ) (xs ys : List NodeSpec) → h ≡ k → xs ≡ ys
-    → ◌≡◌ {A = RawGame} (record { header = h; specs = xs }) (record { header = k; specs = ys })
-raw_same h k xs ys e f = cc
-
--- symbols spell at most one raw text
-pub SpellsGame-one : (symbols : List Symbol) (one other : RawGame) → SpellsGame symbols one → SpellsGame symbols other → one ≡ other
-SpellsGame-one symbols one other a b =
-    let first = run_text symbols one a in
-    let second = run_text symbols other b in
-    let same : Some (at Ended one.header one.specs first.small) ≡ Some (at Ended other.header other.specs second.small) = sym first.runs ∙ second.runs in
-    let states : at Ended one.header one.specs first.small ≡ at Ended other.header other.specs second.small = cc in
-    let header : one.header ≡ other.header = ap (λ (state : State). state.header) states in
-    let specs : one.specs ≡ other.specs = ap (λ (state : State). state.specs) states in
-    raw_same one.header other.header one.specs other.specs header specs
-
--- what begins a text is run
-pub run_begins : (symbols : List Symbol) → Begins SpellsGame symbols → run initial symbols ≡ None → ⊥
-run_begins symbols begins none =
-    let found = run_text (symbols ++ begins.0) begins.1 begins.2 in
-    let e : run initial (symbols ++ begins.0) ≡ None = run-append initial symbols begins.0 ∙ ap (option_and_then (λ next. run next begins.0)) none in
-    let clash : Some (at Ended begins.1.header begins.1.specs found.small) ≡ None = sym found.runs ∙ e in
-    cc

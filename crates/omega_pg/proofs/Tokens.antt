@@ -6,7 +6,10 @@ use Rattle.omega_text.specs.Lexeme.{Lexeme}
 use Rattle.omega_pg.specs.Automaton.{State, Takes, step}
 use Rattle.omega_pg.specs.Reading.{IsReadTo}
 use Rattle.omega_pg.specs.Symbols.{symbol}
-use Rattle.omega_pg.proofs.Grammar.{IsWrongAt-more, IsWrongAt-refused, run_taken}
+use Rattle.omega_pg.proofs.Deciding.{IsWrongAt-refused, run_taken}
+use Rattle.omega_pg.proofs.Fronts.{IsWrongAt-more}
+use Rattle.omega_pg.proofs.Grammar.{decides_games}
+use Rattle.omega_pg.specs.Grammar.{SpellsGame}
 
 -- a token that follows makes a cut longer
 pub Cuts-push : (source : List ℕ) (from to : ℕ) (lexemes : List Lexeme) (lexeme : Lexeme)
@@ -24,7 +27,7 @@ read_refused source place None state next lexeme true read follows none takes wa
 read_refused source place None state next lexeme false read follows none takes was = record {
   lexemes = read.lexemes ++ lexeme ∷ [];
   cuts = Cuts-push source 0 place read.lexemes lexeme read.cuts follows;
-  so_far = IsWrongAt-refused read.lexemes lexeme state read.so_far.0 takes;
+  so_far = IsWrongAt-refused decides_games read.lexemes lexeme state read.so_far.0 takes;
 }
 
 -- a token that is taken leads to the next state
@@ -37,7 +40,7 @@ read_taken source place None state next lexeme false read follows none takes was
 read_taken source place None state next lexeme true read follows none takes was = record {
   lexemes = read.lexemes ++ lexeme ∷ [];
   cuts = Cuts-push source 0 place read.lexemes lexeme read.cuts follows;
-  so_far = (run_taken read.lexemes lexeme state read.so_far.0 ∙ takes.0, takes.1);
+  so_far = (run_taken decides_games read.lexemes lexeme state read.so_far.0 ∙ takes.0, takes.1);
 }
 
 -- behind a wrong token the others are cut
@@ -48,5 +51,5 @@ read_past source place None state lexeme read follows none = absurd (let clash :
 read_past source place (Some noted) state lexeme read follows none = record {
   lexemes = read.lexemes ++ lexeme ∷ [];
   cuts = Cuts-push source 0 place read.lexemes lexeme read.cuts follows;
-  so_far = IsWrongAt-more read.lexemes (lexeme ∷ []) noted read.so_far;
+  so_far = IsWrongAt-more SpellsGame read.lexemes (lexeme ∷ []) noted read.so_far;
 }

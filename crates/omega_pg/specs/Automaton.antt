@@ -1,10 +1,11 @@
 -- The grammar of game texts as an automaton over symbols, which keeps what it has read.
-use Rattle.std.specs.Prelude.{◌≡◌, ℕ, ◌<◌, ◌≤◌, ◌==◌, ◌||◌, Bool, true, false, Option, Some, None, List, [], ◌∷◌, ◌++◌, length, nat_lt, option_and_then, option_map, if◌then◌else◌}
+use Rattle.std.specs.Prelude.{◌≡◌, ℕ, ◌<◌, ◌≤◌, ◌==◌, ◌||◌, Bool, true, false, Option, Some, None, List, [], ◌∷◌, ◌++◌, length, nat_lt, option_map, if◌then◌else◌}
 use Rattle.omega_game.specs.Building.{with_last, with_name, with_successor}
 use Rattle.omega_game.specs.declared.limits.TheConstants.{MOST_NUMBER}
 use Rattle.omega_game.specs.declared.node_spec.NodeSpec.{NodeSpec}
 use Rattle.omega_game.specs.declared.player.Player.{Player}
 use Rattle.omega_game.specs.declared.player.Player.TheVariants.{One, Zero}
+use Rattle.omega_pg.specs.Run.{run_by}
 use Rattle.omega_pg.specs.Symbols.{Symbol, comma, name, number, parity, paritysol, semicolon}
 use Rattle.omega_pg.specs.declared.stage.Stage.{Stage}
 use Rattle.omega_pg.specs.declared.stage.Stage.TheVariants.{Comma, Ended, Headed, Identifier, Listed, Named, Number, Owner, Priority, Start, Word}
@@ -92,8 +93,7 @@ step state (name bytes) = after_name state.stage state bytes
 
 -- what symbols make of the state
 abbrev pub run : State → List Symbol → Option State
-run state [] = Some state
-run state (symbol ∷ symbols) = option_and_then (λ next. run next symbols) (step state symbol)
+run = run_by step
 
 -- what a reader may rely on: numbers that are kept are within the limit, and an open specification is there
 abbrev pub IsReadyAt : Stage → List NodeSpec → Type 0

@@ -6,6 +6,7 @@ pub mod Laws
 pub mod Reader
 pub mod Reading
 pub mod Refusing
+pub mod Run
 pub mod Solution
 pub mod SolutionAutomaton
 pub mod SolutionLines

@@ -1,8 +1,9 @@
 -- The grammar of solution texts as an automaton over symbols, which keeps what it has read.
-use Rattle.std.specs.Prelude.{ℕ, Option, Some, None, List, [], ◌∷◌, ◌++◌, option_and_then, option_map}
+use Rattle.std.specs.Prelude.{ℕ, Option, Some, None, List, [], ◌∷◌, ◌++◌, option_map}
 use Rattle.omega_game.specs.declared.player.Player.{Player}
 use Rattle.omega_pg.specs.Automaton.{player_of}
 use Rattle.omega_pg.specs.Solution.{Line}
+use Rattle.omega_pg.specs.Run.{run_by}
 use Rattle.omega_pg.specs.Symbols.{Symbol, comma, name, number, parity, paritysol, semicolon}
 use Rattle.omega_pg.specs.declared.solution_stage.SolutionStage.{SolutionStage}
 use Rattle.omega_pg.specs.declared.solution_stage.SolutionStage.TheVariants.{Chosen, Ended, Identifier, Number, Start, Winner, Word}
@@ -62,8 +63,7 @@ step state (name bytes) = None
 
 -- what symbols make of the state
 abbrev pub run : SolutionState → List Symbol → Option SolutionState
-run state [] = Some state
-run state (symbol ∷ symbols) = option_and_then (λ next. run next symbols) (step state symbol)
+run = run_by step
 
 -- where a number leads
 abbrev pub stage_after_number : SolutionStage → ℕ → Option SolutionStage
