@@ -1,31 +1,13 @@
 -- Lines judged one by one.
-use Rattle.std.proofs.Common.{◌≡◌, ◌≢◌, ℕ, ◌<◌, inr, Bool, true, false, Option, Some, None, IfNone, Result, Ok, Err, OnOk, List, [], ◌∷◌, ◌++◌, length, get_or, refl, ap, sym, ◌∙◌, subst, arith, All, below_more, length-append}
-use Rattle.std.specs.Prelude.{is_some, option_map}
+use Rattle.std.proofs.Common.{◌≡◌, ℕ, ◌<◌, Bool, true, false, Option, Some, None, IfNone, Result, Ok, Err, OnOk, List, [], ◌∷◌, ◌++◌, length, get_or, ap, sym, ◌∙◌, subst, arith, below_more, length-append}
+use Rattle.std.specs.Prelude.{is_some}
 use Rattle.std.proofs.Math.ListN.{get_or-append}
 use Rattle.std.proofs.Math.Seq.{get_or-append_seam}
-use Rattle.std.proofs.lemmas.List.Elements.{All-contains}
-use Rattle.omega_game.specs.Game.{Node, owner_at, successors_at}
+use Rattle.omega_game.specs.Game.{Node, owner_at}
 use Rattle.omega_game.specs.declared.player.Player.{Player}
 use Rattle.omega_game.specs.declared.player.Player.TheVariants.{One, Zero}
-use Rattle.omega_pg.specs.Canonical.{identifier_at}
-use Rattle.omega_pg.specs.Solution.{Line, choice_at, choices_of}
-use Rattle.omega_pg.specs.SolutionLines.{AreJudged, AreSaid, IsKept, IsWrongLine, Says, entry_of, no_line}
-use Rattle.omega_pg.proofs.Solutions.{Chooses-from_choice}
-
--- a successor that no listed place bears is said by no solution
-pub wrong_successor : (nodes : List Node) (v : ℕ) (line : Line) (id : ℕ) → line.successor ≡ Some id
-    → All (λ w. identifier_at nodes w ≢ id) (successors_at nodes v) → IsWrongLine nodes v line
-wrong_successor nodes v line id named others = inr (λ solution fits e.
-    let choices = choices_of solution (owner_at nodes v) in
-    elim (choice_at choices v) as (λ o. choice_at choices v ≡ o → option_map (identifier_at nodes) o ≡ Some id → ⊥) [
-      | None ↦ λ chosen said. (let clash : ◌≡◌ {A = Option ℕ} None (Some id) = said in cc)
-      | Some w ↦ λ chosen said.
-          All-contains (λ w. identifier_at nodes w ≢ id) (successors_at nodes v) w others
-          ((fits.strategies (owner_at nodes v)).listed v w (Chooses-from_choice choices v w chosen))
-          (let same : ◌≡◌ {A = Option ℕ} (Some (identifier_at nodes w)) (Some id) = said in cc)
-    ]
-    refl
-    (ap (λ (one : Line). one.successor) e ∙ named))
+use Rattle.omega_pg.specs.Solution.{Line, no_line}
+use Rattle.omega_pg.specs.SolutionLines.{AreJudged, AreSaid, IsKept, IsWrongLine, Says, entry_of}
 
 -- what is mapped is none where it was
 pub none_mapped : {A B : Type 0} (o : Option A) (p : Option B) (P Q : Type 0) → is_some p ≡ is_some o → (P → Q) → IfNone o P → IfNone p Q

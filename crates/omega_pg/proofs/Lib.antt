@@ -15,10 +15,13 @@ pub mod Places
 pub mod RoundTrip
 pub mod Runs
 pub mod Shown
+pub mod SolutionDecided
 pub mod SolutionGrammar
+pub mod SolutionRoundTrip
 pub mod SolutionSteps
 pub mod SolutionTexts
 pub mod Solutions
+pub mod SolutionsApart
 pub mod Spelled
 pub mod Tokens
 pub mod WellFormed

@@ -29,7 +29,7 @@ pub nothing : AllPass is_white []
 nothing = All-nil (λ b. is_white b ≡ true)
 
 -- a player's number is within the limit
-player_number-le : (player : Player) → player_number player ≤ MOST_NUMBER
+pub player_number-le : (player : Player) → player_number player ≤ MOST_NUMBER
 player_number-le Zero = omega arith
 player_number-le One = omega arith
 

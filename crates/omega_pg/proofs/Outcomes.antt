@@ -2,50 +2,59 @@
 use Rattle.std.proofs.Common.{◌≡◌, ◌≢◌, ◌↔◌, ℕ, zero, suc, ◌<◌, inl, inr, Bool, true, false, Option, Some, None, IfSome, IsSome, List, [], ◌∷◌, length, map, get_or, refl, ap, sym, ◌∙◌, subst, arith}
 use Rattle.std.specs.Prelude.{option_map}
 use Rattle.std.specs.List.{range_with_len}
-use Rattle.std.proofs.lemmas.List.FromFn.{fill_by_all, get_or-map-range_with_len, length-map-range_with_len}
-use Rattle.omega_game.specs.Game.{HasEdge, Node, owner_at}
+use Rattle.std.proofs.lemmas.Bool.{cases_lt}
+use Rattle.std.proofs.lemmas.List.{get_or-map, length-map}
+use Rattle.std.proofs.lemmas.List.FromFn.{fill_by_all}
+use Rattle.omega_game.specs.Game.{HasEdge, Node, no_node, owner_at}
 use Rattle.omega_game.specs.Winning.{Chooses}
 use Rattle.omega_game.specs.declared.player.Player.{Player}
 use Rattle.omega_game.specs.declared.player.Player.TheVariants.{One, Zero}
+use Rattle.omega_pg.specs.BadSolution.{IsNoSolution}
 use Rattle.omega_pg.specs.Canonical.{greatest_identifier, identifier_at}
-use Rattle.omega_pg.specs.Solution.{IsSolution, Line, RawSolution, choice_at, choices_of, line_at, raw_solution}
-use Rattle.omega_pg.specs.SolutionLines.{AreJudged, AreSaid, IsKept, entry_of, no_line}
+use Rattle.omega_pg.specs.Solution.{IsSolution, Line, RawSolution, choice_at, choices_of, line_at, no_line, raw_solution}
+use Rattle.omega_pg.specs.SolutionLines.{AreJudged, AreSaid, IsKept, entry_of}
 use Rattle.omega_pg.specs.declared.solution.Solution.{Solution}
-
--- no solution is written so
-abbrev pub IsNoSolution : List Node → RawSolution → Type 0
-IsNoSolution nodes raw = (solution : Solution) → IsSolution nodes solution → raw ≡ raw_solution nodes solution → ⊥
 
 -- a header with another number
 pub other_number : (nodes : List Node) (greatest : ℕ) (lines : List Line) → greatest_identifier nodes ≢ greatest
     → IsNoSolution nodes (record { greatest = greatest; lines = lines })
-other_number nodes greatest lines other solution fits e = other (sym (ap (λ (raw : RawSolution). raw.greatest) e))
-
--- the lines of a solution are as many as the nodes
-lines_count : (nodes : List Node) (greatest : ℕ) (lines : List Line) (solution : Solution)
-    → ◌≡◌ {A = RawSolution} (record { greatest = greatest; lines = lines }) (raw_solution nodes solution) → length lines ≡ length nodes
-lines_count nodes greatest lines solution e =
-    ap (λ (raw : RawSolution). length raw.lines) e ∙ length-map-range_with_len (line_at nodes solution) 0 (length nodes)
+other_number nodes greatest lines other = inl (λ e. other (sym e))
 
 -- another number of lines
+other_length : (nodes : List Node) (greatest : ℕ) (lines : List Line) → length lines ≢ length nodes
+    → IsNoSolution nodes (record { greatest = greatest; lines = lines })
+other_length nodes greatest lines other =
+    inr (inl (λ e. other
+    (sym (length-map lines (λ (line : Line). line.identifier)) ∙ ap length e ∙ length-map nodes (λ (node : Node). node.identifier))))
+
 pub other_count : (nodes : List Node) (greatest : ℕ) (lines : List Line) (good : Bool) (winners : List Player) (zeros ones : List (Option ℕ))
     → good ≡ true → length winners ≢ length nodes → AreJudged nodes lines good winners zeros ones → IsNoSolution nodes (record { greatest = greatest; lines = lines })
-other_count nodes greatest lines false winners zeros ones e other judged solution fits same = (let clash : false ≡ true = e in cc)
-other_count nodes greatest lines true winners zeros ones e other judged solution fits same =
-    other (judged.winners_count ∙ lines_count nodes greatest lines solution same)
+other_count nodes greatest lines false winners zeros ones e other judged = absurd (let clash : false ≡ true = e in cc)
+other_count nodes greatest lines true winners zeros ones e other judged =
+    other_length nodes greatest lines (λ same. other (judged.winners_count ∙ same))
+
+-- another identifier in some line
+other_identifier : (nodes : List Node) (greatest : ℕ) (lines : List Line) (v : ℕ) → v < length lines → v < length nodes
+    → (get_or lines v no_line).identifier ≢ identifier_at nodes v → IsNoSolution nodes (record { greatest = greatest; lines = lines })
+other_identifier nodes greatest lines v h k other =
+    inr (inl (λ e. other
+    (sym (get_or-map (λ (line : Line). line.identifier) lines v no_line 0 h) ∙ ap (λ list. get_or list v 0) e
+    ∙ get_or-map (λ (node : Node). node.identifier) nodes v no_node 0 k)))
 
 -- a wrong line
 pub wrong_line : (nodes : List Node) (greatest : ℕ) (lines : List Line) (good : Bool) (winners : List Player) (zeros ones : List (Option ℕ))
     → good ≡ false → AreJudged nodes lines good winners zeros ones → IsNoSolution nodes (record { greatest = greatest; lines = lines })
-wrong_line nodes greatest lines true winners zeros ones e judged solution fits same = (let clash : true ≡ false = e in cc)
-wrong_line nodes greatest lines false winners zeros ones e judged solution fits same =
-    let count = lines_count nodes greatest lines solution same in
-    elim judged.wrong as (λ _. ⊥) [
-      | inl past ↦ absurd (omega (arith, past, judged.inside, count))
-      | inr none ↦ none solution fits
-          (sym (ap (λ (raw : RawSolution). get_or raw.lines judged.place no_line) same
-          ∙ get_or-map-range_with_len (line_at nodes solution) 0 (length nodes) judged.place judged.place no_line
-          (omega (arith, judged.inside, count)) (omega arith)))
+wrong_line nodes greatest lines true winners zeros ones e judged = absurd (let clash : true ≡ false = e in cc)
+wrong_line nodes greatest lines false winners zeros ones e judged =
+    elim (cases_lt judged.place (length nodes)) as (λ _. IsNoSolution nodes (record { greatest = greatest; lines = lines })) [
+      | inr past ↦ other_length nodes greatest lines (λ same. omega (arith, judged.inside))
+      | inl inside ↦ elim judged.wrong as (λ _. IsNoSolution nodes (record { greatest = greatest; lines = lines })) [
+        | inl past ↦ absurd (omega arith)
+        | inr wrong ↦ elim wrong as (λ _. IsNoSolution nodes (record { greatest = greatest; lines = lines })) [
+          | inl other ↦ other_identifier nodes greatest lines judged.place judged.inside inside other
+          | inr successor ↦ inr (inr (record { place = judged.place; inside = judged.inside; wrong = successor }))
+        ]
+      ]
     ]
 
 -- a place that is chosen has a choice there

@@ -1,12 +1,10 @@
 -- The places of tokens, and of a syntax fault among them.
 use Rattle.std.proofs.Common.{ℕ, ◌<◌, ◌≤◌, ◌↔◌, inl, inr, List, [], ◌∷◌, ◌++◌, length, refl, ap, ◌∙◌, subst, append_assoc, arith}
-use Rattle.omega_text.specs.Cut.{Cuts}
+use Rattle.omega_text.specs.Cut.{Cuts, IsCut}
 use Rattle.omega_text.specs.Laws.{CutsAreOne}
 use Rattle.omega_text.specs.Lexeme.{Lexeme}
-use Rattle.omega_pg.specs.Grammar.{SpellsGame}
-use Rattle.omega_pg.specs.Laws.{SyntaxFaultsAreFirst}
-use Rattle.omega_pg.specs.Symbols.{symbols_of}
-use Rattle.omega_pg.specs.Syntax.{Begins, IsWrongAt}
+use Rattle.omega_pg.specs.Symbols.{Symbol, symbols_of}
+use Rattle.omega_pg.specs.Syntax.{Begins, IsMisplaced, IsWrongAt}
 use Rattle.omega_pg.proofs.Faults.{misplaced_in}
 use Rattle.omega_pg.proofs.Fronts.{Begins-through, cases_split}
 
@@ -28,47 +26,50 @@ within : (source : List ℕ) (from to : ℕ) (front rest : List Lexeme) (token :
 within source from to [] rest token cuts = omega (arith, cuts.0.token.nonempty, cuts.0.within)
 within source from to (one ∷ front) rest token cuts = within source one.span.end to front rest token cuts.1
 
--- a text of the grammar begins through a token exactly if it stands before the first wrong one
-first_wrong : (source : List ℕ) (to place : ℕ) (front rest : List Lexeme) (token : Lexeme)
-    → Cuts source 0 (front ++ token ∷ rest) to → IsWrongAt SpellsGame (front ++ token ∷ rest) place
-    → Begins SpellsGame (symbols_of (front ++ token ∷ [])) ↔ (token.span.start < place)
-first_wrong source to place front rest token cuts wrong =
-    elim (cases_split front wrong.front token wrong.wrong rest wrong.rest wrong.split)
-    as (λ _. Begins SpellsGame (symbols_of (front ++ token ∷ [])) ↔ (token.span.start < place)) [
-      | inl same ↦ (
-        (λ begins. absurd (wrong.ends (subst (λ list. Begins SpellsGame (symbols_of list))
-            (ap (λ list. list ++ token ∷ []) same.0 ∙ ap (λ one. wrong.front ++ one ∷ []) same.1) begins))),
-        (λ before. absurd (omega (arith, wrong.there, ap (λ (one : Lexeme). one.span.start) same.1))),
-      )
-      | inr on ↦ elim on as (λ _. Begins SpellsGame (symbols_of (front ++ token ∷ [])) ↔ (token.span.start < place)) [
-        | inl ahead ↦ (
-          (λ begins. let before : token.span.start < wrong.wrong.span.start =
-              ordered source 0 to front ahead.0 wrong.rest token wrong.wrong
-              (subst (λ list. Cuts source 0 list to)
-              (wrong.split ∙ ap (λ list. list ++ wrong.wrong ∷ wrong.rest) ahead.1 ∙ append_assoc front (token ∷ ahead.0) (wrong.wrong ∷ wrong.rest)) cuts)
-              in omega (arith, wrong.there)),
-          (λ before. Begins-through SpellsGame front wrong.front token ahead wrong.begins),
+module _ {Raw : Type 0} (Grammar : List Symbol → Raw → Type 0) where
+  -- a text of the grammar begins through a token exactly if it stands before the first wrong one
+  first_wrong : (source : List ℕ) (to place : ℕ) (front rest : List Lexeme) (token : Lexeme)
+      → Cuts source 0 (front ++ token ∷ rest) to → IsWrongAt Grammar (front ++ token ∷ rest) place
+      → Begins Grammar (symbols_of (front ++ token ∷ [])) ↔ (token.span.start < place)
+  first_wrong source to place front rest token cuts wrong =
+      elim (cases_split front wrong.front token wrong.wrong rest wrong.rest wrong.split)
+      as (λ _. Begins Grammar (symbols_of (front ++ token ∷ [])) ↔ (token.span.start < place)) [
+        | inl same ↦ (
+          (λ begins. absurd (wrong.ends (subst (λ list. Begins Grammar (symbols_of list))
+              (ap (λ list. list ++ token ∷ []) same.0 ∙ ap (λ one. wrong.front ++ one ∷ []) same.1) begins))),
+          (λ before. absurd (omega (arith, wrong.there, ap (λ (one : Lexeme). one.span.start) same.1))),
         )
-        | inr past ↦ (
-          (λ begins. absurd (wrong.ends (Begins-through SpellsGame wrong.front (front ++ token ∷ []) wrong.wrong
-              (past.0 ++ token ∷ [], ap (λ list. list ++ token ∷ []) past.1 ∙ append_assoc wrong.front (wrong.wrong ∷ past.0) (token ∷ [])) begins))),
-          (λ before. let after : wrong.wrong.span.start < token.span.start =
-              ordered source 0 to wrong.front past.0 rest wrong.wrong token
-              (subst (λ list. Cuts source 0 list to)
-              (ap (λ list. list ++ token ∷ rest) past.1 ∙ append_assoc wrong.front (wrong.wrong ∷ past.0) (token ∷ rest)) cuts)
-              in absurd (omega (arith, wrong.there))),
+        | inr on ↦ elim on as (λ _. Begins Grammar (symbols_of (front ++ token ∷ [])) ↔ (token.span.start < place)) [
+          | inl ahead ↦ (
+            (λ begins. let before : token.span.start < wrong.wrong.span.start =
+                ordered source 0 to front ahead.0 wrong.rest token wrong.wrong
+                (subst (λ list. Cuts source 0 list to)
+                (wrong.split ∙ ap (λ list. list ++ wrong.wrong ∷ wrong.rest) ahead.1 ∙ append_assoc front (token ∷ ahead.0) (wrong.wrong ∷ wrong.rest)) cuts)
+                in omega (arith, wrong.there)),
+            (λ before. Begins-through Grammar front wrong.front token ahead wrong.begins),
+          )
+          | inr past ↦ (
+            (λ begins. absurd (wrong.ends (Begins-through Grammar wrong.front (front ++ token ∷ []) wrong.wrong
+                (past.0 ++ token ∷ [], ap (λ list. list ++ token ∷ []) past.1 ∙ append_assoc wrong.front (wrong.wrong ∷ past.0) (token ∷ [])) begins))),
+            (λ before. let after : wrong.wrong.span.start < token.span.start =
+                ordered source 0 to wrong.front past.0 rest wrong.wrong token
+                (subst (λ list. Cuts source 0 list to)
+                (ap (λ list. list ++ token ∷ rest) past.1 ∙ append_assoc wrong.front (wrong.wrong ∷ past.0) (token ∷ rest)) cuts)
+                in absurd (omega (arith, wrong.there))),
+          )
+        ]
+      ]
+
+  -- and exactly if it stands before the place of a syntax fault
+  pub faults_first : CutsAreOne → (source : List ℕ) (place : ℕ) (front rest : List Lexeme) (token : Lexeme)
+      → IsMisplaced Grammar source place → IsCut source (front ++ token ∷ rest)
+      → Begins Grammar (symbols_of (front ++ token ∷ [])) ↔ (token.span.start < place)
+  faults_first one source place front rest token misplaced cut =
+      elim (misplaced_in Grammar one source (front ++ token ∷ rest) place cut misplaced)
+      as (λ _. Begins Grammar (symbols_of (front ++ token ∷ [])) ↔ (token.span.start < place)) [
+        | inl wrong ↦ first_wrong source cut.end place front rest token cut.cuts wrong
+        | inr unfinished ↦ (
+          (λ begins. let before : token.span.start < length source = within source 0 cut.end front rest token cut.cuts in omega (arith, unfinished.1)),
+          (λ before. Begins-through Grammar front (front ++ token ∷ rest) token (rest, refl) unfinished.0.begins),
         )
       ]
-    ]
-
--- and exactly if it stands before the place of a syntax fault
-pub faults_first : CutsAreOne → SyntaxFaultsAreFirst
-faults_first one source place front rest token refused cut =
-    elim (misplaced_in SpellsGame one source (front ++ token ∷ rest) place cut refused.1)
-    as (λ _. Begins SpellsGame (symbols_of (front ++ token ∷ [])) ↔ (token.span.start < place)) [
-      | inl wrong ↦ first_wrong source cut.end place front rest token cut.cuts wrong
-      | inr unfinished ↦ (
-        (λ begins. let before : token.span.start < length source = within source 0 cut.end front rest token cut.cuts in omega (arith, unfinished.1)),
-        (λ before. Begins-through SpellsGame front (front ++ token ∷ rest) token (rest, refl) unfinished.0.begins),
-      )
-    ]

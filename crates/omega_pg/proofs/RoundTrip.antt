@@ -16,7 +16,7 @@ use Rattle.omega_pg.proofs.Lines.{text_written}
 use Rattle.omega_pg.proofs.Listed.{successors_are_places}
 
 -- an identifier of a game fits
-identifier_fits : (nodes : List Node) (v : ℕ) → IsWithinLimits nodes → v < length nodes → identifier_at nodes v ≤ MOST_NUMBER
+pub identifier_fits : (nodes : List Node) (v : ℕ) → IsWithinLimits nodes → v < length nodes → identifier_at nodes v ≤ MOST_NUMBER
 identifier_fits nodes v limits inside = (limits.writable v no_node inside).identifier
 
 -- a node of a game is specified well

@@ -1,4 +1,5 @@
 pub mod Automaton
+pub mod BadSolution
 pub mod Building
 pub mod Canonical
 pub mod Grammar
@@ -9,6 +10,7 @@ pub mod Refusing
 pub mod Run
 pub mod Solution
 pub mod SolutionAutomaton
+pub mod SolutionLaws
 pub mod SolutionLines
 pub mod SolutionReading
 pub mod SolutionText

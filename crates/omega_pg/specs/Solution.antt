@@ -34,6 +34,10 @@ pub record Line : Type 0 where
   pub winner : Player
   pub successor : Option ℕ
 
+-- what stands past the end of lines
+abbrev pub no_line : Line
+no_line = record { identifier = 0; winner = Zero; successor = None }
+
 -- a solution text as it is written: the number of its header, and its lines
 pub record RawSolution : Type 0 where
   pub greatest : ℕ

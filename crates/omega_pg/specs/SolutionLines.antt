@@ -1,18 +1,15 @@
 -- What lines say of a game, and how they are judged one by one.
-use Rattle.std.specs.Prelude.{◌≡◌, ◌↔◌, ℕ, ◌<◌, ◌≤◌, ◌⊎◌, Bool, true, false, Option, None, IfSome, IsSome, List, length, option_map, slice_index_or, Result, Ok, Err}
+use Rattle.std.specs.Prelude.{◌≡◌, ◌≢◌, ◌↔◌, ℕ, ◌<◌, ◌≤◌, ◌⊎◌, Bool, true, false, Option, None, IfSome, IsSome, List, length, option_map, slice_index_or, Result, Ok, Err}
 use Rattle.omega_game.specs.Game.{HasEdge, Node, owner_at}
 use Rattle.omega_game.specs.declared.player.Player.{Player}
 use Rattle.omega_game.specs.declared.player.Player.TheVariants.{One, Zero}
+use Rattle.omega_pg.specs.BadSolution.{IsNoSolution, IsWrongSuccessor}
 use Rattle.omega_pg.specs.Canonical.{identifier_at}
 use Rattle.omega_text.specs.declared.refusal.Refusal.{Refusal}
 use Rattle.omega_text.specs.declared.refusal.Refusal.TheVariants.{Task}
 use Rattle.omega_text.specs.declared.refusal.task.TaskFault.TheVariants.{BadSolution}
-use Rattle.omega_pg.specs.Solution.{IsSolution, Line, RawSolution, line_at, raw_solution}
+use Rattle.omega_pg.specs.Solution.{IsSolution, Line, RawSolution, no_line, raw_solution}
 use Rattle.omega_pg.specs.declared.solution.Solution.{Solution}
-
--- what stands past the end of lines
-abbrev pub no_line : Line
-no_line = record { identifier = 0; winner = Zero; successor = None }
 
 -- a line says this choice of the node at a place
 pub record Says (nodes : List Node) (v : ℕ) (line : Line) (choice : Option ℕ) : Type 0 where
@@ -22,10 +19,10 @@ pub record Says (nodes : List Node) (v : ℕ) (line : Line) (choice : Option ℕ
   pub chosen : IsSome choice ↔ (owner_at nodes v ≡ line.winner)
   pub listed : IfSome choice (HasEdge nodes v)
 
--- no solution says the line of the node at a place
+-- a line is not that of the node at a place: there is none, or the identifier is another, or the successor is wrong
 abbrev pub IsWrongLine : List Node → ℕ → Line → Type 0
 IsWrongLine nodes v line =
-    (length nodes ≤ v) ⊎ ((solution : Solution) → IsSolution nodes solution → line_at nodes solution v ≡ line → ⊥)
+    (length nodes ≤ v) ⊎ ((line.identifier ≢ identifier_at nodes v) ⊎ IsWrongSuccessor nodes v line.winner line.successor)
 
 -- a choice as an entry of the player's strategy: it is there if the player owns the node
 abbrev pub entry_of : Player → Player → Option ℕ → Option ℕ
@@ -64,4 +61,4 @@ AreJudged nodes lines false winners zero one = HasWrongLine nodes lines
 abbrev pub IsOutcome : List Node → RawSolution → Result Solution Refusal → Type 0
 IsOutcome nodes raw (Ok solution) = IsSolution nodes solution × (raw ≡ raw_solution nodes solution)
 IsOutcome nodes raw (Err refusal) =
-    (refusal ≡ Task BadSolution) × ((solution : Solution) → IsSolution nodes solution → raw ≡ raw_solution nodes solution → ⊥)
+    (refusal ≡ Task BadSolution) × IsNoSolution nodes raw

@@ -6,6 +6,7 @@ use Rattle.omega_text.specs.declared.refusal.Refusal.{Refusal}
 use Rattle.omega_text.specs.declared.refusal.Refusal.TheVariants.{Automaton, Game, Io, Memory, Task, Text}
 use Rattle.omega_text.specs.declared.refusal.task.TaskFault.TheVariants.{BadSolution}
 use Rattle.omega_game.specs.Game.{Node}
+use Rattle.omega_pg.specs.BadSolution.{IsNoSolution}
 use Rattle.omega_pg.specs.Solution.{IsSolution, Line, RawSolution, raw_solution}
 use Rattle.omega_pg.specs.Symbols.{Symbol, number, paritysol, player_number, semicolon}
 use Rattle.omega_pg.specs.Syntax.{IsTextFault, Writes}
@@ -36,7 +37,7 @@ pub record IsBadSolution (nodes : List Node) (source : List ℕ) : Type 0 where
   pub short : length source ≤ MOST_TEXT
   pub raw : RawSolution
   pub writes : Writes SpellsSolution source raw
-  pub wrong : (solution : Solution) → IsSolution nodes solution → raw ≡ raw_solution nodes solution → ⊥
+  pub wrong : IsNoSolution nodes raw
 
 -- the refusal of a solution text of the game
 abbrev pub IsSolutionRefusal : List Node → List ℕ → Refusal → Type 0

@@ -5,6 +5,7 @@ mod laws;
 mod reader;
 mod reading;
 mod solution;
+mod solution_laws;
 mod solution_lines;
 mod solution_reader;
 mod solution_reading;
@@ -20,6 +21,11 @@ pub use laws::{
 pub use omega_game::{Game, GameFault, Player, Refusal, Seq, Strategy, TaskFault};
 pub use reading::read_game;
 pub use solution::Solution;
+pub use solution_laws::{
+    reasons_are_exact, solution_refusals_are_one, solution_syntax_faults_are_first,
+    solution_texts_are_read_or_refused, solutions_are_not_refused, solutions_of_texts_are_one,
+    written_solutions_are_read,
+};
 pub use solution_reading::read_solution;
 pub use solution_writing::write_solution;
 pub use writing::write_game;

@@ -1,7 +1,7 @@
-use Rattle.std.proofs.Common.{◌<◌, ◌≢◌, length, sym}
+use Rattle.std.proofs.Common.{inr, ◌<◌, ◌≢◌, length, sym}
 use Rattle.std.proofs.lemmas.List.Elements.{All-same}
 use Rattle.omega_pg.specs.Canonical.{identifier_at}
-use Rattle.omega_pg.proofs.Judging.{none_mapped, wrong_successor}
+use Rattle.omega_pg.proofs.Judging.{none_mapped}
 use Rattle.omega_pg.proofs.Listed.{successors_are_places}
 use Rattle.omega_pg.proofs.solution_lines.said_choice.Goals as goal
 
@@ -12,6 +12,6 @@ place_with-requires c =
 pub returns-in-Some-clause-wrong : goal.returns-in-Some-clause-wrong
 returns-in-Some-clause-wrong c =
     none_mapped c.place_with.result c.map.result _ _ c.map.ensures.variant
-    (λ others. wrong_successor c.args.game.now c.args.place _ c.in-Some.chosen c.in-Some.is
-    (All-same (λ w. identifier_at c.args.game.now w ≢ c.in-Some.chosen) _ _ (sym c.successors.ensures) others))
+    (λ others. inr (inr (rw c.in-Some.is
+    (inr (All-same (λ w. identifier_at c.args.game.now w ≢ c.in-Some.chosen) _ _ (sym c.successors.ensures) others)))))
     c.place_with.ensures.none
