@@ -1,3 +1,5 @@
+mod solutions;
+
 use super::*;
 use omega_text::TextFault;
 use std::alloc::Global;
@@ -121,39 +123,6 @@ fn canonical_game_texts(rt: HostRuntime) {
         match canon(rt.alloc(), text) {
             Ok(found) => assert_eq!(rt; found.as_slice(), want),
             Err(refusal) => assert!(rt; false, "{refusal:?}"),
-        }
-    }
-}
-
-#[test]
-fn solution_texts(rt: HostRuntime) {
-    let game = b"0 0 0 1,2; 1 1 1 0; 2 2 1 0;".as_slice();
-    let bad = Refusal::Task(TaskFault::BadSolution);
-    match solved(rt.alloc(), game, b"paritysol 2; 0 0 2; 1 0; 2 0;") {
-        Ok(found) => assert_eq!(rt;
-            found.as_slice(),
-            b"paritysol 2;\n0 0 2;\n1 0;\n2 0;\n".as_slice()
-        ),
-        Err(refusal) => assert!(rt; false, "{refusal:?}"),
-    }
-    let rows = [
-        (b"paritysol 2; 0 0; 1 0; 2 0;".as_slice(), bad),
-        (b"paritysol 3; 0 0 2; 1 0; 2 0;".as_slice(), bad),
-        (b"paritysol 2; 0 0 2; 2 0; 1 0;".as_slice(), bad),
-        (b"paritysol 2; 0 0 0; 1 0; 2 0;".as_slice(), bad),
-        (b"paritysol 2; 0 1 2; 1 0; 2 0;".as_slice(), bad),
-        (b"paritysol 2; 0 0 2; 1 0;".as_slice(), bad),
-        (b"paritysol 2;".as_slice(), bad),
-        (b"paritysol 2; 0 0 2; 1 0; 2 0; 3 0;".as_slice(), bad),
-        (b"paritysol 2; 0 2 2;".as_slice(), syntax(15)),
-        (b"paritysol 2; 0 0 2".as_slice(), syntax(18)),
-        (b"parity 2;".as_slice(), syntax(0)),
-        (b"paritysol 2; 0 0 2 2; 01".as_slice(), number(22)),
-    ];
-    for (text, want) in rows {
-        match solved(rt.alloc(), game, text) {
-            Ok(_found) => assert!(rt; false),
-            Err(refusal) => assert_eq!(rt; refusal, want),
         }
     }
 }
