@@ -22,13 +22,13 @@ use Rattle.omega_tool.proofs.Places.{Contains-places_from, IsStrictlyIncreasing-
 -- ---- the places won, and the choices printed
 
 -- the places won are those whose flag is true
-Contains-won : (won : List Bool) (v : ℕ) → Contains (places_from 0 won) v → slice_get won v ≡ Some true
+pub Contains-won : (won : List Bool) (v : ℕ) → Contains (places_from 0 won) v → slice_get won v ≡ Some true
 Contains-won won v there =
     let found = places_from-true 0 won v there in
     let place : found.0 ≡ v = omega (arith, found.1) in
     subst (λ (i : ℕ). slice_get won i ≡ Some true) place found.2
 
-won-Contains : (won : List Bool) (v : ℕ) → slice_get won v ≡ Some true → Contains (places_from 0 won) v
+pub won-Contains : (won : List Bool) (v : ℕ) → slice_get won v ≡ Some true → Contains (places_from 0 won) v
 won-Contains won v e =
     let place : 0 + v ≡ v = omega arith in
     subst (Contains (places_from 0 won)) place (Contains-places_from 0 won v e)
@@ -127,20 +127,20 @@ right_for nodes player state budget won choices output en ep narrow within reach
 -- ---- refusals
 
 -- what refuses the part of a node refuses the solving from it
-pub refused-part : (game : List Node) (player : Player) (identifier budget place : ℕ) (part : List Node) (refusal : Refusal)
-    → IsNamed game identifier place → IsPart game place part → IsGameRefusal part player None budget refusal
-    → IsGameRefusal game player (Some identifier) budget refusal
-refused-part game player identifier budget place part (Task UnknownNode) named reached h = absurd h
-refused-part game player identifier budget place part (Task TooWide) named reached h =
+pub refused-part : (game : List Node) (asked : Option Player) (identifier budget place : ℕ) (part : List Node) (refusal : Refusal)
+    → IsNamed game identifier place → IsPart game place part → IsGameRefusal part asked None budget refusal
+    → IsGameRefusal game asked (Some identifier) budget refusal
+refused-part game asked identifier budget place part (Task UnknownNode) named reached h = absurd h
+refused-part game asked identifier budget place part (Task TooWide) named reached h =
     record { place = place; named = named; part = part; reached = reached; fault_there = h }
-refused-part game player identifier budget place part (Task Budget) named reached h =
+refused-part game asked identifier budget place part (Task Budget) named reached h =
     record { place = place; named = named; part = part; reached = reached; fault_there = h }
-refused-part game player identifier budget place part (Task BadSolution) named reached h = absurd h
-refused-part game player identifier budget place part (Task NotParity) named reached h = absurd h
-refused-part game player identifier budget place part (Task UniversalBranch) named reached h = absurd h
-refused-part game player identifier budget place part (Task TooManyPropositions) named reached h = absurd h
-refused-part game player identifier budget place part Memory named reached h = tt
-refused-part game player identifier budget place part (Text fault) named reached h = h
-refused-part game player identifier budget place part (Game fault) named reached h = h
-refused-part game player identifier budget place part (Automaton fault) named reached h = h
-refused-part game player identifier budget place part Io named reached h = h
+refused-part game asked identifier budget place part (Task BadSolution) named reached h = absurd h
+refused-part game asked identifier budget place part (Task NotParity) named reached h = absurd h
+refused-part game asked identifier budget place part (Task UniversalBranch) named reached h = absurd h
+refused-part game asked identifier budget place part (Task TooManyPropositions) named reached h = absurd h
+refused-part game asked identifier budget place part Memory named reached h = tt
+refused-part game asked identifier budget place part (Text fault) named reached h = h
+refused-part game asked identifier budget place part (Game fault) named reached h = h
+refused-part game asked identifier budget place part (Automaton fault) named reached h = h
+refused-part game asked identifier budget place part Io named reached h = h

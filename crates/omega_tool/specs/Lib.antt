@@ -8,5 +8,6 @@ pub mod PlayerText
 pub mod RefusalLine
 pub mod Run
 pub mod Show
+pub mod Solution
 pub mod Solve
 pub mod Transfer

@@ -1,4 +1,4 @@
-use Rattle.std.specs.Prelude.{◌≤◌, ◌^◌, IsSome}
+use Rattle.std.specs.Prelude.{◌≤◌, ◌^◌}
 use Rattle.omega_tool.specs.declared.command.Command.{Command}
 use Rattle.omega_tool.specs.declared.command.Command.TheVariants.{Canon, Check, Empty, Game, Show, Solve, Verify}
 use Rattle.omega_tool.specs.declared.command.Format.TheVariants.{Hoa, Pg}
@@ -13,7 +13,7 @@ IsOffered (Check Pg) = Unit {0}
 IsOffered (Check Hoa) = ⊥
 IsOffered (Canon Pg) = Unit {0}
 IsOffered (Canon Hoa) = ⊥
-IsOffered (Solve player from) = IsSome player
+IsOffered (Solve asked from) = Unit {0}
 IsOffered (Verify game) = ⊥
 IsOffered Empty = ⊥
 IsOffered Game = ⊥

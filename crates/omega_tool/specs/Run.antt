@@ -1,5 +1,5 @@
 -- What a command answers for a text, and what a run of it leaves.
-use Rattle.std.specs.Prelude.{List, Option, Some, None, ℕ}
+use Rattle.std.specs.Prelude.{List, Option, ℕ}
 use Rattle.std.specs.Io.KnownBytes.{Appends, Consumes, IsAtEnd}
 use Rattle.omega_text.specs.declared.refusal.Refusal.{Refusal}
 use Rattle.omega_text.specs.declared.refusal.Refusal.TheVariants.{Automaton, Game as GameRefusal, Io, Memory, Task, Text}
@@ -23,8 +23,7 @@ Writes (Check Pg) budget text output = IsCheckAnswer text output
 Writes (Check Hoa) budget text output = ⊥
 Writes (Canon Pg) budget text output = IsCanonAnswer text output
 Writes (Canon Hoa) budget text output = ⊥
-Writes (Solve (Some player) from) budget text output = IsSolveAnswer text player from budget output
-Writes (Solve None from) budget text output = ⊥
+Writes (Solve asked from) budget text output = IsSolveAnswer text asked from budget output
 Writes (Verify game) budget text output = ⊥
 Writes Empty budget text output = ⊥
 Writes Game budget text output = ⊥
@@ -42,8 +41,7 @@ Refuses (Check Pg) budget text refusal = IsRefusal text refusal
 Refuses (Check Hoa) budget text refusal = ⊥
 Refuses (Canon Pg) budget text refusal = IsRefusal text refusal
 Refuses (Canon Hoa) budget text refusal = ⊥
-Refuses (Solve (Some player) from) budget text refusal = IsSolveRefusal text player from budget refusal
-Refuses (Solve None from) budget text refusal = ⊥
+Refuses (Solve asked from) budget text refusal = IsSolveRefusal text asked from budget refusal
 Refuses (Verify game) budget text refusal = ⊥
 Refuses Empty budget text refusal = ⊥
 Refuses Game budget text refusal = ⊥

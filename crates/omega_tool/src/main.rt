@@ -19,6 +19,8 @@ mod reading;
 mod refusal_line;
 mod run;
 mod show;
+#[cfg(test)]
+mod solution_tests;
 mod solve;
 #[cfg(test)]
 mod tests;

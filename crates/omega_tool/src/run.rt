@@ -73,17 +73,13 @@ fn answer(
         Command::Show(Format::Pg) => Ok((Exit::Done, show(alloc, text)?)),
         Command::Check(Format::Pg) => Ok((Exit::Done, check(alloc, text)?)),
         Command::Canon(Format::Pg) => Ok((Exit::Done, canon(alloc, text)?)),
-        Command::Solve {
-            player: Some(player),
-            from,
-        } => {
+        Command::Solve { player, from } => {
             let made = solve::<PackedTable, Worklist>(alloc, text, *player, *from, budget)?;
             Ok((Exit::Done, made))
         }
         Command::Show(Format::Hoa) => unreachable!(),
         Command::Check(Format::Hoa) => unreachable!(),
         Command::Canon(Format::Hoa) => unreachable!(),
-        Command::Solve { player: None, .. } => unreachable!(),
         Command::Verify { .. } => unreachable!(),
         Command::Empty => unreachable!(),
         Command::Game => unreachable!(),

@@ -3,7 +3,6 @@ use crate::exit::Exit;
 use crate::input::{FromRead, Input};
 use crate::output::{Output, ToWrite};
 use crate::run::run_command;
-use omega_game::Player;
 use omega_text::Refusal;
 use std::alloc::Global;
 use std::io;
@@ -12,7 +11,7 @@ use std::test::Fail;
 
 const TEXT: &[u8] = b"0 1 0 1; 1 2 1 0;";
 
-const ANSWER: &[u8] = b"player 0 lifts 1\n0 1;\n1;\n";
+const ANSWER: &[u8] = b"paritysol 1;\n0 0 1;\n1 0;\n";
 
 /// A reader that gives a byte at a time, and at last nothing, or an error.
 #[derive(Drop)]
@@ -86,7 +85,7 @@ fn a_reader_that_fails_leaves_nothing_written(rt: HostRuntime) {
         });
         let mut output = ToWrite::new(Vec::new(rt.alloc()));
         let command = Command::Solve {
-            player: Some(Player::Zero),
+            player: None,
             from: None,
         };
         let outcome = run_command(rt.alloc(), &command, &mut input, &mut output, 9);
@@ -103,7 +102,7 @@ fn a_writer_that_fails_has_a_beginning(rt: HostRuntime) {
             let mut input = FromRead::new(TEXT);
             let mut output = ToWrite::new(with_room(rt.alloc(), j, fails));
             let command = Command::Solve {
-                player: Some(Player::Zero),
+                player: None,
                 from: None,
             };
             let outcome = run_command(rt.alloc(), &command, &mut input, &mut output, 9);
@@ -123,7 +122,7 @@ fn a_byte_at_a_time_is_enough(rt: HostRuntime) {
     });
     let mut output = ToWrite::new(with_room(rt.alloc(), 100, true));
     let command = Command::Solve {
-        player: Some(Player::Zero),
+        player: None,
         from: None,
     };
     let outcome = run_command(rt.alloc(), &command, &mut input, &mut output, 9);

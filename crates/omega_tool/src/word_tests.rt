@@ -57,7 +57,7 @@ static FAULTS: [(&str, &str); 24] = [
 ];
 
 /// Requests for help, and what the text says.
-static HELP: [(&str, &str); 12] = [
+static HELP: [(&str, &str); 13] = [
     ("--help", "Usage: omega <COMMAND>"),
     ("-h", "3  the budget is used up"),
     ("--help", "0 1 0 1; 1 2 1 0"),
@@ -67,7 +67,8 @@ static HELP: [(&str, &str); 12] = [
     ("check -h", "omega: 3 Syntax at 17"),
     ("canon --help", "Usage: omega canon --format <FORMAT>"),
     ("canon --help", "4 2 0 9,4 \"a\";"),
-    ("solve --help", "Usage: omega solve [OPTIONS] --player <P>"),
+    ("solve --help", "Usage: omega solve [OPTIONS]"),
+    ("solve --help", "paritysol 2;"),
     ("solve --help", "--budget <N>"),
     ("solve --player 0 -h", "player 0 lifts 1"),
 ];

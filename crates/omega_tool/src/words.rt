@@ -78,16 +78,8 @@ fn solve_line(options: &ArgMatches<'_>) -> Result<Line, &'static str>
     if has_sign(options, "player") || has_sign(options, "from") || has_sign(options, "budget") {
         return Err("a number is written in digits, without a sign");
     }
-    let Some(number) = options.get_one::<u64>("player") else {
-        return Err("the option '--player <P>' is missing");
-    };
-    let player = if number == 0 {
-        Player::Zero
-    } else {
-        Player::One
-    };
     let command = Command::Solve {
-        player: Some(player),
+        player: options.get_one::<u64>("player").map(player_of),
         from: options.get_one::<u32>("from"),
     };
     let budget = options.get_one::<u64>("budget").unwrap_or(MOST_LIFTS);
@@ -95,6 +87,15 @@ fn solve_line(options: &ArgMatches<'_>) -> Result<Line, &'static str>
         return Err("the budget is over 1099511627776");
     }
     Ok(Line::Run(command, budget))
+}
+
+/// The player with a number.
+fn player_of(number: u64) -> Player {
+    if number == 0 {
+        Player::Zero
+    } else {
+        Player::One
+    }
 }
 
 /// Whether the value of an option begins with a sign, which the numbers of `clap` may.

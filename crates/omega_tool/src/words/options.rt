@@ -19,9 +19,8 @@ pub fn player_option<'a>(alloc: Global) -> Arg<'a> {
     Arg::new(alloc, "player")
         .long("player")
         .value_name("P")
-        .required(true)
         .value_parser(value_parser!(u64).range(0..=1))
-        .help("The player to solve for, 0 or 1")
+        .help("Solve for this player alone, 0 or 1")
 }
 
 /// The option that names the node whose part is solved.

@@ -3,11 +3,23 @@ use clap::Command;
 use std::alloc::{AllocError, Global};
 
 const DETAILS: &str = "\
-Reads a game text from standard input and writes from which nodes the player wins, and how: first a
-line with the number of lifts that were made, then a line for each node that the player wins, in
-rising order of identifiers. At a node of the player's own a successor follows; to move there each
-time wins from all the nodes written, whatever the other player does. The other player wins from all
-other nodes.
+Reads a game text from standard input and writes who wins each node, and how: a header with the
+greatest identifier, then a line for each node in rising order of identifiers, with the player who
+wins from it. Where that player owns the node, a successor follows; to move there each time wins
+from all the nodes that are given to the player, whatever the other player does.
+
+  $ echo '0 0 0 1,2; 1 1 1 0; 2 2 1 0;' | omega solve
+  paritysol 2;
+  0 0 2;
+  1 0;
+  2 0;
+
+Here player 0 wins from all three nodes, moving from node 0 to node 2. `omega verify` checks such a
+text without solving the game.
+
+--player P solves the game for that player alone. First comes a line with the number of lifts that
+were made, then a line for each node that the player wins; at a node of the player's own a successor
+follows. The other player wins from all other nodes.
 
   $ echo '0 1 0 1; 1 2 1 0;' | omega solve --player 0
   player 0 lifts 1
@@ -16,15 +28,15 @@ other nodes.
 
 Here player 0 wins from both nodes, moving from node 0 to node 1.
 
-A lift is one step of the solver. It makes no more of them than the bound that
-`omega show --format pg` writes for the player, which is known before anything is solved. A bound may
-be far above what is needed, and a game may need more time than there is: --budget N gives up after
-N lifts, writes nothing but `omega: 51 Budget` on standard error, and exits with status 3.
+A lift is one step of the solver. It makes no more of them for a player than the bound that
+`omega show --format pg` writes, which is known before anything is solved. A bound may be far above
+what is needed, and a game may need more time than there is: --budget N gives up after N lifts for
+a player, writes nothing but `omega: 51 Budget` on standard error, and exits with status 3.
 
 --from ID solves the part of the game that is reached from the node with that identifier, and writes
 of those nodes alone. Nothing else of the game has a say in who wins them. Where no node has the
 identifier, 54 UnknownNode is told. 50 TooWide is told of games for which nodes times priorities that
-lose for the player are over 67108864.
+lose for a player are over 67108864.
 
 Exit status: 0 done, 1 the text or the task is refused, 2 the command line is wrong, 3 the budget is
 used up, 4 out of memory, 5 a read or a write failed.";
@@ -32,7 +44,7 @@ used up, 4 out of memory, 5 a read or a write failed.";
 /// The subcommand that solves a game.
 pub fn solve_command<'a>(alloc: Global) -> Result<Command<'a>, AllocError> {
     Command::new(alloc, "solve")
-        .about("Find the nodes from which a player wins a game, and how")
+        .about("Find who wins each node of a game, and how")
         .after_help(DETAILS)
         .arg(player_option(alloc))?
         .arg(from_option(alloc))?

@@ -21,8 +21,8 @@ returns-clause-answer g c =
       part = c.in_ok-part.part;
       reached = part.1;
       answer = answer;
-      regions = λ k.
-          c.regions_of_parts.ensures c.args.game c.in_ok-part.part c.args.player c.in-Some.place part.0 k
+      regions = λ player k.
+          c.regions_of_parts.ensures c.args.game c.in_ok-part.part player c.in-Some.place part.0 k
           c.len-nodes.ensures.game part.1;
     })
     c.solve_whole.ensures.answer
@@ -33,6 +33,6 @@ returns-clause-refused g c =
     named-place c.args.game c.args.identifier c.in-Some.place (sym c.in-Some.ensures) in
     IfErr-weaker c.solve_whole.result _ _
     (λ refusal h.
-    refused-part c.args.game c.args.player c.args.identifier c.args.budget c.in-Some.place c.in_ok-part.part refusal
+    refused-part c.args.game c.args.asked c.args.identifier c.args.budget c.in-Some.place c.in_ok-part.part refusal
     named c.in_ok-part.ensures.part h)
     c.solve_whole.ensures.refused

@@ -2,7 +2,7 @@ use Rattle.std.proofs.Common.{◌≡◌, ◌≤◌, ap, ◌∙◌, refl, arith}
 use Rattle.std.proofs.lemmas.Result.{IfOk-weaker}
 use Rattle.omega_solve.specs.Solver.{State}
 use Rattle.omega_tool.proofs.Solving.{right_for, wins_exactly}
-use Rattle.omega_tool.proofs.solve.solve_whole.Goals as goal
+use Rattle.omega_tool.proofs.solve.one.solve_one.Goals as goal
 
 pub returns-clause-answer : goal.returns-clause-answer
 returns-clause-answer g c =

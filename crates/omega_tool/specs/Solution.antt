@@ -1,0 +1,53 @@
+-- The solution text, and when it answers rightly.
+use Rattle.std.specs.Prelude.{◌≡◌, ◌↔◌, ◌<◌, Bool, true, false, List, Option, ℕ, length, map}
+use Rattle.omega_game.specs.declared.player.Player.{Player}
+use Rattle.omega_game.specs.declared.player.Player.TheVariants.{One, Zero}
+use Rattle.omega_game.specs.Game.{Node, priorities}
+use Rattle.omega_game.specs.Winning.{InRegion, Wins}
+use Rattle.omega_measure.specs.Table.{is_too_wide}
+use Rattle.omega_pg.specs.Solution.{IsSolution, choices_of, winner_at}
+use Rattle.omega_pg.specs.SolutionText.{solution_text}
+use Rattle.omega_pg.specs.declared.solution.Solution.{Solution}
+use Rattle.omega_tool.specs.Answer.{WinsExactly, places_from}
+use Rattle.omega_tool.specs.Lifting.{EndsWithin}
+
+-- for each player the choices win from all nodes given to that player
+abbrev pub WinsAsGiven : List Node → Solution → Type 0
+WinsAsGiven nodes solution =
+    (player : Player) (v : ℕ) → v < length nodes → winner_at solution v ≡ player → Wins nodes player (choices_of solution player) v
+
+-- each node is given to the player in whose region it is
+abbrev pub GivesRegions : List Node → Solution → Type 0
+GivesRegions nodes solution =
+    (player : Player) (v : ℕ) → v < length nodes → (winner_at solution v ≡ player) ↔ InRegion nodes player v
+
+-- a right solution of a game that is too wide for neither player: each node is given to the player in whose region it is, the choices win, and
+-- for each player a lifting run within the budget ends
+pub record IsRight (nodes : List Node) (budget : ℕ) (solution : Solution) : Type 0 where
+  pub fits : IsSolution nodes solution
+  pub regions : GivesRegions nodes solution
+  pub wins : WinsAsGiven nodes solution
+  pub narrow : (player : Player) → is_too_wide player (priorities nodes) ≡ false
+  pub ended : (player : Player) → EndsWithin nodes player budget
+
+-- the text of a right solution
+pub record IsSolutionOf (nodes : List Node) (budget : ℕ) (output : List ℕ) : Type 0 where
+  pub solution : Solution
+  pub right : IsRight nodes budget solution
+  pub written : output ≡ solution_text nodes solution
+
+-- what a solver found for a player, which ran to its end: the flags stand exactly at the player's region, the choices win from it, and a
+-- lifting run within the budget ends
+pub record IsFound (nodes : List Node) (player : Player) (budget : ℕ) (won : List Bool) (choices : List (Option ℕ)) : Type 0 where
+  pub entries : length won ≡ length nodes
+  pub won_exactly : WinsExactly nodes player (places_from 0 won) choices
+  pub ended : EndsWithin nodes player budget
+
+-- who wins a node that player 0 wins, or does not
+abbrev pub winner_of : Bool → Player
+winner_of true = Zero
+winner_of false = One
+
+-- the winners, where these are the places that player 0 wins
+abbrev pub winners_of : List Bool → List Player
+winners_of won = map winner_of won
