@@ -8,8 +8,9 @@ use omega_lift::{
     runs_are_bounded, runs_keep_tables, zero_tables_are_tables,
 };
 
-/// However a budget is dealt out to the runs of a solver, it makes at most as many lifts as the bound, and once it is
-/// done its answer is exact.
+/// However a budget is dealt out to the runs of a solver, it makes at most as many lifts as the bound, and budgets that
+/// together reach the bound suffice. Once it is done, its answer is exactly the player's region, with one strategy that
+/// wins from all of it (Jurdziński 2000).
 pub fn headline()
     ensures { Headline }
 {
