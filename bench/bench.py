@@ -15,6 +15,7 @@ import argparse
 import math
 import os
 import shlex
+import shutil
 import statistics
 import subprocess
 import sys
@@ -24,32 +25,40 @@ import time
 from families import FAMILIES
 
 ROOT = os.path.dirname(os.path.dirname(os.path.abspath(__file__)))
+GNU_TIME = shutil.which("time")
 OMEGA = os.path.join(ROOT, "crates", "omega_tool", "out", "omega_tool")
 TASKS = {
-    "solve": [["solve", "--player", "0"], ["solve", "--player", "1"]],
+    "solve": [["solve"], ["solve", "--player", "0"], ["solve", "--player", "1"]],
     "read": [["check", "--format", "pg"], ["canon", "--format", "pg"]],
 }
 
 
 def measured(command, words, path, seconds):
-    """One run: its time in seconds, its greatest memory in bytes, its status and its output."""
+    """One run: its time in seconds, its status and its output; none after so many seconds."""
     with open(path, "rb") as text, tempfile.TemporaryFile() as output:
         start = time.perf_counter()
-        child = subprocess.Popen(command + words, stdin=text, stdout=output, stderr=subprocess.DEVNULL)
-        deadline = start + seconds
-        while True:
-            done, status, usage = os.wait4(child.pid, os.WNOHANG)
-            if done:
-                break
-            if time.perf_counter() > deadline:
-                child.kill()
-                os.wait4(child.pid, 0)
-                return None
-            time.sleep(0.0002)
+        try:
+            done = subprocess.run(command + words, stdin=text, stdout=output, stderr=subprocess.DEVNULL, timeout=seconds)
+        except subprocess.TimeoutExpired:
+            return None
         elapsed = time.perf_counter() - start
-        child.returncode = os.waitstatus_to_exitcode(status)
         output.seek(0)
-        return elapsed, usage.ru_maxrss * 1024, child.returncode, output.read()
+        return elapsed, done.returncode, output.read()
+
+
+def memory_of(command, words, path):
+    """The greatest memory of one run in bytes, by GNU time; none where that is not installed.
+
+    A child of this interpreter would be charged with the interpreter's own pages.
+    """
+    if not GNU_TIME:
+        return None
+    with open(path, "rb") as text, tempfile.NamedTemporaryFile("r") as report:
+        subprocess.run(
+            [GNU_TIME, "-q", "-f", "%M", "-o", report.name] + command + words,
+            stdin=text, stdout=subprocess.DEVNULL, stderr=subprocess.DEVNULL,
+        )
+        return int(report.read()) * 1024
 
 
 def lifts_in(output):
@@ -64,6 +73,9 @@ def row(name, command, words, path, options, wanted):
     if first is None:
         print(f"    {name}: over {options.seconds} s")
         return None
+    if first[1] != 0:
+        print(f"    {name}: exit status {first[1]}")
+        return None
     times = [first[0]] if options.runs == 0 else []
     for _ in range(options.runs):
         again = measured(command, words, path, options.seconds)
@@ -71,15 +83,18 @@ def row(name, command, words, path, options, wanted):
             times.append(again[0])
     seconds = statistics.median(times)
     size = os.path.getsize(path)
-    lifts = lifts_in(first[3])
-    line = f"    {name}: {seconds * 1000:.1f} ms, {size / seconds / 1e6:.0f} MB/s, {first[1] / 1e6:.1f} MB at most"
+    lifts = lifts_in(first[2])
+    memory = memory_of(command, words, path)
+    line = f"    {name}: {seconds * 1000:.1f} ms, {size / seconds / 1e6:.0f} MB/s"
+    if memory is not None:
+        line += f", {memory / 1e6:.1f} MB at most"
     if lifts is not None:
         line += f", {lifts} lifts"
         if lifts > 0:
             line += f", {seconds * 1e9 / lifts:.1f} ns a lift"
-    same = wanted is None or without_lifts(wanted) == without_lifts(first[3])
+    same = wanted is None or without_lifts(wanted) == without_lifts(first[2])
     print(line if same else line + "  DIFFERS")
-    return seconds, first[3], same
+    return seconds, first[2], same
 
 
 def without_lifts(output):

@@ -42,11 +42,18 @@ def chain_down(nodes):
     return text_of((v, 1 if v == 0 else 0, 0, [max(v - 1, 0)]) for v in range(nodes))
 
 
-def component(nodes, priorities, seed=DEFAULT_SEED):
-    """One strongly connected component: a ring with a random chord at each node, and many priorities."""
+def component(nodes, priorities, stretch=4096, seed=DEFAULT_SEED):
+    """One strongly connected component: a ring with many priorities, the greatest of them, an even one, at the
+    beginning of each stretch, and at each node a chord forward within its stretch."""
     draw = random.Random(seed)
+    greatest = priorities + priorities % 2
     return text_of(
-        (v, draw.randrange(priorities), draw.randrange(2), [(v + 1) % nodes, draw.randrange(nodes)])
+        (
+            v,
+            greatest if v % stretch == 0 else draw.randrange(priorities),
+            draw.randrange(2),
+            [(v + 1) % nodes, (v + 1 + draw.randrange(stretch - v % stretch)) % nodes],
+        )
         for v in range(nodes)
     )
 
@@ -84,8 +91,8 @@ def sparse(nodes, seed=DEFAULT_SEED):
 
 
 def most_nodes(nodes=1_048_576):
-    """As many nodes as a game may have, each its own successor."""
-    return text_of((v, 0, 0, [v]) for v in range(nodes))
+    """As many nodes as a game may have. Each leads to node 0: longer lists do not fit into the greatest text."""
+    return text_of((v, 0, 0, [0]) for v in range(nodes))
 
 
 def most_bytes(limit=16_777_216):
