@@ -2,10 +2,10 @@ ghost use Rattle.std.specs.Prelude.{◌≡◌, ◌≤◌, ◌*◌, ◌^◌, map,
 ghost use Rattle.omega_game.specs.Bound.{bound_of, product};
 ghost use Rattle.omega_game.specs.Factors.{factor_of};
 ghost use Rattle.omega_game.specs.Game.{priorities};
-ghost use Rattle.omega_game.specs.Winning.{loses};
 
 use crate::classes::Class;
 use crate::game::Game;
+use crate::losing::is_losing;
 use crate::player::Player;
 
 /// The most lifts of a run for the player (Jurdziński 2000): the number of nodes times the product, over the
@@ -23,21 +23,11 @@ fn multiplied(number: u128, classes: &[Class], player: Player) -> Option<u128>
 {
     let mut multiple = number;
     for class in classes {
-        if is_lost(player, class.priority) {
+        if is_losing(player, class.priority) {
             multiple = multiple.checked_mul(class.bearers as u128 + 1)?;
         }
     }
     Some(multiple)
-}
-
-/// Whether a priority loses for the player.
-fn is_lost(player: Player, priority: u32) -> bool
-    ensures { result ≡ loses player priority }
-{
-    match player {
-        Player::Zero => priority % 2 == 1,
-        Player::One => priority % 2 == 0,
-    }
 }
 
 #[cfg(test)]

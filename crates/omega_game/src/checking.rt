@@ -4,6 +4,9 @@ ghost use Rattle.omega_game.specs.Winning.{IsStrategy, Wins};
 
 mod components;
 mod deciding;
+mod groups;
+mod levels;
+mod nest;
 mod nesting;
 mod numbers;
 mod ordering;

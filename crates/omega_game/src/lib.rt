@@ -11,6 +11,7 @@ mod identifiers;
 mod laws;
 mod limits;
 mod lists;
+mod losing;
 mod names;
 mod node_spec;
 mod part;

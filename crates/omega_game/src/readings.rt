@@ -1,6 +1,7 @@
 //! What the reading calls are to answer, for tests.
 ghost use Rattle.std.specs.Prelude.{◌<◌, length};
 
+use crate::Player::{One, Zero};
 use crate::{Game, Player};
 use std::process::Abort;
 
@@ -13,6 +14,13 @@ pub(crate) type Reading = (
     &'static [u32],
     &'static [u32],
 );
+
+/// What is read of the three nodes of the samples.
+pub(crate) const THREE: [Reading; 3] = [
+    (0, 0, Zero, None, &[1, 2], &[1, 2]),
+    (1, 1, One, None, &[0], &[0]),
+    (2, 2, One, None, &[0], &[0]),
+];
 
 /// Asserts how many nodes and listed successors a game has, and what is read at each place.
 pub(crate) fn assert_reads(rt: &impl Abort, game: &Game, edges: usize, readings: &[Reading]) {

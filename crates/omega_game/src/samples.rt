@@ -1,10 +1,10 @@
-//! Games for tests, each node as a game text writes it.
+//! Games for tests, each node as a game text writes it, and steps of builders that no test has to prove allowed.
 ghost use Rattle.std.specs.Prelude.{◌<◌, ◌≤◌, length, All, IfOk, IfSome, IsTrue};
 ghost use Rattle.omega_game.specs.Building.{IsWellFormed};
 ghost use Rattle.omega_game.specs.Game.{IsNameByte};
 
 use crate::Player::{One, Zero};
-use crate::{Game, MOST_NUMBER, NodeSpec, Player, Refusal, Seq};
+use crate::{Game, GameBuilder, MOST_NUMBER, NodeSpec, Player, Refusal, Seq};
 use std::alloc::Global;
 
 /// Identifier, priority, owner, the identifiers of the successors, and the name or none.
@@ -41,6 +41,22 @@ pub(crate) fn game_of(alloc: Global, rows: &[Row]) -> Result<Game, Refusal> {
         return Err(Refusal::Io);
     }
     Game::build(alloc, specs)
+}
+
+/// The game of a builder, or Io where nothing was added.
+pub(crate) fn finish(builder: GameBuilder) -> Result<Game, Refusal> {
+    if builder.len() == 0 {
+        return Err(Refusal::Io);
+    }
+    builder.finish()
+}
+
+/// Lists a successor more at the last node, or answers Io where there is none.
+pub(crate) fn list(builder: &mut GameBuilder, successor: u32) -> Result<(), Refusal> {
+    if builder.len() == 0 || successor > MOST_NUMBER {
+        return Err(Refusal::Io);
+    }
+    builder.add_successor(successor)
 }
 
 /// The specifications of the rows, or Io where one is not well formed.

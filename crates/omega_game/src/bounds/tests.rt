@@ -1,6 +1,6 @@
 use super::*;
 use crate::Player::{One, Zero};
-use crate::samples::{self, Row, game_of};
+use crate::samples::{self, Row, finish, game_of};
 use crate::{GameBuilder, Refusal};
 use std::alloc::Global;
 use std::test::Fail;
@@ -39,10 +39,7 @@ fn odd_loops(alloc: Global, nodes: u16) -> Result<Game, Refusal> {
         let id = u32::from(place);
         builder.add_node(id, 2 * id + 1, Zero, id)?;
     }
-    if builder.len() == 0 {
-        return Err(Refusal::Io);
-    }
-    builder.finish()
+    finish(builder)
 }
 
 #[test]

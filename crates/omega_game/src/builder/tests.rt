@@ -1,24 +1,8 @@
 use super::*;
 use crate::Player::{One, Zero};
 use crate::readings::{Reading, assert_reads};
-use crate::samples::{Row, game_of};
+use crate::samples::{Row, finish, game_of, list};
 use std::test::Fail;
-
-/// The game of a builder, or Io where nothing was added.
-fn finish(builder: GameBuilder) -> Result<Game, Refusal> {
-    if builder.len() == 0 {
-        return Err(Refusal::Io);
-    }
-    builder.finish()
-}
-
-/// Lists a successor more at the last node, or answers Io where there is none.
-fn list(builder: &mut GameBuilder, successor: u32) -> Result<(), Refusal> {
-    if builder.len() == 0 || successor > MOST_NUMBER {
-        return Err(Refusal::Io);
-    }
-    builder.add_successor(successor)
-}
 
 /// Names the last node, or answers Io where there is none.
 fn name(builder: &mut GameBuilder, letter: u8) -> Result<(), Refusal> {

@@ -3,8 +3,8 @@
 ghost use Rattle.std.specs.Prelude.{◌≡◌, ℕ, ◌<◌, ◌≤◌, length, vec_len, All, IfOk, IsTrue, slice_index};
 ghost use Rattle.omega_game.specs.Checking.{mark_at, AreChoices, AreClosed, AreEnds, IsInOrder, NoneRecurs, StandsInOrder};
 
-use crate::checking::recurring::is_losing;
 use crate::game::Game;
+use crate::losing::is_losing;
 use crate::player::Player;
 use crate::reaching::edges_left;
 use std::alloc::{AllocError, Global};

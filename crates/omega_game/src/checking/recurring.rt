@@ -1,22 +1,12 @@
 //! The plain test: whether a place that is reached bears a losing priority and recurs.
 ghost use Rattle.std.specs.Prelude.{◌≡◌, ◌↔◌, ℕ, ◌<◌, length, IfOk, IsTrue};
-ghost use Rattle.omega_game.specs.Winning.{loses};
 ghost use Rattle.omega_game.specs.Checking.{AreChoices, NoneRecurs, Recurs};
 
 use crate::game::Game;
+use crate::losing::is_losing;
 use crate::player::Player;
 use crate::reaching::{edges_left, reached_from};
 use std::alloc::{AllocError, Global};
-
-/// Whether a priority loses for a player.
-pub(crate) fn is_losing(player: Player, priority: u32) -> bool
-    ensures { result ≡ loses player priority }
-{
-    match player {
-        Player::Zero => priority % 2 == 1,
-        Player::One => priority % 2 == 0,
-    }
-}
 
 /// Whether a place is reached again behind itself through priorities at most its own.
 pub(crate) fn recurs(

@@ -1,6 +1,6 @@
 use super::*;
 use crate::Player::{One, Zero};
-use crate::samples::{self, Row, game_of};
+use crate::samples::{self, Row, finish, game_of};
 use crate::{GameBuilder, Seq};
 use std::process::Abort;
 use std::test::Fail;
@@ -177,10 +177,7 @@ fn line(alloc: Global, nodes: u16, last: u16, back: u16) -> Result<Game, Refusal
     }
     let end = u32::from(nodes.max(1)) - 1;
     builder.add_node(end, u32::from(last), Zero, u32::from(back))?;
-    if builder.len() == 0 {
-        return Err(Refusal::Io);
-    }
-    builder.finish()
+    finish(builder)
 }
 
 /// Whether the strategy without a choice wins from the first place, for player 0 and for player 1.
@@ -238,10 +235,7 @@ fn falling(alloc: Global, nodes: u16) -> Result<Game, Refusal> {
         builder.add_node(place, 2 * (u32::from(nodes) - place) + 1, Zero, place + 1)?;
     }
     builder.add_node(u32::from(nodes.max(1)), 1, Zero, 0)?;
-    if builder.len() == 0 {
-        return Err(Refusal::Io);
-    }
-    builder.finish()
+    finish(builder)
 }
 
 #[test]

@@ -1,5 +1,5 @@
 use crate::Player::{One, Zero};
-use crate::readings::{Reading, assert_reads};
+use crate::readings::{self, Reading, assert_reads};
 use crate::samples::{self, Row, game_of};
 use std::test::Fail;
 
@@ -29,16 +29,10 @@ fn two_nodes(rt: HostRuntime) -> Result<(), Fail> {
     Ok(())
 }
 
-const THREE: [Reading; 3] = [
-    (0, 0, Zero, None, &[1, 2], &[1, 2]),
-    (1, 1, One, None, &[0], &[0]),
-    (2, 2, One, None, &[0], &[0]),
-];
-
 #[test]
 fn three_nodes(rt: HostRuntime) -> Result<(), Fail> {
     let game = game_of(rt.alloc(), &samples::THREE)?;
-    assert_reads(&rt, &game, 4, &THREE);
+    assert_reads(&rt, &game, 4, &readings::THREE);
     Ok(())
 }
 

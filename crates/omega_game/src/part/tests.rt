@@ -1,5 +1,5 @@
 use crate::Player::{One, Zero};
-use crate::readings::{Reading, assert_reads};
+use crate::readings::{self, Reading, assert_reads};
 use crate::samples::{self, Row, game_of};
 use crate::{Game, Refusal};
 use std::alloc::Global;
@@ -26,17 +26,11 @@ fn one_node_of_two(rt: HostRuntime) -> Result<(), Fail> {
     Ok(())
 }
 
-const THREE: [Reading; 3] = [
-    (0, 0, Zero, None, &[1, 2], &[1, 2]),
-    (1, 1, One, None, &[0], &[0]),
-    (2, 2, One, None, &[0], &[0]),
-];
-
 #[test]
 fn all_of_three_nodes(rt: HostRuntime) -> Result<(), Fail> {
     for id in 0..3 {
         let part = part_of(rt.alloc(), &samples::THREE, id)?;
-        assert_reads(&rt, &part, 4, &THREE);
+        assert_reads(&rt, &part, 4, &readings::THREE);
     }
     Ok(())
 }
