@@ -1,4 +1,4 @@
-use Rattle.std.proofs.Common.{◌≡◌, ℕ, zero, suc, ◌+◌, ◌-◌, ◌<◌, ◌≤◌, ◌≢◌, ◌⊎◌, inl, inr, Option, Some, None, List, [], ◌∷◌, ◌++◌, length, map, All, set, get_or, refl, sym, ◌∙◌, ap, subst, arith}
+use Rattle.std.proofs.Common.{◌≡◌, ℕ, suc, ◌+◌, ◌-◌, ◌<◌, ◌≤◌, ◌≢◌, inl, inr, Option, Some, None, List, [], ◌∷◌, ◌++◌, length, map, All, set, get_or, refl, sym, ◌∙◌, ap, subst, arith}
 use Rattle.std.specs.Prelude.{Result, Ok, Err, OnErr}
 use Rattle.std.specs.List.{range_with_len}
 use Rattle.std.proofs.lemmas.Bool.{cases_lt}
@@ -12,7 +12,7 @@ use Rattle.omega_game.specs.declared.player.Player.TheVariants.{Zero}
 use Rattle.omega_game.specs.declared.node_spec.NodeSpec.{NodeSpec}
 use Rattle.omega_game.specs.Game.{IsNameByte}
 use Rattle.omega_game.specs.Building.{IsWellFormed, AreCollected, ids_of, with_last, with_successor, with_name}
-use Rattle.omega_game.specs.Layout.{Columns, AreEven, collected, spec_in, specs_of, name_of}
+use Rattle.omega_game.specs.Layout.{Columns, AreEven, collected, spec_in, specs_of}
 
 -- there is a specification for each identifier
 pub length-specs_of : (columns : Columns) → length (specs_of columns) ≡ length columns.identifiers

@@ -1,4 +1,4 @@
-use Rattle.std.proofs.Common.{◌≡◌, ℕ, zero, suc, ◌+◌, ◌-◌, ◌<◌, ◌≤◌, ◌⊎◌, ◌==◌, Bool, true, false, inl, inr, Option, Some, None, List, [], ◌∷◌, length, map, All, Contains, get_or, sum_by, refl, sym, ◌∙◌, ap, subst, arith}
+use Rattle.std.proofs.Common.{◌≡◌, ℕ, zero, suc, ◌<◌, ◌≤◌, ◌==◌, Bool, true, false, inl, inr, Option, Some, None, List, [], ◌∷◌, length, map, Contains, get_or, sum_by, refl, sym, ◌∙◌, ap, subst, arith}
 use Rattle.std.specs.Prelude.{is_some, unwrap_or}
 use Rattle.std.specs.List.{list_all, position}
 use Rattle.std.specs.List.Sorted.{IsPermutation, IsStrictlyIncreasing}
@@ -8,9 +8,9 @@ use Rattle.std.proofs.lemmas.List.Quantifiers.{position-Some}
 use Rattle.std.proofs.lemmas.List.Sorted.{IsPermutation-refl}
 use Rattle.omega_game.specs.declared.player.Player.{Player}
 use Rattle.omega_game.specs.declared.node_spec.NodeSpec.{NodeSpec}
-use Rattle.omega_game.specs.Game.{Node, no_node, IsGame, IsWithinLimits, IsWritable, HasEdge, node_at, edge_count, identifiers, successors_at}
-use Rattle.omega_game.specs.Building.{IsGameOf, IsWellFormed, AreCollected, specified, ids_of, listed_successors}
-use Rattle.omega_game.specs.Layout.{Columns, AreEven, collected, nodes_of, node_in, specs_of, spec_in, name_of}
+use Rattle.omega_game.specs.Game.{Node, no_node, IsGame, IsWithinLimits, IsWritable, HasEdge, node_at, successors_at}
+use Rattle.omega_game.specs.Building.{IsGameOf, IsWellFormed, AreCollected, specified}
+use Rattle.omega_game.specs.Layout.{Columns, AreEven, collected, nodes_of, node_in, specs_of, spec_in}
 use Rattle.omega_game.specs.Resolving.{is_defined, resolved_in}
 use Rattle.omega_game.proofs.BuilderLemmas.{get_or-specs_of, length-specs_of, specs_of_is}
 use Rattle.omega_game.proofs.LayoutLemmas.{get_or-nodes_of, node_at-nodes_of, length-nodes_of, identifiers-nodes_of, edge_count-nodes_of}

@@ -1,8 +1,8 @@
-use Rattle.std.proofs.Common.{◌≡◌, ℕ, zero, suc, ◌+◌, ◌-◌, ◌<◌, ◌≤◌, ◌≢◌, ◌⊎◌, Bool, inl, inr, Option, Some, None, ◌==◌, List, [], ◌∷◌, ◌++◌, length, map, replicate, take, drop, set, get_or, sum_by, refl, sym, ◌∙◌, ap, subst, add-one, arith, zero-add}
+use Rattle.std.proofs.Common.{◌≡◌, ℕ, ◌+◌, ◌<◌, ◌≤◌, Bool, inl, inr, Option, Some, None, ◌==◌, List, [], ◌∷◌, length, map, get_or, sum_by, refl, sym, ◌∙◌, ap, arith, zero-add}
 use Rattle.std.specs.List.{range_with_len}
 use Rattle.std.proofs.lemmas.Bool.Decides.{eqb_tells}
-use Rattle.std.proofs.lemmas.Bool.{cases_lt, cases_eq, ne_eqb, eq-eqb, lt-ltb, le-ltb}
-use Rattle.std.proofs.lemmas.List.{same_lists, get_or-map, get_or_default, get_or-replicate, length-map, length-replicate}
+use Rattle.std.proofs.lemmas.Bool.{ne_eqb, eq-eqb, lt-ltb, le-ltb}
+use Rattle.std.proofs.lemmas.List.{same_lists, get_or-map, get_or_default, length-map}
 use Rattle.std.proofs.lemmas.List.Sums.{sum_by-cons, position_or_len_is}
 use Rattle.std.specs.List.{position, position_or_len}
 use Rattle.std.proofs.lemmas.List.FromFn.{length-range_with_len, get_or-range_with_len, length-map-range_with_len, get_or-map-range_with_len}

@@ -1,21 +1,19 @@
-use Rattle.std.proofs.Common.{◌≡◌, ℕ, ◌+◌, ◌-◌, ◌<◌, ◌≤◌, ◌==◌, Bool, true, false, not, Option, Some, None, List, [], ◌∷◌, length, map, All, get_or, sum_by, refl, sym, ◌∙◌, ap, subst, arith}
+use Rattle.std.proofs.Common.{◌≡◌, ℕ, ◌+◌, ◌-◌, ◌<◌, ◌≤◌, Bool, true, false, not, Some, None, List, [], ◌∷◌, length, map, get_or, sum_by, refl, sym, ◌∙◌, ap, subst, arith}
 use Rattle.std.proofs.Math.Path.{fun_ext}
-use Rattle.std.specs.Prelude.{nat_lt, replicate, count_by}
-use Rattle.std.specs.List.{list_all, flat_map, range_with_len}
+use Rattle.std.specs.List.{list_all}
 use Rattle.std.specs.List.Sorted.{IsStrictlyIncreasing}
 use Rattle.std.proofs.lemmas.Bool.{cases_lt, lt-ltb, le-ltb}
 use Rattle.std.proofs.Common.{inl, inr}
-use Rattle.std.proofs.lemmas.List.{length-map, get_or_past}
+use Rattle.std.proofs.lemmas.List.{length-map}
 use Rattle.std.proofs.lemmas.List.Sums.{sum_by-cons}
-use Rattle.omega_text.specs.declared.refusal.game.GameFault.{GameFault}
 use Rattle.omega_text.specs.declared.refusal.game.GameFault.TheVariants.{DuplicateNode, UndefinedSuccessor, TooManyEdges, TooManyNodes}
 use Rattle.omega_game.specs.declared.player.Player.{Player}
 use Rattle.omega_game.specs.declared.node_spec.NodeSpec.{NodeSpec}
-use Rattle.omega_game.specs.Building.{AreCollected, IsWellFormed, fault_of, has_duplicate, has_undefined, ids_of, listed_successors}
+use Rattle.omega_game.specs.Building.{AreCollected, fault_of, has_duplicate, has_undefined, ids_of, listed_successors}
 use Rattle.omega_game.specs.Layout.{Columns, AreEven, collected, columns_of, identifiers_of, specs_of, spec_in}
 use Rattle.omega_game.specs.Resolving.{is_defined, resolved_in}
 use Rattle.omega_game.proofs.BuilderLemmas.{length-specs_of, get_or-specs_of, ids-specs_of, successors-specs_of}
-use Rattle.omega_game.proofs.FaultLemmas.{no_duplicate, some_duplicate, has_undefined-not}
+use Rattle.omega_game.proofs.FaultLemmas.{no_duplicate, has_undefined-not}
 use Rattle.omega_game.proofs.GameLemmas.{AreResolved}
 use Rattle.omega_game.proofs.LayoutLemmas.{length-listed}
 use Rattle.omega_game.proofs.ResolvingLemmas.{rises_by}

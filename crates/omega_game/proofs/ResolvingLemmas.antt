@@ -1,10 +1,10 @@
-use Rattle.std.proofs.Common.{◌≡◌, ℕ, zero, suc, ◌+◌, ◌-◌, ◌<◌, ◌≤◌, ◌⊎◌, ◌==◌, ◌&&◌, Bool, true, false, inl, inr, Option, Some, None, List, [], ◌∷◌, ◌++◌, length, map, take, drop, get_or, set, All, refl, sym, ◌∙◌, ap, subst, arith, add-one, append_assoc}
+use Rattle.std.proofs.Common.{◌≡◌, ℕ, zero, suc, ◌+◌, ◌-◌, ◌<◌, ◌≤◌, ◌==◌, ◌&&◌, Bool, false, Option, List, [], ◌∷◌, ◌++◌, length, map, take, drop, get_or, set, refl, sym, ◌∙◌, ap, subst, arith, add-one}
 use Rattle.std.proofs.Math.Path.{fun_ext}
 use Rattle.std.specs.Prelude.{slice_range, is_some, unwrap_or}
 use Rattle.std.specs.List.{range_with_len, list_all, list_any, position, flat_map}
 use Rattle.std.specs.List.Sorted.{IsStrictlyIncreasing}
-use Rattle.std.proofs.lemmas.Bool.{cases_lt, ne_eqb}
-use Rattle.std.proofs.lemmas.List.{same_lists, map-append, take-map, drop-map, length-map, take_more, take_all, get_or_default}
+use Rattle.std.proofs.lemmas.Bool.{ne_eqb}
+use Rattle.std.proofs.lemmas.List.{same_lists, take-map, drop-map, length-map, take_more, take_all, get_or_default}
 use Rattle.std.proofs.lemmas.List.{get_or-take, length-take-le, get_or-append_right, get_or-drop, get_or_past, append-nil, drop-take, take-take, take-append-drop}
 use Rattle.std.proofs.Math.Dec.{eqb}
 use Rattle.indexmap.specs.IndexSet.{insert_key}
@@ -15,8 +15,6 @@ use Rattle.std.proofs.lemmas.List.Concat.{flat_map-append}
 use Rattle.omega_game.specs.Layout.{list_at, lists_of, AreStarts, identifiers_of}
 use Rattle.omega_game.specs.Resolving.{is_defined, resolved_in}
 use Rattle.omega_game.proofs.LayoutLemmas.{identifiers_listed, identifiers_unlisted}
-use Rattle.omega_game.proofs.ListsLemmas.{start_within}
-use Rattle.omega_game.proofs.SortingLemmas.{rises_weakly}
 
 -- rising identifiers grow by at least one at each step
 pub rises_by : (ids : List ℕ) → IsStrictlyIncreasing ids → (k m : ℕ) → k + m < length ids → get_or ids k 0 + m ≤ get_or ids (k + m) 0

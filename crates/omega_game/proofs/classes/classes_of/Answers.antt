@@ -1,10 +1,9 @@
-use Rattle.std.proofs.Common.{◌≡◌, ℕ, ◌+◌, ◌++◌, ◌∷◌, [], ◌==◌, Bool, true, false, not, List, length, get_or, set, take, arith, ap, sym, subst, refl, ◌∙◌}
+use Rattle.std.proofs.Common.{◌≡◌, ℕ, ◌+◌, ◌++◌, ◌∷◌, [], ◌==◌, true, false, List, length, get_or, take, arith, ap, sym, subst, refl, ◌∙◌}
 use Rattle.std.specs.Prelude.{nat_eq}
 use Rattle.std.specs.List.{IsDistinct, list_any}
 use Rattle.std.proofs.lemmas.Bool.{eqb-true, not-true, not-false}
 use Rattle.std.proofs.lemmas.List.{take_more, take_all}
 use Rattle.std.proofs.lemmas.Option.{get_or_from_slice_get, slice_get_within}
-use Rattle.omega_game.specs.declared.classes.Class.{Class}
 use Rattle.omega_game.specs.Classes.{AreTallied}
 use Rattle.omega_game.proofs.ClassesLemmas.{classes_from_tally, tallied_again, tallied_new}
 use Rattle.omega_game.proofs.classes.classes_of.Goals as goal

@@ -1,4 +1,4 @@
-use Rattle.std.proofs.Common.{ℕ, take}
+use Rattle.std.proofs.Common.{take}
 use Rattle.omega_game.specs.Classes.{AreTallied}
 use Rattle.omega_game.proofs.classes.classes_of.Given as goal
 

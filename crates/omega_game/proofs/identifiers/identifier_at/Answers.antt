@@ -1,4 +1,4 @@
-use Rattle.std.proofs.Common.{◌≡◌, ℕ, ◌<◌, ◌+◌, [], length, get_or, arith, ap, sym, ◌∙◌, rules}
+use Rattle.std.proofs.Common.{arith, ap, ◌∙◌}
 use Rattle.omega_game.proofs.LayoutLemmas.{get_or-identifiers_of}
 use Rattle.std.specs.Prelude.{unwrap_or}
 use Rattle.omega_game.proofs.identifiers.identifier_at.Goals as goal

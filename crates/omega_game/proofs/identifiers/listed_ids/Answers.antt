@@ -1,4 +1,4 @@
-use Rattle.std.proofs.Common.{◌≡◌, ℕ, ◌<◌, ◌≤◌, ◌+◌, ◌-◌, ◌==◌, Option, Some, None, [], ◌∷◌, ◌++◌, length, map, List, get_or, set, take, arith, ap, sym, subst, refl, ◌∙◌, rules, length-append}
+use Rattle.std.proofs.Common.{length, ap, refl}
 use Rattle.omega_game.proofs.ResolvingLemmas.{dense_ids, listed_more, listed_all}
 use Rattle.omega_game.proofs.identifiers.listed_ids.Goals as goal
 

@@ -1,4 +1,4 @@
-use Rattle.std.proofs.Common.{◌≡◌, ℕ, take}
+use Rattle.std.proofs.Common.{◌≡◌, take}
 use Rattle.omega_game.proofs.identifiers.listed_ids.Given as goal
 
 abbrev pub invariant-loop-id : goal.invariant-loop-id

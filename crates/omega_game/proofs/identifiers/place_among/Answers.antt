@@ -1,4 +1,4 @@
-use Rattle.std.proofs.Common.{◌≡◌, ℕ, ◌<◌, ◌≤◌, ◌+◌, ◌==◌, Some, None, [], length, List, get_or, arith, ap, sym, subst, ◌∙◌, rules}
+use Rattle.std.proofs.Common.{◌≡◌, ◌<◌, ◌==◌, length, ap, sym, ◌∙◌, rules}
 use Rattle.omega_game.proofs.LayoutLemmas.{position_listed, identifiers_unlisted, position-range_with_len, position_past}
 use Rattle.std.specs.List.{position}
 use Rattle.omega_game.proofs.identifiers.place_among.Goals as goal

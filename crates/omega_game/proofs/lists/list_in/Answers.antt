@@ -1,5 +1,5 @@
-use Rattle.std.proofs.Common.{◌≡◌, ℕ, ◌+◌, ◌≤◌, length, get_or, rules, arith, ap, ◌∙◌, refl}
-use Rattle.std.specs.Prelude.{unwrap_or, slice_index_or, slice_range}
+use Rattle.std.proofs.Common.{◌≡◌, ◌+◌, ◌≤◌, length, get_or, rules, arith, ap, ◌∙◌, refl}
+use Rattle.std.specs.Prelude.{unwrap_or}
 use Rattle.std.proofs.lemmas.List.{get_or_default}
 use Rattle.omega_game.specs.Layout.{list_at}
 use Rattle.omega_game.proofs.ListsLemmas.{start_within}

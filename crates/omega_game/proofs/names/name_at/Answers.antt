@@ -1,4 +1,4 @@
-use Rattle.std.proofs.Common.{◌≡◌, ℕ, ◌<◌, ◌≤◌, ◌+◌, ◌==◌, Some, None, [], length, List, get_or, arith, ap, sym, subst, ◌∙◌, rules}
+use Rattle.std.proofs.Common.{[], arith, ap, sym, ◌∙◌}
 use Rattle.omega_game.specs.Layout.{name_of}
 use Rattle.std.proofs.lemmas.List.{get_or_past}
 use Rattle.omega_game.proofs.names.name_at.Goals as goal

@@ -1,4 +1,4 @@
-use Rattle.std.proofs.Common.{◌≡◌, ℕ, ◌<◌, ◌≤◌, ◌+◌, ◌-◌, ◌==◌, Option, Some, None, [], ◌∷◌, ◌++◌, length, map, List, get_or, set, take, arith, ap, sym, subst, refl, ◌∙◌, rules, length-append}
+use Rattle.std.proofs.Common.{ℕ, List, arith}
 use Rattle.omega_game.proofs.ResolvingLemmas.{resolved_more, defined_more}
 use Rattle.omega_game.specs.Layout.{identifiers_of}
 use Rattle.omega_game.proofs.resolving.resolve.Goals as goal

@@ -1,4 +1,4 @@
-use Rattle.std.proofs.Common.{◌≡◌, ℕ, ◌++◌, map, take, drop}
+use Rattle.std.proofs.Common.{◌≡◌, ◌++◌, map, take, drop}
 use Rattle.std.specs.List.{list_all}
 use Rattle.omega_game.specs.Layout.{identifiers_of}
 use Rattle.omega_game.specs.Resolving.{is_defined, resolved_in}

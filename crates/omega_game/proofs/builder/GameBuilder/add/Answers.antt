@@ -1,4 +1,4 @@
-use Rattle.std.proofs.Common.{◌≡◌, ℕ, ◌<◌, ◌≤◌, ◌+◌, ◌-◌, ◌==◌, Option, Some, None, [], ◌∷◌, ◌++◌, length, List, get_or, set, take, arith, ap, sym, subst, refl, ◌∙◌, rules}
+use Rattle.std.proofs.Common.{◌≡◌, [], ◌∷◌, ◌++◌, rules}
 use Rattle.omega_game.proofs.BuilderLemmas.{specs_of-push, AreCollected-push}
 use Rattle.omega_game.proofs.builder.GameBuilder.add.Goals as goal
 

@@ -1,4 +1,4 @@
-use Rattle.std.proofs.Common.{◌≡◌, ap, sym, ◌∙◌}
+use Rattle.std.proofs.Common.{ap, sym, ◌∙◌}
 use Rattle.std.specs.Prelude.{Some}
 use Rattle.omega_game.proofs.BuilderLemmas.{named_spec}
 use Rattle.omega_game.proofs.builder.GameBuilder.add_spec.Goals as goal

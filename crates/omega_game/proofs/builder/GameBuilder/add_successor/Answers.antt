@@ -1,6 +1,5 @@
-use Rattle.std.proofs.Common.{◌≡◌, ℕ, ◌<◌, ◌≤◌, ◌+◌, ◌-◌, ◌==◌, Option, Some, None, [], ◌∷◌, ◌++◌, length, List, get_or, set, take, arith, ap, sym, subst, refl, ◌∙◌, rules}
+use Rattle.std.proofs.Common.{◌<◌, length, arith, ap}
 use Rattle.omega_game.proofs.BuilderLemmas.{length-specs_of, specs_of-successor, AreCollected-successor}
-use Rattle.omega_game.specs.Building.{with_last, with_successor}
 use Rattle.omega_game.proofs.builder.GameBuilder.add_successor.Goals as goal
 
 pub push_item-requires : goal.push_item-requires

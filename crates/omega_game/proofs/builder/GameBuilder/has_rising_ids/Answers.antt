@@ -1,4 +1,4 @@
-use Rattle.std.proofs.Common.{◌≡◌, ℕ, ◌<◌, ◌≤◌, ◌+◌, ◌-◌, ◌==◌, Option, Some, None, [], ◌∷◌, ◌++◌, length, map, List, get_or, set, take, arith, ap, sym, subst, refl, ◌∙◌, rules, length-append}
+use Rattle.std.proofs.Common.{◌≡◌, ℕ, ◌<◌, ◌≤◌, ◌+◌, length, List, get_or, ap, sym, subst, ◌∙◌}
 use Rattle.omega_game.proofs.BuilderLemmas.{ids-specs_of}
 use Rattle.omega_game.specs.Building.{ids_of}
 use Rattle.std.specs.Bool.{OnFalse}

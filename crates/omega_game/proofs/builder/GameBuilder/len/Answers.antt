@@ -1,6 +1,5 @@
-use Rattle.std.proofs.Common.{◌≡◌, ℕ, ◌<◌, ◌≤◌, ◌+◌, ◌-◌, ◌==◌, Option, Some, None, [], ◌∷◌, ◌++◌, length, List, get_or, set, take, arith, ap, sym, subst, refl, ◌∙◌, rules}
+use Rattle.std.proofs.Common.{length, arith, ap}
 use Rattle.omega_game.proofs.BuilderLemmas.{length-specs_of}
-use Rattle.omega_game.proofs.RefusalLemmas.{knows_fault}
 use Rattle.omega_game.proofs.builder.GameBuilder.len.Goals as goal
 
 pub returns-clause-count : goal.returns-clause-count

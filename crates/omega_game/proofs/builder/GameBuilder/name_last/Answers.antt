@@ -1,4 +1,4 @@
-use Rattle.std.proofs.Common.{◌≡◌, ℕ, ◌<◌, ◌≤◌, ◌+◌, ◌-◌, ◌==◌, Option, Some, None, [], ◌∷◌, ◌++◌, length, List, get_or, set, take, arith, ap, sym, subst, refl, ◌∙◌, rules, length-append}
+use Rattle.std.proofs.Common.{◌≡◌, ◌<◌, length, arith, ap, ◌∙◌}
 use Rattle.omega_game.proofs.BuilderLemmas.{length-specs_of, specs_of-name, specs_of-pad, AreCollected-name, AreCollected-pad, OnErr-always}
 use Rattle.omega_game.proofs.builder.GameBuilder.name_last.Goals as goal
 

@@ -1,4 +1,4 @@
-use Rattle.std.proofs.Common.{◌≡◌, ℕ, ◌<◌, ◌≤◌, ◌+◌, ◌-◌, ◌==◌, Option, Some, None, [], ◌∷◌, ◌++◌, length, List, get_or, set, take, arith, ap, sym, subst, refl, ◌∙◌, rules}
+use Rattle.std.proofs.Common.{[], arith, refl}
 use Rattle.std.proofs.lemmas.List.Elements.{All-nil}
 use Rattle.omega_game.specs.Building.{AreCollected, IsWellFormed}
 use Rattle.omega_game.specs.Layout.{specs_of, collected}

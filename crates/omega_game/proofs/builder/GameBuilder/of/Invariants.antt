@@ -1,4 +1,4 @@
-use Rattle.std.proofs.Common.{◌≡◌, ℕ, take}
+use Rattle.std.proofs.Common.{◌≡◌, take}
 use Rattle.omega_game.proofs.builder.GameBuilder.of.Given as goal
 
 abbrev pub invariant-loop-spec : goal.invariant-loop-spec

@@ -1,5 +1,4 @@
-use Rattle.std.proofs.Common.{◌≡◌, ℕ, ◌<◌, ◌≤◌, ◌+◌, ◌-◌, ◌==◌, Bool, true, false, Option, Some, None, [], ◌∷◌, ◌++◌, length, map, List, get_or, set, take, arith, ap, sym, subst, refl, ◌∙◌, rules, length-append, sum_by}
-use Rattle.std.specs.List.{range_with_len}
+use Rattle.std.proofs.Common.{ℕ, length, List, arith, ap, subst, refl, ◌∙◌}
 use Rattle.omega_game.specs.Layout.{AreClasses, columns_of}
 use Rattle.omega_game.proofs.LayoutLemmas.{length-nodes_of}
 use Rattle.omega_game.proofs.EnteringLemmas.{entering_is, targets_within}

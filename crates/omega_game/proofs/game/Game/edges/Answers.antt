@@ -1,4 +1,4 @@
-use Rattle.std.proofs.Common.{◌≡◌, ℕ, ◌<◌, ◌≤◌, ◌+◌, [], length, List, get_or, arith, ap, sym, subst, ◌∙◌, rules}
+use Rattle.std.proofs.Common.{ap, sym, ◌∙◌}
 use Rattle.omega_game.proofs.LayoutLemmas.{edge_count-nodes_of}
 use Rattle.omega_game.specs.Game.{edge_count}
 use Rattle.omega_game.proofs.game.Game.edges.Goals as goal

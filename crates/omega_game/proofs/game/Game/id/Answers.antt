@@ -1,4 +1,4 @@
-use Rattle.std.proofs.Common.{◌≡◌, ℕ, ◌<◌, ◌≤◌, ◌+◌, [], length, List, get_or, arith, ap, sym, subst, ◌∙◌, rules}
+use Rattle.std.proofs.Common.{length, get_or, arith, ap, ◌∙◌}
 use Rattle.omega_game.specs.Layout.{identifiers_of}
 use Rattle.omega_game.proofs.LayoutLemmas.{place_within, identifier_is}
 use Rattle.omega_game.proofs.game.Game.id.Goals as goal

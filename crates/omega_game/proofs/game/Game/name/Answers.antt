@@ -1,4 +1,3 @@
-use Rattle.std.proofs.Common.{◌≡◌, ℕ, ◌<◌, ◌≤◌, ◌+◌, ◌==◌, Some, None, [], length, List, get_or, arith, ap, sym, subst, ◌∙◌, rules}
 use Rattle.omega_game.proofs.LayoutLemmas.{name_is}
 use Rattle.omega_game.proofs.game.Game.name.Goals as goal
 

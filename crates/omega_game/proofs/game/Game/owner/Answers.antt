@@ -1,4 +1,4 @@
-use Rattle.std.proofs.Common.{◌≡◌, ℕ, ◌<◌, ◌≤◌, ◌+◌, [], length, List, get_or, arith, ap, sym, subst, ◌∙◌, rules}
+use Rattle.std.proofs.Common.{arith}
 use Rattle.omega_game.proofs.LayoutLemmas.{place_within, owner_is}
 use Rattle.omega_game.proofs.game.Game.owner.Goals as goal
 

@@ -1,4 +1,4 @@
-use Rattle.std.proofs.Common.{◌≡◌, ℕ, ◌<◌, ◌≤◌, ◌+◌, ◌==◌, Some, None, [], length, List, get_or, arith, ap, sym, subst, ◌∙◌, rules}
+use Rattle.std.proofs.Common.{◌≡◌, ◌==◌, length, arith, ap, sym, ◌∙◌}
 use Rattle.omega_game.proofs.LayoutLemmas.{length_is, length-listed, identifiers_are}
 use Rattle.std.proofs.lemmas.Bool.{cases_lt}
 use Rattle.std.specs.List.{position}

@@ -1,4 +1,4 @@
-use Rattle.std.proofs.Common.{◌≡◌, ℕ, ◌<◌, ◌≤◌, ◌+◌, [], length, List, get_or, arith, ap, sym, subst, ◌∙◌, rules}
+use Rattle.std.proofs.Common.{ℕ, length, List, arith, ap}
 use Rattle.omega_game.proofs.LayoutLemmas.{place_within, predecessors_are}
 use Rattle.std.proofs.lemmas.List.FromFn.{length-map-range_with_len}
 use Rattle.omega_game.proofs.game.Game.predecessors.Goals as goal

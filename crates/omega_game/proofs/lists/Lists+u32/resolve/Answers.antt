@@ -1,4 +1,4 @@
-use Rattle.std.proofs.Common.{◌≡◌, ℕ, ◌<◌, ◌≤◌, ◌+◌, ◌-◌, ◌==◌, Option, Some, None, [], ◌∷◌, ◌++◌, length, map, List, get_or, set, take, arith, ap, sym, subst, refl, ◌∙◌, rules, length-append}
+use Rattle.std.proofs.Common.{◌≡◌, length, map, arith, ap, sym, ◌∙◌}
 use Rattle.omega_game.proofs.ResolvingLemmas.{lists_of-map, flat-lists_of, list_all-flat_map}
 use Rattle.std.specs.List.{list_all}
 use Rattle.omega_game.specs.Layout.{identifiers_of, lists_of}

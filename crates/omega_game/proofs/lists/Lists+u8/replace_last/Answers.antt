@@ -1,4 +1,4 @@
-use Rattle.std.proofs.Common.{◌≡◌, ℕ, ◌<◌, ◌≤◌, ◌+◌, ◌-◌, ◌==◌, Option, Some, None, [], ◌∷◌, ◌++◌, length, List, get_or, set, take, arith, ap, sym, subst, refl, ◌∙◌, rules, length-append}
+use Rattle.std.proofs.Common.{◌≡◌, ℕ, ◌<◌, ◌-◌, ◌∷◌, length, List, get_or, take, arith, ap, ◌∙◌, length-append}
 use Rattle.omega_game.proofs.ListsLemmas.{length-lists_of, AreStarts-last, lists_of-replace_last, start_within}
 use Rattle.std.proofs.lemmas.List.{get_or_default, length-take-le}
 use Rattle.omega_game.proofs.lists.Lists+u8.replace_last.Goals as goal

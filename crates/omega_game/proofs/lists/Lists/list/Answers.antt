@@ -1,5 +1,4 @@
-use Rattle.std.proofs.Common.{◌≡◌, ℕ, ◌<◌, [], length, get_or, rules, arith, ap, sym, ◌∙◌}
-use Rattle.omega_game.specs.Layout.{list_at}
+use Rattle.std.proofs.Common.{◌<◌, [], length, get_or, arith, ap, sym, ◌∙◌}
 use Rattle.omega_game.proofs.ListsLemmas.{length-lists_of, get_or-lists_of}
 use Rattle.omega_game.proofs.lists.Lists.list.Goals as goal
 

@@ -1,4 +1,4 @@
-use Rattle.std.proofs.Common.{[], refl}
+use Rattle.std.proofs.Common.{refl}
 use Rattle.omega_game.specs.Layout.{lists_of}
 use Rattle.omega_game.proofs.lists.Lists.new.Goals as goal
 

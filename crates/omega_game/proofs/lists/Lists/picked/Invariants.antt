@@ -1,4 +1,4 @@
-use Rattle.std.proofs.Common.{◌≡◌, ℕ, [], map, take, get_or}
+use Rattle.std.proofs.Common.{◌≡◌, [], map, take, get_or}
 use Rattle.omega_game.proofs.lists.Lists.picked.Given as goal
 
 abbrev pub invariant-loop-index : goal.invariant-loop-index

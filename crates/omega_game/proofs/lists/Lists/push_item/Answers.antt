@@ -1,6 +1,5 @@
-use Rattle.std.proofs.Common.{◌≡◌, ℕ, ◌+◌, ◌<◌, [], ◌∷◌, ◌++◌, length, arith, ap, sym, subst, ◌∙◌}
+use Rattle.std.proofs.Common.{◌<◌, length, arith, ap}
 use Rattle.std.proofs.lemmas.List.{length_push}
-use Rattle.omega_game.specs.Layout.{AreStarts, lists_of}
 use Rattle.omega_game.proofs.ListsLemmas.{length-lists_of, AreStarts-grow, lists_of-push_item}
 use Rattle.omega_game.proofs.lists.Lists.push_item.Given.{Over}
 use Rattle.omega_game.proofs.lists.Lists.push_item.Goals as goal

@@ -1,5 +1,4 @@
-use Rattle.std.proofs.Common.{◌≡◌, ℕ, ◌+◌, ◌<◌, Bool, true, false, [], ◌∷◌, ◌++◌, length, arith, ap, sym, subst, ◌∙◌, length-append, is_ok, rules}
-use Rattle.omega_game.specs.Layout.{AreStarts, lists_of}
+use Rattle.std.proofs.Common.{◌≡◌, [], ◌∷◌, ◌++◌, length, length-append, rules}
 use Rattle.omega_game.proofs.ListsLemmas.{AreStarts-push, lists_of-push_list}
 use Rattle.omega_game.proofs.lists.Lists.push_list.Given.{Over}
 use Rattle.omega_game.proofs.lists.Lists.push_list.Goals as goal
