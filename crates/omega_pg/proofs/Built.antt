@@ -12,7 +12,7 @@ use Rattle.omega_text.specs.declared.refusal.game.GameFault.{GameFault}
 use Rattle.omega_game.specs.Building.{IsGameOf, has_duplicate, has_undefined}
 use Rattle.omega_game.specs.Game.{IsWithinLimits, Node}
 use Rattle.omega_game.specs.declared.node_spec.NodeSpec.{NodeSpec}
-use Rattle.omega_pg.specs.Automaton.{State}
+use Rattle.omega_pg.specs.Automaton.{IsReached, State}
 use Rattle.omega_pg.specs.Building.{IsBuiltRefusal, fault_with}
 use Rattle.omega_pg.specs.Grammar.{SpellsGame}
 use Rattle.omega_pg.specs.Reading.{IsRead}
@@ -25,28 +25,28 @@ use Rattle.omega_pg.proofs.Deciding.{IsUnfinished-from_run}
 use Rattle.omega_pg.proofs.Grammar.{SpellsGame-from_run, decides_games, raw_of, small_from_run}
 
 -- a text whose tokens lead to the end of a node writes what was kept
-writes_kept : (source : List ℕ) (state : State) → IsRead source state → state.stage ≡ Ended → Writes SpellsGame source (raw_of state)
+writes_kept : (source : List ℕ) (state : State) → IsRead (λ symbols. IsReached symbols state) source → state.stage ≡ Ended → Writes SpellsGame source (raw_of state)
 writes_kept source state read ended = record {
   lexemes = read.lexemes;
   cut = read.cut;
-  text = SpellsGame-from_run (symbols_of read.lexemes) state read.runs ended;
+  text = SpellsGame-from_run (symbols_of read.lexemes) state read.all_taken.0 ended;
 }
 
 -- a text whose tokens do not lead there ends too early
-pub refused_early : (source : List ℕ) (state : State) → length source ≤ MOST_TEXT → IsRead source state → (state.stage ≡ Ended → ⊥)
+pub refused_early : (source : List ℕ) (state : State) → length source ≤ MOST_TEXT → IsRead (λ symbols. IsReached symbols state) source → (state.stage ≡ Ended → ⊥)
     → IsReadRefusal source (Text (Syntax (length source)))
 refused_early source state short read open_stage =
-    inr (short, record { lexemes = read.lexemes; cut = read.cut; fault_there = inr (IsUnfinished-from_run decides_games read.lexemes state read.runs open_stage, refl) })
+    inr (short, record { lexemes = read.lexemes; cut = read.cut; fault_there = inr (IsUnfinished-from_run decides_games read.lexemes state read.all_taken.0 open_stage, refl) })
 
 -- the refusal of what was kept is the text's
-pub refused_built : (source : List ℕ) (state : State) (refusal : Refusal) → length source ≤ MOST_TEXT → IsRead source state → state.stage ≡ Ended
+pub refused_built : (source : List ℕ) (state : State) (refusal : Refusal) → length source ≤ MOST_TEXT → IsRead (λ symbols. IsReached symbols state) source → state.stage ≡ Ended
     → IsBuiltRefusal state.small state.specs refusal → IsReadRefusal source refusal
 refused_built source state (Text fault) short read ended refused = absurd refused
 refused_built source state (Game fault) short read ended refused = inr (record {
   short = short;
   raw = raw_of state;
   writes = writes_kept source state read ended;
-  fault_there = subst (λ small. fault_with small state.specs ≡ Some fault) (small_from_run (symbols_of read.lexemes) state read.runs) refused;
+  fault_there = subst (λ small. fault_with small state.specs ≡ Some fault) (small_from_run (symbols_of read.lexemes) state read.all_taken.0) refused;
 })
 refused_built source state (Automaton fault) short read ended refused = absurd refused
 refused_built source state (Task fault) short read ended refused = absurd refused
@@ -70,7 +70,7 @@ Covers-from_test (Some n) (spec ∷ specs) e =
     All-cons (λ spec. spec.id ≤ n) spec specs (ltb-false n spec.id parts.0) (Covers-from_test (Some n) specs parts.1)
 
 -- the game of what was kept is the text's
-pub IsGameText-built : (source : List ℕ) (state : State) (game : List Node) → length source ≤ MOST_TEXT → IsRead source state → state.stage ≡ Ended
+pub IsGameText-built : (source : List ℕ) (state : State) (game : List Node) → length source ≤ MOST_TEXT → IsRead (λ symbols. IsReached symbols state) source → state.stage ≡ Ended
     → IsGameOf state.specs game → IsWithinLimits game → fault_with state.small state.specs ≡ None → IsGameText source game
 IsGameText-built source state game short read ended rearranged limits faultless = record {
   short = short;
@@ -78,17 +78,17 @@ IsGameText-built source state game short read ended rearranged limits faultless 
   writes = writes_kept source state read ended;
   rearranged = rearranged;
   covers = Covers-from_test state.header state.specs
-      (sym (small_from_run (symbols_of read.lexemes) state read.runs) ∙ third_failed (has_duplicate state.specs) (has_undefined state.specs) state.small _ _ _ _ faultless);
+      (sym (small_from_run (symbols_of read.lexemes) state read.all_taken.0) ∙ third_failed (has_duplicate state.specs) (has_undefined state.specs) state.small _ _ _ _ faultless);
   limits = limits;
 }
 
 -- the two, of what a call gave
-pub refused_built_all : (source : List ℕ) (state : State) (result : Result (List Node) Refusal) → length source ≤ MOST_TEXT → IsRead source state
+pub refused_built_all : (source : List ℕ) (state : State) (result : Result (List Node) Refusal) → length source ≤ MOST_TEXT → IsRead (λ symbols. IsReached symbols state) source
     → state.stage ≡ Ended → IfErr result (IsBuiltRefusal state.small state.specs) → IfErr result (IsReadRefusal source)
 refused_built_all source state (Ok game) short read ended refused = tt
 refused_built_all source state (Err refusal) short read ended refused = refused_built source state refusal short read ended refused
 
-pub IsGameText-built_all : (source : List ℕ) (state : State) (result : Result (List Node) Refusal) → length source ≤ MOST_TEXT → IsRead source state
+pub IsGameText-built_all : (source : List ℕ) (state : State) (result : Result (List Node) Refusal) → length source ≤ MOST_TEXT → IsRead (λ symbols. IsReached symbols state) source
     → state.stage ≡ Ended → IfOk result (IsGameOf state.specs) → IfOk result IsWithinLimits → IfOk result (λ _. fault_with state.small state.specs ≡ None)
     → IfOk result (IsGameText source)
 IsGameText-built_all source state (Ok game) short read ended rearranged limits faultless =

@@ -1,7 +1,6 @@
 -- Automata that decide a grammar, and what they say of the tokens of a text.
 use Rattle.std.proofs.Common.{◌≡◌, ℕ, ◌≤◌, ◌⊎◌, inl, inr, Option, Some, None, List, [], ◌∷◌, ◌++◌, length, refl, ap, sym, ◌∙◌, subst, append_assoc, append-nil}
 use Rattle.std.proofs.lemmas.Bool.{cases_lt}
-use Rattle.std.proofs.lemmas.List.{map-append}
 use Rattle.omega_text.specs.Cut.{IsCut}
 use Rattle.omega_text.specs.Fault.{IsFault}
 use Rattle.omega_text.specs.Laws.{CutOrFault, CutsAreOne}
@@ -14,6 +13,7 @@ use Rattle.omega_pg.specs.Symbols.{Symbol, symbol, symbols_of}
 use Rattle.omega_pg.specs.Syntax.{Begins, IsTextFault, IsUnfinished, IsWrongAt, Writes}
 use Rattle.omega_pg.proofs.Fronts.{IsWrongAt-more}
 use Rattle.omega_pg.proofs.Runs.{run_by_on, run_by_push, run_by_stopped}
+use Rattle.omega_pg.proofs.Tokens.{symbols_of-push}
 
 -- symbols lead to an end, where this raw text is kept
 pub record Reads {Raw State : Type 0} (step : State → Symbol → Option State) (from : State) (IsEnded : State → Type 0) (raw_of : State → Raw)
@@ -46,7 +46,7 @@ pub record IsWrittenText {Raw : Type 0} (Grammar : List Symbol → Raw → Type 
 
 -- some token is the first wrong one
 abbrev pub HasWrong : {Raw : Type 0} → (List Symbol → Raw → Type 0) → List Lexeme → Type 0
-HasWrong Grammar lexemes = (place : ℕ) × IsWrongAt Grammar lexemes place
+HasWrong Grammar lexemes = (place : ℕ) × IsWrongAt (Begins Grammar) lexemes place
 
 -- the bytes have a fault
 abbrev pub HasFault : {Raw : Type 0} → (List Symbol → Raw → Type 0) → List ℕ → Type 0
@@ -85,17 +85,25 @@ module _ {Raw State : Type 0} {Grammar : List Symbol → Raw → Type 0} {step :
       let clash : Some found.state ≡ None = sym found.runs ∙ run_by_stopped step initial symbols begins.0 none in
       cc
 
+  -- a symbol at which a run stops ends what begins a text
+  pub refused_from_run : (symbols : List Symbol) (symbol : Symbol) (state : State) → run_by step initial symbols ≡ Some state → step state symbol ≡ None
+      → Begins Grammar symbols × (Begins Grammar (symbols ++ symbol ∷ []) → ⊥)
+  refused_from_run symbols symbol state e none = (
+    begins_from_run symbols state e,
+    (λ begins. run_begins (symbols ++ symbol ∷ []) begins (run_by_push step initial state symbols symbol e ∙ none)),
+  )
+
   -- a token that is taken goes on with the run
   pub run_taken : (lexemes : List Lexeme) (lexeme : Lexeme) (state : State) → run_by step initial (symbols_of lexemes) ≡ Some state
       → run_by step initial (symbols_of (lexemes ++ lexeme ∷ [])) ≡ step state (symbol lexeme.kind lexeme.value lexeme.text)
   run_taken lexemes lexeme state e =
-      ap (run_by step initial) (map-append (λ (one : Lexeme). symbol one.kind one.value one.text) lexemes (lexeme ∷ []))
+      ap (run_by step initial) (symbols_of-push lexemes lexeme)
       ∙ run_by_push step initial state (symbols_of lexemes) (symbol lexeme.kind lexeme.value lexeme.text) e
 
   -- a token that is not taken is the first wrong one
   pub IsWrongAt-refused : (lexemes : List Lexeme) (lexeme : Lexeme) (state : State) → run_by step initial (symbols_of lexemes) ≡ Some state
       → step state (symbol lexeme.kind lexeme.value lexeme.text) ≡ None
-      → IsWrongAt Grammar (lexemes ++ lexeme ∷ []) lexeme.span.start
+      → IsWrongAt (Begins Grammar) (lexemes ++ lexeme ∷ []) lexeme.span.start
   IsWrongAt-refused lexemes lexeme state e none = record {
     front = lexemes;
     wrong = lexeme;
@@ -128,8 +136,8 @@ module _ {Raw State : Type 0} {Grammar : List Symbol → Raw → Type 0} {step :
       → ((next : State) × (run_by step initial (symbols_of (front ++ one ∷ rest)) ≡ Some next)) ⊎ HasWrong Grammar (front ++ one ∷ rest)) [
         | None ↦ λ f. inr (
           one.span.start,
-          subst (λ list. IsWrongAt Grammar list one.span.start) (append_assoc front (one ∷ []) rest)
-              (IsWrongAt-more Grammar (front ++ one ∷ []) rest one.span.start (IsWrongAt-refused front one state e f)),
+          subst (λ list. IsWrongAt (Begins Grammar) list one.span.start) (append_assoc front (one ∷ []) rest)
+              (IsWrongAt-more (Begins Grammar) (front ++ one ∷ []) rest one.span.start (IsWrongAt-refused front one state e f)),
         )
         | Some next ↦ λ f. subst (λ list. ((last : State) × (run_by step initial (symbols_of list) ≡ Some last)) ⊎ HasWrong Grammar list)
             (append_assoc front (one ∷ []) rest)

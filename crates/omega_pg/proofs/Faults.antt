@@ -7,13 +7,13 @@ use Rattle.omega_text.specs.declared.limits.TheConstants.{MOST_TEXT}
 use Rattle.omega_text.specs.declared.refusal.text.TextFault.{TextFault}
 use Rattle.omega_text.specs.declared.refusal.text.TextFault.TheVariants.{Lex, Number, Syntax, TooLong}
 use Rattle.omega_pg.specs.Symbols.{Symbol, symbols_of}
-use Rattle.omega_pg.specs.Syntax.{IsMisplaced, IsTextFault, IsUnfinished, IsWrongAt, Writes}
+use Rattle.omega_pg.specs.Syntax.{Begins, IsMisplaced, IsTextFault, IsUnfinished, IsWrongAt, Writes}
 use Rattle.omega_pg.proofs.Fronts.{IsWrongAt-begins, IsWrongAt-one}
 
 module _ {Raw : Type 0} (Grammar : List Symbol → Raw → Type 0) (cuts_are_one : CutsAreOne) where
   -- tokens that are no text, with the place of their fault, and the length of the text
   abbrev pub IsMisplacedIn : List Lexeme → ℕ → ℕ → Type 0
-  IsMisplacedIn lexemes size place = IsWrongAt Grammar lexemes place ⊎ (IsUnfinished Grammar lexemes × (place ≡ size))
+  IsMisplacedIn lexemes size place = IsWrongAt (Begins Grammar) lexemes place ⊎ (IsUnfinished Grammar lexemes × (place ≡ size))
 
   -- the place of a syntax fault among the tokens of a cut
   pub misplaced_in : (source : List ℕ) (lexemes : List Lexeme) (place : ℕ) → IsCut source lexemes → IsMisplaced Grammar source place

@@ -46,7 +46,7 @@ module _ {Raw : Type 0} (Grammar : List Symbol → Raw → Type 0) where
       (subst (λ list. Begins Grammar (symbols_of list)) (on.1 ∙ sym (append_assoc front (token ∷ []) on.0)) begins)
 
   -- the first wrong token stands at one place
-  pub IsWrongAt-one : (lexemes : List Lexeme) (place other : ℕ) → IsWrongAt Grammar lexemes place → IsWrongAt Grammar lexemes other → place ≡ other
+  pub IsWrongAt-one : (lexemes : List Lexeme) (place other : ℕ) → IsWrongAt (Begins Grammar) lexemes place → IsWrongAt (Begins Grammar) lexemes other → place ≡ other
   IsWrongAt-one lexemes place other a b =
       elim (cases_split a.front b.front a.wrong b.wrong a.rest b.rest (sym a.split ∙ b.split)) as (λ _. place ≡ other) [
         | inl same ↦ a.there ∙ ap (λ (token : Lexeme). token.span.start) same.1 ∙ sym b.there
@@ -57,17 +57,17 @@ module _ {Raw : Type 0} (Grammar : List Symbol → Raw → Type 0) where
       ]
 
   -- what begins a text has no wrong token
-  pub IsWrongAt-begins : (lexemes : List Lexeme) (place : ℕ) → IsWrongAt Grammar lexemes place → Begins Grammar (symbols_of lexemes) → ⊥
+  pub IsWrongAt-begins : (lexemes : List Lexeme) (place : ℕ) → IsWrongAt (Begins Grammar) lexemes place → Begins Grammar (symbols_of lexemes) → ⊥
   IsWrongAt-begins lexemes place there begins = there.ends (Begins-through there.front lexemes there.wrong (there.rest, there.split) begins)
 
-  -- the first wrong token stays so, whatever follows
-  pub IsWrongAt-more : (lexemes more : List Lexeme) (place : ℕ) → IsWrongAt Grammar lexemes place → IsWrongAt Grammar (lexemes ++ more) place
-  IsWrongAt-more lexemes more place there = record {
-    front = there.front;
-    wrong = there.wrong;
-    rest = there.rest ++ more;
-    split = ap (λ list. list ++ more) there.split ∙ append_assoc there.front (there.wrong ∷ there.rest) more;
-    begins = there.begins;
-    ends = there.ends;
-    there = there.there;
-  }
+-- the first wrong token stays so, whatever follows
+pub IsWrongAt-more : (begins : List Symbol → Type 0) (lexemes more : List Lexeme) (place : ℕ) → IsWrongAt begins lexemes place → IsWrongAt begins (lexemes ++ more) place
+IsWrongAt-more begins lexemes more place there = record {
+  front = there.front;
+  wrong = there.wrong;
+  rest = there.rest ++ more;
+  split = ap (λ list. list ++ more) there.split ∙ append_assoc there.front (there.wrong ∷ there.rest) more;
+  begins = there.begins;
+  ends = there.ends;
+  there = there.there;
+}

@@ -1,14 +1,17 @@
 -- The automaton of game texts decides their grammar.
-use Rattle.std.proofs.Common.{◌≡◌, ℕ, ◌⊎◌, inl, inr, Bool, Option, Some, List, [], ◌∷◌, refl, ◌∙◌, subst, IfSome, append-nil}
+use Rattle.std.proofs.Common.{◌≡◌, ℕ, ◌⊎◌, inl, inr, Bool, true, false, Result, Ok, Err, IfOk, Option, Some, List, [], ◌∷◌, refl, ◌∙◌, subst, IfSome, append-nil}
 use Rattle.omega_game.specs.declared.node_spec.NodeSpec.{NodeSpec}
-use Rattle.omega_pg.specs.Automaton.{State, initial, run, step}
+use Rattle.omega_text.specs.declared.refusal.Refusal.{Refusal}
+use Rattle.omega_pg.specs.Automaton.{IsReached, State, Takes, initial, run, step}
 use Rattle.omega_pg.specs.Grammar.{RawGame, SpellsGame}
+use Rattle.omega_pg.specs.Reading.{TakesOrRefuses}
 use Rattle.omega_pg.specs.Refusing.{is_header_small}
 use Rattle.omega_pg.specs.Symbols.{Symbol, number, semicolon}
+use Rattle.omega_pg.specs.Syntax.{Begins}
 use Rattle.omega_pg.specs.declared.stage.Stage.{Stage}
 use Rattle.omega_pg.specs.declared.stage.Stage.TheVariants.{Comma, Ended, Headed, Identifier, Listed, Named, Number, Owner, Priority, Start, Word}
-use Rattle.omega_pg.proofs.Deciding.{Completes, Decides, Reads}
-use Rattle.omega_pg.proofs.Runs.{run_by_shown}
+use Rattle.omega_pg.proofs.Deciding.{Completes, Decides, Reads, refused_from_run}
+use Rattle.omega_pg.proofs.Runs.{run_by_push, run_by_shown}
 use Rattle.omega_pg.proofs.Shown.{Shows, ShowsAt, spelled, step_shown}
 use Rattle.omega_pg.proofs.Spelled.{at, run_text}
 
@@ -89,3 +92,17 @@ decides_games = record {
   completes = λ state. completes state.stage state.header state.specs state.small;
   ends = λ state. ended_or_open state.stage;
 }
+
+-- a symbol that is taken leads on, and one that is refused ends what begins a text
+taken_reached : (taken : Bool) (state next : State) (symbol : Symbol) (symbols : List Symbol) → Takes taken (step state symbol) next → IsReached symbols state
+    → TakesOrRefuses taken (Begins SpellsGame) (λ all. IsReached all next) symbols symbol
+taken_reached true state next symbol symbols takes reached = (run_by_push step initial state symbols symbol reached.0 ∙ takes.0, takes.1)
+taken_reached false state next symbol symbols takes reached = refused_from_run decides_games symbols symbol state reached.0 takes
+
+-- the same of a call
+pub taken_reached_all : (Self : Type 0) (result : Result Bool Refusal) (state next : State) (symbol : Symbol)
+    → IfOk result (λ taken. Takes taken (step state symbol) next)
+    → IfOk result (λ taken. (start : Self) (symbols : List Symbol) → IsReached symbols state
+    → TakesOrRefuses taken (Begins SpellsGame) (λ all. IsReached all next) symbols symbol)
+taken_reached_all Self (Ok taken) state next symbol takes = λ start symbols reached. taken_reached taken state next symbol symbols takes reached
+taken_reached_all Self (Err refusal) state next symbol takes = tt

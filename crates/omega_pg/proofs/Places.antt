@@ -29,7 +29,7 @@ within source from to (one ∷ front) rest token cuts = within source one.span.e
 module _ {Raw : Type 0} (Grammar : List Symbol → Raw → Type 0) where
   -- a text of the grammar begins through a token exactly if it stands before the first wrong one
   first_wrong : (source : List ℕ) (to place : ℕ) (front rest : List Lexeme) (token : Lexeme)
-      → Cuts source 0 (front ++ token ∷ rest) to → IsWrongAt Grammar (front ++ token ∷ rest) place
+      → Cuts source 0 (front ++ token ∷ rest) to → IsWrongAt (Begins Grammar) (front ++ token ∷ rest) place
       → Begins Grammar (symbols_of (front ++ token ∷ [])) ↔ (token.span.start < place)
   first_wrong source to place front rest token cuts wrong =
       elim (cases_split front wrong.front token wrong.wrong rest wrong.rest wrong.split)

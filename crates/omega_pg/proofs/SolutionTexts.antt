@@ -5,46 +5,58 @@ use Rattle.omega_text.specs.declared.refusal.Refusal.{Refusal}
 use Rattle.omega_text.specs.declared.refusal.Refusal.TheVariants.{Text}
 use Rattle.omega_text.specs.declared.refusal.text.TextFault.TheVariants.{Syntax}
 use Rattle.omega_game.specs.Game.{Node}
+use Rattle.omega_pg.specs.Reading.{IsRead}
 use Rattle.omega_pg.specs.SolutionLines.{IsOutcome}
-use Rattle.omega_pg.specs.SolutionReading.{IsSolutionRead}
+use Rattle.omega_pg.specs.SolutionReader.{HasBecome}
+use Rattle.omega_pg.specs.SolutionReading.{HasTaken}
 use Rattle.omega_pg.specs.SolutionText.{IsReadSolutionRefusal, IsSolutionText, SpellsSolution}
 use Rattle.omega_pg.specs.Symbols.{symbols_of}
 use Rattle.omega_pg.specs.Syntax.{Writes}
 use Rattle.omega_pg.specs.declared.solution.Solution.{Solution}
 use Rattle.omega_pg.specs.declared.solution_lines.SolutionLines.{SolutionLines}
+use Rattle.omega_pg.specs.declared.solution_reader.SolutionReader.{SolutionReader}
 use Rattle.omega_pg.specs.declared.solution_stage.SolutionStage.{SolutionStage}
 use Rattle.omega_pg.specs.declared.solution_stage.SolutionStage.TheVariants.{Ended}
 use Rattle.omega_pg.proofs.Deciding.{IsUnfinished-from_run}
 use Rattle.omega_pg.proofs.SolutionGrammar.{SpellsSolution-from_run, decides_solutions}
 
+-- what a new reader of the game became is what the text says of the game
+pub read_for : (source : List ℕ) (nodes : List Node) (start reader : SolutionReader) → start.game.now ≡ nodes
+    → IsRead (λ symbols. HasBecome start symbols reader) source → IsRead (λ symbols. HasTaken nodes symbols reader.stage reader.greatest reader.lines) source
+read_for source nodes start reader e read = record {
+  lexemes = read.lexemes;
+  cut = read.cut;
+  all_taken = subst (λ list. HasTaken list (symbols_of read.lexemes) reader.stage reader.greatest reader.lines) e read.all_taken.1;
+}
+
 -- a text whose tokens do not lead to the end of the header or of a line ends too early
 pub solution_early : (source : List ℕ) (nodes : List Node) (stage : SolutionStage) (greatest : ℕ) (lines : SolutionLines) → length source ≤ MOST_TEXT
-    → IsSolutionRead source nodes stage greatest lines → (stage ≡ Ended → ⊥) → IsReadSolutionRefusal nodes source (Text (Syntax (length source)))
+    → IsRead (λ symbols. HasTaken nodes symbols stage greatest lines) source → (stage ≡ Ended → ⊥) → IsReadSolutionRefusal nodes source (Text (Syntax (length source)))
 solution_early source nodes stage greatest lines short read open_stage =
     inr (
       short,
       record {
         lexemes = read.lexemes;
         cut = read.cut;
-        fault_there = inr (IsUnfinished-from_run decides_solutions read.lexemes read.state read.runs (λ e. open_stage (read.keeps.same_stage ∙ e)), refl);
+        fault_there = inr (IsUnfinished-from_run decides_solutions read.lexemes read.all_taken.state read.all_taken.runs (λ e. open_stage (read.all_taken.keeps.same_stage ∙ e)), refl);
       },
     )
 
 -- the raw text that was read
 written_read : (source : List ℕ) (nodes : List Node) (stage : SolutionStage) (greatest : ℕ) (lines : SolutionLines)
-    → (read : IsSolutionRead source nodes stage greatest lines) → stage ≡ Ended
-    → Writes SpellsSolution source (record { greatest = greatest; lines = read.state.lines })
+    → (read : IsRead (λ symbols. HasTaken nodes symbols stage greatest lines) source) → stage ≡ Ended
+    → Writes SpellsSolution source (record { greatest = greatest; lines = read.all_taken.state.lines })
 written_read source nodes stage greatest lines read ended = record {
   lexemes = read.lexemes;
   cut = read.cut;
-  text = subst (λ n. SpellsSolution (symbols_of read.lexemes) (record { greatest = n; lines = read.state.lines })) (sym read.keeps.same_greatest)
-      (SpellsSolution-from_run (symbols_of read.lexemes) read.state read.runs (sym read.keeps.same_stage ∙ ended));
+  text = subst (λ n. SpellsSolution (symbols_of read.lexemes) (record { greatest = n; lines = read.all_taken.state.lines })) (sym read.all_taken.keeps.same_greatest)
+      (SpellsSolution-from_run (symbols_of read.lexemes) read.all_taken.state read.all_taken.runs (sym read.all_taken.keeps.same_stage ∙ ended));
 }
 
 -- what the lines come to is what the text stands for
 module _ (source : List ℕ) (nodes : List Node) (stage : SolutionStage) (greatest : ℕ) (lines : SolutionLines) (short : length source ≤ MOST_TEXT)
-    (read : IsSolutionRead source nodes stage greatest lines) (ended : stage ≡ Ended) where
-  pub solution_read : (result : Result Solution Refusal) → IsOutcome nodes (record { greatest = greatest; lines = read.state.lines }) result
+    (read : IsRead (λ symbols. HasTaken nodes symbols stage greatest lines) source) (ended : stage ≡ Ended) where
+  pub solution_read : (result : Result Solution Refusal) → IsOutcome nodes (record { greatest = greatest; lines = read.all_taken.state.lines }) result
       → IfOk result (IsSolutionText nodes source)
   solution_read (Ok solution) outcome = record {
     short = short;
@@ -53,7 +65,7 @@ module _ (source : List ℕ) (nodes : List Node) (stage : SolutionStage) (greate
   }
   solution_read (Err refusal) outcome = tt
 
-  pub solution_refused : (result : Result Solution Refusal) → IsOutcome nodes (record { greatest = greatest; lines = read.state.lines }) result
+  pub solution_refused : (result : Result Solution Refusal) → IsOutcome nodes (record { greatest = greatest; lines = read.all_taken.state.lines }) result
       → IfErr result (IsReadSolutionRefusal nodes source)
   solution_refused (Ok solution) outcome = tt
   solution_refused (Err refusal) outcome =
@@ -61,7 +73,7 @@ module _ (source : List ℕ) (nodes : List Node) (stage : SolutionStage) (greate
         refl,
         record {
           short = short;
-          raw = record { greatest = greatest; lines = read.state.lines };
+          raw = record { greatest = greatest; lines = read.all_taken.state.lines };
           writes = written_read source nodes stage greatest lines read ended;
           wrong = outcome.1;
         },

@@ -112,6 +112,10 @@ IsReadyAt Named specs = 0 < length specs
 abbrev pub IsReady : State → Type 0
 IsReady state = IsReadyAt state.stage state.specs
 
+-- the symbols lead from nothing to a state that a reader may rely on
+abbrev pub IsReached : List Symbol → State → Type 0
+IsReached symbols state = (run initial symbols ≡ Some state) × IsReady state
+
 -- a call took a symbol or refused it: the new state is the next, or there is no next
 abbrev pub Takes : Bool → Option State → State → Type 0
 Takes true next new = (next ≡ Some new) × IsReady new

@@ -12,6 +12,7 @@ pub mod Solution
 pub mod SolutionAutomaton
 pub mod SolutionLaws
 pub mod SolutionLines
+pub mod SolutionReader
 pub mod SolutionReading
 pub mod SolutionText
 pub mod Symbols

@@ -19,14 +19,14 @@ pub record Writes {Raw : Type 0} (Grammar : List Symbol → Raw → Type 0) (sou
 abbrev pub Begins : {Raw : Type 0} → (List Symbol → Raw → Type 0) → List Symbol → Type 0
 Begins {Raw} Grammar symbols = (more : List Symbol) × (raw : Raw) × Grammar (symbols ++ more) raw
 
--- the first token through which no text of the grammar begins stands at this place
-pub record IsWrongAt {Raw : Type 0} (Grammar : List Symbol → Raw → Type 0) (lexemes : List Lexeme) (place : ℕ) : Type 0 where
+-- the first token through which no text begins stands at this place
+pub record IsWrongAt (begins_text : List Symbol → Type 0) (lexemes : List Lexeme) (place : ℕ) : Type 0 where
   pub front : List Lexeme
   pub wrong : Lexeme
   pub rest : List Lexeme
   pub split : lexemes ≡ front ++ wrong ∷ rest
-  pub begins : Begins Grammar (symbols_of front)
-  pub ends : Begins Grammar (symbols_of (front ++ wrong ∷ [])) → ⊥
+  pub begins : begins_text (symbols_of front)
+  pub ends : begins_text (symbols_of (front ++ wrong ∷ [])) → ⊥
   pub there : place ≡ wrong.span.start
 
 -- the tokens begin a text of the grammar, and are none
@@ -38,7 +38,7 @@ pub record IsUnfinished {Raw : Type 0} (Grammar : List Symbol → Raw → Type 0
 pub record IsMisplaced {Raw : Type 0} (Grammar : List Symbol → Raw → Type 0) (source : List ℕ) (place : ℕ) : Type 0 where
   pub lexemes : List Lexeme
   pub cut : IsCut source lexemes
-  pub fault_there : IsWrongAt Grammar lexemes place ⊎ (IsUnfinished Grammar lexemes × (place ≡ length source))
+  pub fault_there : IsWrongAt (Begins Grammar) lexemes place ⊎ (IsUnfinished Grammar lexemes × (place ≡ length source))
 
 -- the fault of bytes that are no text of the grammar: the length first, then tokens, then syntax
 abbrev pub IsTextFault : {Raw : Type 0} → (List Symbol → Raw → Type 0) → List ℕ → TextFault → Type 0

@@ -12,6 +12,7 @@ mod solution_reading;
 mod solution_stage;
 mod solution_writing;
 mod stage;
+mod token_reader;
 mod writing;
 
 pub use laws::{

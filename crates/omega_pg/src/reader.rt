@@ -4,6 +4,7 @@ ghost use Rattle.omega_game.specs.Game.{IsNameByte};
 ghost use Rattle.omega_pg.specs.Symbols.{unquoted};
 
 use crate::stage::Stage;
+use crate::token_reader::TokenReader;
 use omega_game::{GameBuilder, MOST_NUMBER, Player, Refusal};
 use omega_text::{Kind, Token};
 use std::alloc::Global;
@@ -21,9 +22,7 @@ pub(crate) struct Reader {
 }
 
 impl Reader {
-    ghost use Rattle.omega_pg.specs.Automaton.{IsReady, Takes, after_comma, after_name, after_number, after_semicolon, after_word, initial, step};
-    ghost use Rattle.omega_pg.specs.Symbols.{symbol};
-    ghost use Rattle.omega_text.specs.Forms.{Spells};
+    ghost use Rattle.omega_pg.specs.Automaton.{IsReady, Takes, after_comma, after_name, after_number, after_semicolon, after_word, initial};
     ghost use Rattle.omega_pg.specs.Reader.{state_of};
     ghost use Rattle.omega_game.specs.Game.{IsNameByte};
 
@@ -35,23 +34,6 @@ impl Reader {
             header: None,
             builder: GameBuilder::new(alloc),
             small: false,
-        }
-    }
-
-    /// Takes a token, unless no text goes on so.
-    pub(crate) fn take(&mut self, token: &Token<'_>) -> Result<bool, Refusal>
-        requires ready { IsReady (state_of self.old) }
-        requires token { Spells token.now.kind token.now.value token.now.text.now }
-        ensures takes { IfOk result (λ taken. Takes taken (step (state_of self.old) (symbol token.now.kind token.now.value token.now.text.now)) (state_of self.new)) }
-        ensures memory { IsOkUnless result Refusal.Memory }
-    {
-        match token.kind {
-            Kind::Number => self.take_number(token.value),
-            Kind::Parity => Ok(self.take_word()),
-            Kind::ParitySol => Ok(false),
-            Kind::Semicolon => Ok(self.take_semicolon()),
-            Kind::Comma => Ok(self.take_comma()),
-            Kind::Name => self.take_name(unquoted_name(token.text)),
         }
     }
 
@@ -167,6 +149,35 @@ impl Reader {
                 Ok(true)
             }
             _ => Ok(false),
+        }
+    }
+}
+
+impl TokenReader for Reader {
+    ghost use Rattle.omega_pg.specs.Automaton.{IsReached, IsReady, Takes, step};
+    ghost use Rattle.omega_pg.specs.Grammar.{SpellsGame};
+    ghost use Rattle.omega_pg.specs.Symbols.{symbol};
+    ghost use Rattle.omega_text.specs.Forms.{Spells};
+    ghost use Rattle.omega_pg.specs.Reader.{state_of};
+    ghost use Rattle.omega_pg.specs.Syntax.{Begins};
+
+    ghost becomes = { λ _ symbols reader. IsReached symbols (state_of reader) };
+
+    ghost begins = { Begins SpellsGame };
+
+    fn take(&mut self, token: &Token<'_>) -> Result<bool, Refusal>
+        requires ready { IsReady (state_of self.old) }
+        requires token { Spells token.now.kind token.now.value token.now.text.now }
+        ensures takes { IfOk result (λ taken. Takes taken (step (state_of self.old) (symbol token.now.kind token.now.value token.now.text.now)) (state_of self.new)) }
+        ensures memory { IsOkUnless result Refusal.Memory }
+    {
+        match token.kind {
+            Kind::Number => self.take_number(token.value),
+            Kind::Parity => Ok(self.take_word()),
+            Kind::ParitySol => Ok(false),
+            Kind::Semicolon => Ok(self.take_semicolon()),
+            Kind::Comma => Ok(self.take_comma()),
+            Kind::Name => self.take_name(unquoted_name(token.text)),
         }
     }
 }

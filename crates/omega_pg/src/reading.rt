@@ -1,16 +1,15 @@
-ghost use Rattle.std.specs.Prelude.{◌≡◌, ◌≤◌, ◌<◌, length, None, IfOk, IfErr};
+ghost use Rattle.std.specs.Prelude.{◌≡◌, ◌<◌, length, None, IfOk, IfErr};
 ghost use Rattle.omega_game.specs.Building.{IsGameOf};
 ghost use Rattle.omega_game.specs.Game.{IsWithinLimits};
 ghost use Rattle.omega_pg.specs.Building.{IsBuiltRefusal, fault_with};
-ghost use Rattle.omega_pg.specs.Reader.{state_of};
-ghost use Rattle.omega_pg.specs.Reading.{IsRead};
 ghost use Rattle.omega_pg.specs.Refusing.{IsReadRefusal};
 ghost use Rattle.omega_pg.specs.Text.{IsGameText};
 
 use crate::reader::Reader;
 use crate::stage::Stage;
+use crate::token_reader::read_tokens;
 use omega_game::{Game, GameBuilder, GameFault, Refusal};
-use omega_text::{MOST_TEXT, TextFault, next_token};
+use omega_text::{MOST_TEXT, TextFault};
 use std::alloc::Global;
 
 /// The game that a text of PGSolver's format stands for. 1 to 4, 10 to 14 or 60: the refusal of the text, or memory.
@@ -33,31 +32,10 @@ pub fn read_game(alloc: Global, bytes: &[u8]) -> Result<Game, Refusal>
         builder,
         small,
         ..
-    } = read_tokens(alloc, bytes)?;
+    } = read_tokens(Reader::new(alloc), bytes)?;
     match stage {
         Stage::Ended => built(builder, small),
         _ => Err(Refusal::Text(TextFault::Syntax { at: bytes.len() })),
-    }
-}
-
-/// What the tokens of a text lead to, if it can be cut and no token is wrong.
-fn read_tokens(alloc: Global, bytes: &[u8]) -> Result<Reader, Refusal>
-    requires { length bytes.now ≤ MOST_TEXT }
-    ensures read { IfOk result (λ reader. IsRead bytes.now (state_of reader)) }
-    ensures refused { IfErr result (IsReadRefusal bytes.now) }
-{
-    let mut reader = Reader::new(alloc);
-    let mut wrong = None;
-    let mut at = 0;
-    while let Some(token) = next_token(bytes, at)? {
-        at = token.span.end;
-        if wrong.is_none() && !reader.take(&token)? {
-            wrong = Some(token.span.start);
-        }
-    }
-    match wrong {
-        Some(at) => Err(Refusal::Text(TextFault::Syntax { at })),
-        None => Ok(reader),
     }
 }
 

@@ -3,55 +3,41 @@ ghost use Rattle.omega_pg.specs.SolutionAutomaton.{stage_after_number, stage_aft
 
 use crate::solution_lines::SolutionLines;
 use crate::solution_stage::SolutionStage;
+use crate::token_reader::TokenReader;
 use omega_game::{Game, Player, Refusal};
 use omega_text::{Kind, Token};
 use std::alloc::Global;
 
-/// What was read of a solution text so far.
+/// What was read so far of a text of a game's solution.
 #[derive(Drop)]
-pub(crate) struct SolutionReader {
+pub(crate) struct SolutionReader<'g> {
+    pub(crate) game: &'g Game,
     pub(crate) stage: SolutionStage,
     /// The number of the header.
     pub(crate) greatest: u32,
     pub(crate) lines: SolutionLines,
 }
 
-impl SolutionReader {
-    ghost use Rattle.omega_pg.specs.SolutionAutomaton.{SolutionState, after_semicolon, initial, step};
-    ghost use Rattle.omega_pg.specs.SolutionReading.{GoesOn, Keeps, TakesOrRefuses};
-    ghost use Rattle.omega_pg.specs.Symbols.{symbol};
-    ghost use Rattle.std.specs.Prelude.{List};
-    ghost use Rattle.omega_game.specs.Game.{Node};
+impl<'g> SolutionReader<'g> {
+    ghost use Rattle.omega_pg.specs.SolutionAutomaton.{SolutionState, after_semicolon, initial};
+    ghost use Rattle.omega_pg.specs.SolutionReading.{GoesOn, Keeps, KeepsNext};
 
-    pub(crate) fn new(alloc: Global) -> Self
-        ensures { (nodes : List Node) → Keeps nodes initial result.stage result.greatest result.lines }
+    pub(crate) fn new(alloc: Global, game: &'g Game) -> Self
+        ensures game { result.game.now ≡ game.now }
+        ensures keeps { Keeps game.now initial result.stage result.greatest result.lines }
     {
         SolutionReader {
+            game,
             stage: SolutionStage::Start,
             greatest: 0,
             lines: SolutionLines::new(alloc),
         }
     }
 
-    /// Takes a token, unless no text goes on so.
-    pub(crate) fn take(&mut self, game: &Game, token: &Token<'_>) -> Result<bool, Refusal>
-        ensures takes { IfOk result (λ taken. (state : SolutionState) → Keeps game.now state self.old.stage self.old.greatest self.old.lines
-            → TakesOrRefuses taken game.now (step state (symbol token.now.kind token.now.value token.now.text.now)) self.new.stage self.new.greatest self.new.lines) }
-        ensures memory { IsOkUnless result Refusal.Memory }
-    {
-        match token.kind {
-            Kind::Number => Ok(self.go_on(after_number(self.stage, token.value))),
-            Kind::ParitySol => Ok(self.go_on(after_word(self.stage))),
-            Kind::Semicolon => self.take_semicolon(game),
-            Kind::Parity => Ok(false),
-            Kind::Comma => Ok(false),
-            Kind::Name => Ok(false),
-        }
-    }
-
     /// Goes on to a stage, if there is one.
     fn go_on(&mut self, next: Option<SolutionStage>) -> bool
-        ensures { GoesOn result next self.old.stage self.old.greatest self.old.lines self.new.stage self.new.greatest self.new.lines }
+        ensures goes { GoesOn result next self.old.stage self.old.greatest self.old.lines self.new.stage self.new.greatest self.new.lines }
+        ensures game { self.new.game.now ≡ self.old.game.now }
     {
         match next {
             Some(stage) => {
@@ -63,9 +49,10 @@ impl SolutionReader {
     }
 
     /// Takes a semicolon, unless no text goes on so.
-    fn take_semicolon(&mut self, game: &Game) -> Result<bool, Refusal>
-        ensures takes { IfOk result (λ taken. (state : SolutionState) → Keeps game.now state self.old.stage self.old.greatest self.old.lines
-            → TakesOrRefuses taken game.now (after_semicolon state.stage state) self.new.stage self.new.greatest self.new.lines) }
+    fn take_semicolon(&mut self) -> Result<bool, Refusal>
+        ensures takes { IfOk result (λ taken. (state : SolutionState) → Keeps self.old.game.now state self.old.stage self.old.greatest self.old.lines
+            → KeepsNext taken self.old.game.now (after_semicolon state.stage state) self.new.stage self.new.greatest self.new.lines) }
+        ensures game { self.new.game.now ≡ self.old.game.now }
         ensures memory { IsOkUnless result Refusal.Memory }
     {
         match self.stage {
@@ -75,7 +62,7 @@ impl SolutionReader {
                 Ok(true)
             }
             SolutionStage::Winner { id, winner } => {
-                self.lines.add(game, id, winner, None)?;
+                self.lines.add(self.game, id, winner, None)?;
                 self.stage = SolutionStage::Ended;
                 Ok(true)
             }
@@ -84,11 +71,40 @@ impl SolutionReader {
                 winner,
                 successor,
             } => {
-                self.lines.add(game, id, winner, Some(successor))?;
+                self.lines.add(self.game, id, winner, Some(successor))?;
                 self.stage = SolutionStage::Ended;
                 Ok(true)
             }
             _ => Ok(false),
+        }
+    }
+}
+
+impl TokenReader for SolutionReader<'_> {
+    ghost use Rattle.omega_pg.specs.SolutionAutomaton.{SolutionState, step};
+    ghost use Rattle.omega_pg.specs.SolutionReader.{HasBecome};
+    ghost use Rattle.omega_pg.specs.SolutionReading.{Keeps, KeepsNext};
+    ghost use Rattle.omega_pg.specs.SolutionText.{SpellsSolution};
+    ghost use Rattle.omega_pg.specs.Symbols.{symbol};
+    ghost use Rattle.omega_pg.specs.Syntax.{Begins};
+
+    ghost becomes = { HasBecome };
+
+    ghost begins = { Begins SpellsSolution };
+
+    fn take(&mut self, token: &Token<'_>) -> Result<bool, Refusal>
+        ensures takes { IfOk result (λ taken. (state : SolutionState) → Keeps self.old.game.now state self.old.stage self.old.greatest self.old.lines
+            → KeepsNext taken self.old.game.now (step state (symbol token.now.kind token.now.value token.now.text.now)) self.new.stage self.new.greatest self.new.lines) }
+        ensures game { self.new.game.now ≡ self.old.game.now }
+        ensures memory { IsOkUnless result Refusal.Memory }
+    {
+        match token.kind {
+            Kind::Number => Ok(self.go_on(after_number(self.stage, token.value))),
+            Kind::ParitySol => Ok(self.go_on(after_word(self.stage))),
+            Kind::Semicolon => self.take_semicolon(),
+            Kind::Parity => Ok(false),
+            Kind::Comma => Ok(false),
+            Kind::Name => Ok(false),
         }
     }
 }

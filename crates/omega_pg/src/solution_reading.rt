@@ -1,12 +1,12 @@
-ghost use Rattle.std.specs.Prelude.{◌≡◌, ◌≤◌, length, IfOk, IfErr};
-ghost use Rattle.omega_pg.specs.SolutionReading.{IsSolutionRead};
+ghost use Rattle.std.specs.Prelude.{IfErr, IfOk};
 ghost use Rattle.omega_pg.specs.SolutionText.{IsReadSolutionRefusal, IsSolutionText};
 
 use crate::solution::Solution;
 use crate::solution_reader::SolutionReader;
 use crate::solution_stage::SolutionStage;
+use crate::token_reader::read_tokens;
 use omega_game::{Game, Refusal};
-use omega_text::{MOST_TEXT, TextFault, next_token};
+use omega_text::{MOST_TEXT, TextFault};
 use std::alloc::Global;
 
 /// The solution of the game that a text stands for. 1 to 4, 53 or 60: the refusal of the text, or memory.
@@ -29,30 +29,10 @@ pub fn read_solution(alloc: Global, game: &Game, bytes: &[u8]) -> Result<Solutio
         stage,
         greatest,
         lines,
-    } = read_lines(alloc, game, bytes)?;
+        ..
+    } = read_tokens(SolutionReader::new(alloc, game), bytes)?;
     match stage {
         SolutionStage::Ended => lines.finish(game, greatest),
         _ => Err(Refusal::Text(TextFault::Syntax { at: bytes.len() })),
-    }
-}
-
-/// What the tokens of a text lead to, if it can be cut and no token is wrong.
-fn read_lines(alloc: Global, game: &Game, bytes: &[u8]) -> Result<SolutionReader, Refusal>
-    requires { length bytes.now ≤ MOST_TEXT }
-    ensures read { IfOk result (λ reader. IsSolutionRead bytes.now game.now reader.stage reader.greatest reader.lines) }
-    ensures refused { IfErr result (IsReadSolutionRefusal game.now bytes.now) }
-{
-    let mut reader = SolutionReader::new(alloc);
-    let mut wrong = None;
-    let mut at = 0;
-    while let Some(token) = next_token(bytes, at)? {
-        at = token.span.end;
-        if wrong.is_none() && !reader.take(game, &token)? {
-            wrong = Some(token.span.start);
-        }
-    }
-    match wrong {
-        Some(at) => Err(Refusal::Text(TextFault::Syntax { at })),
-        None => Ok(reader),
     }
 }

@@ -1,0 +1,12 @@
+use Rattle.std.proofs.Common.{◌≤◌, ◌-◌, length}
+use Rattle.omega_pg.specs.Reading.{IsReadTo}
+use Rattle.omega_pg.proofs.token_reader.read_tokens.Given as goal
+
+abbrev pub invariant-loop-reader : goal.invariant-loop-reader
+invariant-loop-reader g l = record {
+  within : l.at ≤ length l.bytes;
+  read : IsReadTo g.R.TokenReader.begins (λ symbols. g.R.TokenReader.becomes l.fn.reader symbols l.reader) l.bytes l.at l.wrong;
+}
+
+abbrev pub decreases-loop-reader : goal.decreases-loop-reader
+decreases-loop-reader g l = length l.bytes - l.at
