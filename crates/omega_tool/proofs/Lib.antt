@@ -3,3 +3,4 @@ pub mod Places
 pub mod Solutions
 pub mod Solving
 pub mod Transfers
+pub mod Verifying

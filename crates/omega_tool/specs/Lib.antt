@@ -11,3 +11,4 @@ pub mod Show
 pub mod Solution
 pub mod Solve
 pub mod Transfer
+pub mod Verify

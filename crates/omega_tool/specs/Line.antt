@@ -14,13 +14,13 @@ IsOffered (Check Hoa) = ⊥
 IsOffered (Canon Pg) = Unit {0}
 IsOffered (Canon Hoa) = ⊥
 IsOffered (Solve asked from) = Unit {0}
-IsOffered (Verify game) = ⊥
+IsOffered (Verify game) = Unit {0}
 IsOffered Empty = ⊥
 IsOffered Game = ⊥
 
--- what the line asks for can be done: its command is offered, and its budget is one that a solver takes
+-- what the line asks for can be done: its command is offered, with a budget that a solver takes
 abbrev pub IsRunnable : Line → Type 0
 IsRunnable (line.Run command budget) = IsOffered command × (budget ≤ 2 ^ 40)
-IsRunnable (line.Verify file) = ⊥
+IsRunnable (line.Verify file) = Unit {0}
 IsRunnable (line.Help text) = Unit {0}
 IsRunnable (line.Fault text) = Unit {0}

@@ -14,6 +14,7 @@ use Rattle.omega_tool.specs.Check.{IsCheckAnswer}
 use Rattle.omega_tool.specs.Show.{IsShowAnswer}
 use Rattle.omega_tool.specs.Solve.{IsSolveAnswer, IsSolveRefusal}
 use Rattle.omega_tool.specs.Transfer.{IsRead, WritesBeginning}
+use Rattle.omega_tool.specs.Verify.{IsVerifyAnswer, IsVerifyRefusal}
 
 -- the command answers the text by this output, with this budget
 abbrev pub Writes : Command → ℕ → List ℕ → List ℕ → Type 0
@@ -24,14 +25,24 @@ Writes (Check Hoa) budget text output = ⊥
 Writes (Canon Pg) budget text output = IsCanonAnswer text output
 Writes (Canon Hoa) budget text output = ⊥
 Writes (Solve asked from) budget text output = IsSolveAnswer text asked from budget output
-Writes (Verify game) budget text output = ⊥
+Writes (Verify game) budget text output = IsVerifyAnswer game text Done output
 Writes Empty budget text output = ⊥
 Writes Game budget text output = ⊥
+
+-- the command answers the text by this output, and that is no
+abbrev pub Denies : Command → List ℕ → List ℕ → Type 0
+Denies (Verify game) text output = IsVerifyAnswer game text No output
+Denies (Show format) text output = ⊥
+Denies (Check format) text output = ⊥
+Denies (Canon format) text output = ⊥
+Denies (Solve asked from) text output = ⊥
+Denies Empty text output = ⊥
+Denies Game text output = ⊥
 
 -- the command answers so, and ends in this way
 abbrev pub Answers : Command → ℕ → List ℕ → Exit → List ℕ → Type 0
 Answers command budget text Done output = Writes command budget text output
-Answers command budget text No output = ⊥
+Answers command budget text No output = Denies command text output
 
 -- the command refuses the text by this refusal, with this budget
 abbrev pub Refuses : Command → ℕ → List ℕ → Refusal → Type 0
@@ -42,7 +53,7 @@ Refuses (Check Hoa) budget text refusal = ⊥
 Refuses (Canon Pg) budget text refusal = IsRefusal text refusal
 Refuses (Canon Hoa) budget text refusal = ⊥
 Refuses (Solve asked from) budget text refusal = IsSolveRefusal text asked from budget refusal
-Refuses (Verify game) budget text refusal = ⊥
+Refuses (Verify game) budget text refusal = IsVerifyRefusal game text refusal
 Refuses Empty budget text refusal = ⊥
 Refuses Game budget text refusal = ⊥
 

@@ -11,10 +11,14 @@ use Rattle.omega_pg.specs.declared.solution.Solution.{Solution}
 use Rattle.omega_tool.specs.Answer.{WinsExactly, places_from}
 use Rattle.omega_tool.specs.Lifting.{EndsWithin}
 
+-- the player's choices win from all nodes given to the player
+abbrev pub WinsGiven : List Node → Solution → Player → Type 0
+WinsGiven nodes solution player =
+    (v : ℕ) → v < length nodes → winner_at solution v ≡ player → Wins nodes player (choices_of solution player) v
+
 -- for each player the choices win from all nodes given to that player
 abbrev pub WinsAsGiven : List Node → Solution → Type 0
-WinsAsGiven nodes solution =
-    (player : Player) (v : ℕ) → v < length nodes → winner_at solution v ≡ player → Wins nodes player (choices_of solution player) v
+WinsAsGiven nodes solution = (player : Player) → WinsGiven nodes solution player
 
 -- each node is given to the player in whose region it is
 abbrev pub GivesRegions : List Node → Solution → Type 0

@@ -1,13 +1,15 @@
 //! The program `omega`: reads, checks, writes and solves parity games and omega-automata.
 #![tactic(auto)]
 
-ghost use Rattle.omega_tool.specs.Line.{IsRunnable};
+ghost use Rattle.std.specs.Prelude.{◌≤◌, ◌^◌};
+ghost use Rattle.omega_tool.specs.Line.{IsOffered, IsRunnable};
 
 mod answer;
 mod canon;
 mod check;
 mod command;
 mod exit;
+mod game_file;
 #[cfg(test)]
 mod game_tests;
 mod game_text;
@@ -26,15 +28,21 @@ mod solve;
 mod tests;
 #[cfg(test)]
 mod transfer_tests;
+mod verify;
+#[cfg(test)]
+mod verify_tests;
 #[cfg(test)]
 mod word_tests;
 mod words;
 mod writing;
 
+use command::Command;
 use exit::{Exit, exit_code};
+use game_file::read_file;
 use input::FromRead;
 use line::Line;
-use omega_text::Refusal;
+use omega_solve::MOST_LIFTS;
+use omega_text::{Refusal, Seq};
 use output::ToWrite;
 use refusal_line::refusal_line;
 use run::run_command;
@@ -79,13 +87,14 @@ fn obey(rt: &HostRuntime, line: Line) -> ExitCode
     requires { IsRunnable line }
 {
     match line {
-        Line::Run(command, budget) => {
-            let mut input = FromRead::new(rt.stdin());
-            let mut output = ToWrite::new(rt.stdout());
-            let outcome = run_command(rt.alloc(), &command, &mut input, &mut output, budget);
-            ended(rt, &outcome)
-        }
-        Line::Verify { .. } => unreachable!(),
+        Line::Run(command, budget) => perform(rt, &command, budget),
+        Line::Verify { file } => match read_file(rt, file.as_str()) {
+            Ok(bytes) => {
+                let game = Seq::from_vec(bytes);
+                perform(rt, &Command::Verify { game }, MOST_LIFTS)
+            }
+            Err(refusal) => ended(rt, &Err(refusal)),
+        },
         Line::Help(text) => {
             let mut output = ToWrite::new(rt.stdout());
             match write_text(&mut output, text.as_bytes()) {
@@ -98,6 +107,17 @@ fn obey(rt: &HostRuntime, line: Line) -> ExitCode
             ExitCode::from(FAULT)
         }
     }
+}
+
+/// Runs a command over standard input and output, and gives the status to end with.
+fn perform(rt: &HostRuntime, command: &Command, budget: u64) -> ExitCode
+    requires offered { IsOffered command.now }
+    requires budget { budget ≤ 2 ^ 40 }
+{
+    let mut input = FromRead::new(rt.stdin());
+    let mut output = ToWrite::new(rt.stdout());
+    let outcome = run_command(rt.alloc(), command, &mut input, &mut output, budget);
+    ended(rt, &outcome)
 }
 
 /// The status after a command. The line of a refusal goes to standard error; where there is no memory for it, that is

@@ -15,6 +15,7 @@ use crate::output::Output;
 use crate::reading::read_all;
 use crate::show::show;
 use crate::solve::solve;
+use crate::verify::verify;
 use crate::writing::write_text;
 use omega_measure::PackedTable;
 use omega_solve::Worklist;
@@ -77,10 +78,10 @@ fn answer(
             let made = solve::<PackedTable, Worklist>(alloc, text, *player, *from, budget)?;
             Ok((Exit::Done, made))
         }
+        Command::Verify { game } => verify(alloc, game.as_slice(), text),
         Command::Show(Format::Hoa) => unreachable!(),
         Command::Check(Format::Hoa) => unreachable!(),
         Command::Canon(Format::Hoa) => unreachable!(),
-        Command::Verify { .. } => unreachable!(),
         Command::Empty => unreachable!(),
         Command::Game => unreachable!(),
     }

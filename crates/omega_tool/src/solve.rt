@@ -3,6 +3,7 @@ ghost use Rattle.omega_text.specs.declared.refusal.Refusal.TheVariants.{Memory};
 ghost use Rattle.omega_tool.specs.Solve.{IsGameRefusal, IsSolveAnswer, IsSolveRefusal, SolvesPart, SolvesWhole};
 
 mod both;
+mod found;
 mod one;
 
 use crate::game_text::game_of;

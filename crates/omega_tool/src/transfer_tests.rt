@@ -3,7 +3,7 @@ use crate::exit::Exit;
 use crate::input::{FromRead, Input};
 use crate::output::{Output, ToWrite};
 use crate::run::run_command;
-use omega_text::Refusal;
+use omega_text::{Refusal, Seq};
 use std::alloc::Global;
 use std::io;
 use std::io::{Read, Write};
@@ -130,4 +130,20 @@ fn a_byte_at_a_time_is_enough(rt: HostRuntime) {
     assert_eq!(rt; input.failures(), 0);
     assert_eq!(rt; output.failures(), 0);
     assert!(rt; output.into_inner().taken.as_slice() == ANSWER);
+}
+
+#[test]
+fn verify_reads_its_input_before_it_judges_the_game(rt: HostRuntime) -> Result<(), Fail> {
+    let game = Seq::from_vec(Vec::from_slice(rt.alloc(), b"0 0 0;")?);
+    let mut input = FromRead::new(Dripping {
+        rest: b"paritysol 0;",
+        fails: true,
+    });
+    let mut output = ToWrite::new(Vec::new(rt.alloc()));
+    let command = Command::Verify { game };
+    let outcome = run_command(rt.alloc(), &command, &mut input, &mut output, 9);
+    assert_eq!(rt; outcome, Err(Refusal::Io));
+    assert_eq!(rt; input.failures(), 1);
+    assert!(rt; output.into_inner().is_empty());
+    Ok(())
 }

@@ -2,7 +2,7 @@ use crate::tests::omega;
 use std::test::Fail;
 
 /// Command lines that are at fault, and what the text says of each.
-static FAULTS: [(&str, &str); 24] = [
+static FAULTS: [(&str, &str); 32] = [
     ("", "requires a subcommand"),
     ("frobnicate", "unrecognized subcommand 'frobnicate'"),
     ("help", "unrecognized subcommand 'help'"),
@@ -54,10 +54,21 @@ static FAULTS: [(&str, &str); 24] = [
         "invalid value 'x' for '--from <ID>'",
     ),
     ("solve --player 0 file", "unexpected argument 'file'"),
+    ("solve --budget", "a value is required for '--budget <N>'"),
+    ("solve --from 1 --from 1", "cannot be used multiple times"),
+    ("solve --format pg", "unexpected argument '--format'"),
+    ("verify", "--game <FILE>"),
+    ("verify --game", "a value is required for '--game <FILE>'"),
+    ("verify --game a --game b", "cannot be used multiple times"),
+    ("verify --game a b", "unexpected argument 'b'"),
+    (
+        "verify --game a --budget 1",
+        "unexpected argument '--budget'",
+    ),
 ];
 
 /// Requests for help, and what the text says.
-static HELP: [(&str, &str); 13] = [
+static HELP: [(&str, &str); 16] = [
     ("--help", "Usage: omega <COMMAND>"),
     ("-h", "3  the budget is used up"),
     ("--help", "0 1 0 1; 1 2 1 0"),
@@ -71,6 +82,9 @@ static HELP: [(&str, &str); 13] = [
     ("solve --help", "paritysol 2;"),
     ("solve --help", "--budget <N>"),
     ("solve --player 0 -h", "player 0 lifts 1"),
+    ("-h", "6  the answer of `omega verify` is no"),
+    ("verify --help", "Usage: omega verify --game <FILE>"),
+    ("verify -h", "53 BadSolution"),
 ];
 
 #[test]

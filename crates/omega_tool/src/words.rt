@@ -17,6 +17,7 @@ mod options;
 mod program;
 mod show;
 mod solve;
+mod verify;
 
 /// What the words of a command line ask for, of which the first is the program's name. 60 alone.
 pub fn read_words<'a>(alloc: Global, words: &'a [String]) -> Result<Line, Refusal>
@@ -28,6 +29,10 @@ pub fn read_words<'a>(alloc: Global, words: &'a [String]) -> Result<Line, Refusa
         Ok(found) => found,
         Err(error) => return printed(alloc, &error),
     };
+    if let Some(file) = game_file(&found) {
+        let file = String::from_str(alloc, file)?;
+        return Ok(Line::Verify { file });
+    }
     match line_of(&found) {
         Ok(line) => Ok(line),
         Err(mistake) => {
@@ -53,7 +58,12 @@ fn printed(alloc: Global, error: &Error) -> Result<Line, Refusal>
     }
 }
 
-/// What a subcommand and its options ask for, or what is wrong with them.
+/// The file of the game of which a solution is to be verified, if that is asked for.
+fn game_file<'a>(found: &ArgMatches<'a>) -> Option<&'a str> {
+    found.subcommand_matches("verify")?.get_str("game")
+}
+
+/// What any other subcommand and its options ask for, or what is wrong with them.
 fn line_of(found: &ArgMatches<'_>) -> Result<Line, &'static str>
     ensures { IfOk result IsRunnable }
 {

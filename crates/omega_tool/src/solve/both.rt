@@ -1,17 +1,12 @@
-ghost use Rattle.std.specs.Prelude.{◌≡◌, ◌≤◌, ◌⊎◌, ◌^◌, IfOk, IfErr, IsOkUnless, None};
-ghost use Rattle.omega_text.specs.declared.refusal.Refusal.TheVariants.{Memory, Task};
-ghost use Rattle.omega_text.specs.declared.refusal.task.TaskFault.TheVariants.{Budget};
-ghost use Rattle.omega_solve.specs.Solver.{start_of};
-ghost use Rattle.omega_tool.specs.Lifting.{GoesOnAfter};
-ghost use Rattle.omega_tool.specs.Solution.{IsFound, IsRight, IsSolutionOf, winners_of};
+ghost use Rattle.std.specs.Prelude.{◌≡◌, ◌≤◌, ◌^◌, IfOk, IfErr, IsOkUnless, None};
+ghost use Rattle.omega_text.specs.declared.refusal.Refusal.TheVariants.{Memory};
+ghost use Rattle.omega_tool.specs.Solution.{IsRight, IsSolutionOf, winners_of};
 ghost use Rattle.omega_tool.specs.Solve.{IsGameRefusal};
 
-use omega_game::{
-    Game, Player, Refusal, Seq, Strategy, TaskFault, regions_are_apart, regions_cover,
-};
-use omega_lift::{runs_keep_tables, zero_tables_are_tables};
+use super::found::Found;
+use omega_game::{Game, Player, Refusal, Seq, Strategy, regions_are_apart, regions_cover};
 use omega_pg::{Solution, write_solution};
-use omega_solve::{MeasureTable, Outcome, Schedule, Solver};
+use omega_solve::{MeasureTable, Schedule, Solver};
 use std::alloc::Global;
 
 /// The solution text of a game. 50, 51 or 60.
@@ -44,8 +39,8 @@ fn solution_of<T: MeasureTable, S: Schedule>(
     let _nodes = game.len();
     let for_zero: Solver<'_, T, S> = Solver::prepare(alloc, game, Player::Zero)?;
     let for_one: Solver<'_, T, S> = Solver::prepare(alloc, game, Player::One)?;
-    let zero = found_by(alloc, for_zero, budget)?;
-    let one = found_by(alloc, for_one, budget)?;
+    let zero = Found::by(alloc, for_zero, budget)?;
+    let one = Found::by(alloc, for_one, budget)?;
     let winners = winners_of(alloc, zero.won.as_slice())?;
     Ok(Solution {
         winners: Seq::from_vec(winners),
@@ -56,40 +51,6 @@ fn solution_of<T: MeasureTable, S: Schedule>(
             choice: Seq::from_vec(one.choice),
         },
     })
-}
-
-/// What a solver found, by place: the nodes that its player wins, and the choices there.
-#[derive(Drop)]
-struct Found {
-    won: Vec<bool>,
-    choice: Vec<Option<u32>>,
-}
-
-/// What a new solver finds within a budget. The solver is let go with its table. 51 or 60.
-fn found_by<T: MeasureTable, S: Schedule>(
-    alloc: Global,
-    mut solver: Solver<'_, T, S>,
-    budget: u64,
-) -> Result<Found, Refusal>
-    requires fresh { solver ≡ start_of solver.nodes solver.player }
-    requires budget { budget ≤ 2 ^ 40 }
-    ensures found { IfOk result (λ found. IsFound solver.entry.nodes solver.entry.player budget found.won.items found.choice.items) }
-    ensures refused { IfErr result (λ refusal. (refusal ≡ Memory) ⊎ ((refusal ≡ Task Budget) × GoesOnAfter solver.entry.nodes solver.entry.player budget)) }
-{
-    runs_keep_tables();
-    zero_tables_are_tables();
-    let outcome = solver.run(budget);
-    let _lifts = solver.lifts();
-    match outcome {
-        Outcome::Spent => Err(Refusal::Task(TaskFault::Budget)),
-        Outcome::Done => {
-            let answer = solver.answer().unwrap();
-            Ok(Found {
-                won: Vec::from_slice(alloc, answer.won)?,
-                choice: Vec::from_slice(alloc, answer.choice)?,
-            })
-        }
-    }
 }
 
 /// The winner of each node, of which player 0 wins these.

@@ -14,6 +14,15 @@ pub fn format_option<'a>(alloc: Global) -> Arg<'a> {
         .help("The kind of text: pg, a game in the text of PGSolver")
 }
 
+/// The option that names the file of a game.
+pub fn game_option<'a>(alloc: Global) -> Arg<'a> {
+    Arg::new(alloc, "game")
+        .long("game")
+        .value_name("FILE")
+        .required(true)
+        .help("The file with the game text")
+}
+
 /// The option that says whose game is solved.
 pub fn player_option<'a>(alloc: Global) -> Arg<'a> {
     Arg::new(alloc, "player")

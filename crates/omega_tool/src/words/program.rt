@@ -2,6 +2,7 @@ use super::canon::canon_command;
 use super::check::check_command;
 use super::show::show_command;
 use super::solve::solve_command;
+use super::verify::verify_command;
 use clap::Command;
 use std::alloc::{AllocError, Global};
 
@@ -17,17 +18,18 @@ that no identifier exceeds may come first. At each node its owner chooses a succ
 player 0 wins where the greatest priority that comes again and again is even, player 1 where it is
 odd.
 
-What is read comes from standard input, and the answer goes to standard output. Where the text or
-the task is refused, one line on standard error says why, as `omega: 3 Syntax at 0` for a text that
+What is read comes from standard input, and the answer goes to standard output. Where a text or the
+task is refused, one line on standard error says why, as `omega: 3 Syntax at 0` for a text that
 is no game from its first byte on. Bytes are counted from 0.
 
 Exit status:
   0  done
-  1  the text or the task is refused
+  1  a text or the task is refused
   2  the command line is wrong
   3  the budget is used up
   4  out of memory
   5  a read or a write failed
+  6  the answer of `omega verify` is no
 
 `omega <COMMAND> --help` tells more of a command.";
 
@@ -35,12 +37,13 @@ Exit status:
 pub fn whole_program<'a>(alloc: Global) -> Result<Command<'a>, AllocError> {
     Command::new(alloc, "omega")
         .bin_name("omega")?
-        .about("Reads, checks, writes and solves parity games.")
+        .about("Reads, checks, writes and solves parity games, and verifies their solutions.")
         .after_help(DETAILS)
         .subcommand_required(true)
         .disable_help_subcommand(true)
         .subcommand(show_command(alloc)?)?
         .subcommand(check_command(alloc)?)?
         .subcommand(canon_command(alloc)?)?
-        .subcommand(solve_command(alloc)?)
+        .subcommand(solve_command(alloc)?)?
+        .subcommand(verify_command(alloc)?)
 }

@@ -2,7 +2,7 @@ use Rattle.std.proofs.Common.{◌≡◌, ◌≤◌, ap, refl, arith}
 use Rattle.omega_solve.specs.Solver.{State}
 use Rattle.omega_tool.proofs.Solutions.{found_for}
 use Rattle.omega_tool.proofs.Solving.{wins_exactly}
-use Rattle.omega_tool.proofs.solve.both.found_by.Goals as goal
+use Rattle.omega_tool.proofs.solve.found.Found.by.Goals as goal
 
 pub returns-clause-found : goal.returns-clause-found
 returns-clause-found g c =
