@@ -1,10 +1,9 @@
 -- Which texts are tokens: digits that are a number, and words.
 use Rattle.std.proofs.Common.{◌≡◌, ◌≢◌, ℕ, zero, suc, ◌+◌, ◌-◌, ◌<◌, ◌*◌, ◌/◌, ◌%◌, ◌≤◌, ◌^◌, ⊎_elim, Bool, true, false, cond, eqb, List, [], ◌∷◌, length, get_or, take, sym, ap, ◌∙◌, arith, codes}
 use Rattle.std.proofs.lemmas.Fmt.{decimal_digit, decimal_is_IsNumeral, decimal-digits_value, first_decimal}
-use Rattle.std.proofs.lemmas.Str.Parse.{IsNumeralModel, digits_value-take-le, numerals_by_value, tells_by_index}
+use Rattle.std.proofs.lemmas.Str.Parse.{IsNumeralModel, numerals_by_value, tells_by_index}
 use Rattle.std.proofs.lemmas.Bool.Decides.{nat_tests}
 use Rattle.std.proofs.lemmas.Int.Digits.{digits_value_more}
-use Rattle.std.proofs.lemmas.List.{take_all}
 use Rattle.std.proofs.lemmas.List.Elements.{All-cons, All-nil}
 use Rattle.std.proofs.str.Laws.{order}
 use Rattle.std.specs.Char.{digit_value}
@@ -104,16 +103,19 @@ digit_worth : (byte : ℕ) → is_digit byte ≡ true → digit_value byte ≡ b
 digit_worth byte digit = grind (arith, nat_tests)
 
 -- the value of digits with one more
-pub value_more : (text : List ℕ) (i value worth : ℕ) → AllPass is_digit text → i < length text → value ≡ digits_value 10 (take i text) → worth ≡ get_or text i 0 - 48 → value * 10 + worth ≡ digits_value 10 (take (i + 1) text)
-value_more text i value worth digits inside so_far is =
-    omega (arith, digits_value_more 10 text i inside, digit_worth (get_or text i 0) (digits i 0 inside))
+pub value_more : (text : List ℕ) (i value worth : ℕ) → i < length text → is_digit (get_or text i 0) ≡ true → value ≡ digits_value 10 (take i text) → worth ≡ get_or text i 0 - 48 → value * 10 + worth ≡ digits_value 10 (take (i + 1) text)
+value_more text i value worth inside digit so_far is =
+    omega (arith, digits_value_more 10 text i inside, digit_worth (get_or text i 0) digit)
 
--- digits with too great a value in front are no token
-pub too_great_front : (text : List ℕ) (count value : ℕ) → IsDigits text → value ≡ digits_value 10 (take count text) → MOST_NUMBER < value → IsNoToken text
-too_great_front text count value digits is great = too_great text digits (omega (arith, digits_value-take-le 10 text count (omega arith)))
+-- the value of digits with one more is no less
+pub value_no_less : (text : List ℕ) (i : ℕ) → i < length text → digits_value 10 (take i text) ≤ digits_value 10 (take (i + 1) text)
+value_no_less text i inside = omega (arith, digits_value_more 10 text i inside)
 
--- digits whose value is that of the whole of them are its numeral
-pub whole_value : (text : List ℕ) (count value : ℕ) → IsDigits text → (head text ≡ 48 → length text ≡ 1) → length text ≤ count → value ≡ digits_value 10 (take count text) → value ≤ MOST_NUMBER → text ≡ decimal value
-whole_value text count value digits plain all is small =
-    let whole : digits_value 10 text ≡ value = sym (is ∙ ap (digits_value 10) (take_all count text all)) in
-    decimal_value text digits plain (omega arith) ∙ ap decimal whole
+-- a digit is worth at most nine
+pub worth_small : (byte : ℕ) → is_digit byte ≡ true → byte - 48 ≤ 9
+worth_small byte digit = grind (arith, nat_tests)
+
+-- digits at the front, whose value is that of a number and which have no needless zero, are its numeral
+pub front_value : (text : List ℕ) (value : ℕ) → IsDigits text → (head text ≡ 48 → length text ≤ 1) → value ≡ digits_value 10 text → value ≤ MOST_NUMBER → text ≡ decimal value
+front_value text value digits plain is small =
+    decimal_value text digits (λ zero_first. omega (arith, plain zero_first, digits.0)) (omega arith) ∙ ap decimal (sym is)

@@ -1,6 +1,6 @@
 ghost use Rattle.std.specs.Prelude.{◌≡◌};
 ghost use Rattle.std.specs.List.{prefix_len};
-ghost use Rattle.omega_text.specs.Bytes.{is_digit, is_letter, is_name_byte, is_white, is_word_byte};
+ghost use Rattle.omega_text.specs.Bytes.{is_letter, is_name_byte, is_white, is_word_byte};
 
 const UNDERSCORE: u8 = b'_';
 
@@ -37,16 +37,6 @@ pub(crate) fn white_count(bytes: &[u8]) -> usize
     ensures { result ≡ prefix_len is_white bytes.now }
 {
     bytes.iter().take_while(|byte| is_white(**byte)).count()
-}
-
-/// How many bytes at the front are digits.
-pub(crate) fn digit_count(bytes: &[u8]) -> usize
-    ensures { result ≡ prefix_len is_digit bytes.now }
-{
-    bytes
-        .iter()
-        .take_while(|byte| byte.is_ascii_digit())
-        .count()
 }
 
 /// How many bytes at the front may go on in a word.

@@ -1,12 +1,13 @@
 ghost use Rattle.std.specs.Prelude.{◌≡◌, ◌+◌, ◌^◌, ◌≤◌, ◌<◌, ℕ, true, false, take, drop, length, decimal, MatchBool, IfOk, IfErr, IfSome, IfNone, slice_index};
-ghost use Rattle.std.specs.List.{AllPass};
+ghost use Rattle.std.specs.List.{AllPass, prefix_len};
+ghost use Rattle.std.specs.Str.Parse.{digits_value};
 ghost use Rattle.omega_text.specs.Bytes.{is_digit, is_letter, is_white};
 ghost use Rattle.omega_text.specs.Cut.{BeginsWith, Follows, IsGap};
 ghost use Rattle.omega_text.specs.Fault.{Faults, IsFaultOf};
 ghost use Rattle.omega_text.specs.Forms.{IsDigits, IsNoToken};
 ghost use Rattle.omega_text.specs.Lexeme.{lexeme_at, lexeme_of};
 
-use crate::bytes::{digit_count, is_letter, name_count, white_count, word_count};
+use crate::bytes::{is_letter, name_count, white_count, word_count};
 use crate::limits::MOST_NUMBER;
 use crate::refusal::TextFault;
 use crate::token::{Kind, Span, Token};
@@ -82,40 +83,39 @@ fn first_number(bytes: &[u8], place: usize) -> Result<Token<'_>, TextFault>
     ensures start { IfOk result (λ token. token.span.start ≡ place) }
     ensures fault { IfErr result (IsFaultOf bytes.now place) }
 {
-    let count = digit_count(bytes);
-    match number_value(&bytes[..count]) {
-        Some(value) => Ok(front_token(bytes, place, count, Kind::Number, value)),
-        None => Err(TextFault::Number { at: place }),
+    let (count, value) = front_digits(bytes);
+    if has_needless_zero(bytes, count) || value > MOST_NUMBER as u64 {
+        return Err(TextFault::Number { at: place });
     }
+    Ok(front_token(bytes, place, count, Kind::Number, value as u32))
 }
 
-/// The value of digits, if they are a number.
-fn number_value(digits: &[u8]) -> Option<u32>
-    requires { IsDigits digits.now }
-    ensures number { IfSome result (λ value. (value ≤ MOST_NUMBER) × (digits.now ≡ decimal value)) }
-    ensures none { IfNone result (IsNoToken digits.now) }
+/// How many bytes at the front are digits, and their value, or some value above the greatest number's where theirs is.
+fn front_digits(bytes: &[u8]) -> (usize, u64)
+    ensures count { result.0 ≡ prefix_len is_digit bytes.now }
+    ensures value { result.1 ≤ MOST_NUMBER → result.1 ≡ digits_value 10 (take result.0 bytes.now) }
+    ensures great { MOST_NUMBER < result.1 → MOST_NUMBER < digits_value 10 (take result.0 bytes.now) }
 {
-    if has_needless_zero(digits) {
-        return None;
-    }
     let mut value = 0u64;
-    for digit in digits {
-        value = value * 10 + u64::from(*digit - b'0');
-        if value > MOST_NUMBER as u64 {
-            return None;
+    for (count, byte) in bytes.iter().enumerate() {
+        if !byte.is_ascii_digit() {
+            return (count, value);
+        }
+        if value <= MOST_NUMBER as u64 {
+            value = value * 10 + u64::from(*byte - b'0');
         }
     }
-    Some(value as u32)
+    (bytes.len(), value)
 }
 
-/// Whether digits begin with a zero and go on.
-fn has_needless_zero(digits: &[u8]) -> bool
-    requires { 0 < length digits.now }
+/// Whether the digits at the front begin with a zero and go on.
+fn has_needless_zero(bytes: &[u8], count: usize) -> bool
+    requires { 0 < length bytes.now }
     ensures { MatchBool result
-        ((slice_index digits.now 0 ≡ 48) × (1 < length digits.now))
-        (slice_index digits.now 0 ≡ 48 → length digits.now ≡ 1) }
+        ((slice_index bytes.now 0 ≡ 48) × (1 < count))
+        (slice_index bytes.now 0 ≡ 48 → count ≤ 1) }
 {
-    digits[0] == b'0' && digits.len() > 1
+    bytes[0] == b'0' && count > 1
 }
 
 /// The word that bytes begin with: the longest one is `parity` or `paritysol`, or is refused.

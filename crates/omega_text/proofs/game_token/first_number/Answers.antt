@@ -1,22 +1,44 @@
-use Rattle.std.proofs.Common.{take, refl, sym, subst}
-use Rattle.omega_text.specs.Forms.{IsDigits, IsLongest}
+use Rattle.std.proofs.Common.{◌≡◌, length, get_or, take, refl, sym, subst, ◌∙◌, arith, length-take-le}
+use Rattle.std.proofs.lemmas.List.{get_or-take}
+use Rattle.omega_text.specs.Forms.{IsDigits, IsLongest, IsNoToken}
 use Rattle.omega_text.proofs.Longest.{longest_digits}
+use Rattle.omega_text.proofs.Numbers.{front_value, needless_zero, too_great}
 use Rattle.omega_text.proofs.Tokens.{begins_as}
 use Rattle.omega_text.proofs.game_token.first_number.Goals as goal
-use Rattle.omega_text.proofs.game_token.first_number.Goals.{After-digit_count-count}
+use Rattle.omega_text.proofs.game_token.first_number.Goals.{After-front_digits-count, then-has_needless_zero-via-then-has_needless_zero, then-has_needless_zero-via-else-has_needless_zero+then-value}
 
 -- the digits that were counted are the longest form
-counted : (c : After-digit_count-count) → IsLongest c.args.bytes.now c.digit_count-count.result × IsDigits (take c.digit_count-count.result c.args.bytes.now)
-counted c = subst (λ count. IsLongest c.args.bytes.now count × IsDigits (take count c.args.bytes.now)) (sym c.digit_count-count.ensures) (longest_digits c.args.bytes.now c.requires.some c.requires.digit)
+counted : (c : After-front_digits-count) → IsLongest c.args.bytes.now c.front_digits-count.result.0 × IsDigits (take c.front_digits-count.result.0 c.args.bytes.now)
+counted c = subst (λ count. IsLongest c.args.bytes.now count × IsDigits (take count c.args.bytes.now)) (sym c.front_digits-count.ensures.count) (longest_digits c.args.bytes.now c.requires.some c.requires.digit)
 
-pub number_value-requires : goal.number_value-requires
-number_value-requires c = (counted (goal.at.number_value-requires c).After-digit_count-count).1
+-- as many as were counted
+long : (c : After-front_digits-count) → length (take c.front_digits-count.result.0 c.args.bytes.now) ≡ c.front_digits-count.result.0
+long c = length-take-le c.front_digits-count.result.0 c.args.bytes.now (counted c).0.within
 
-pub returns-in-Some-clause-token : goal.returns-in-Some-clause-token
-returns-in-Some-clause-token c =
-    begins_as _ _ _ _ _ _ c.front_token.ensures (counted (goal.at.returns-in-Some-clause-token c).After-digit_count-count).0 c.in-Some.ensures.number
+-- and they begin as the bytes do
+first : (c : After-front_digits-count) → get_or (take c.front_digits-count.result.0 c.args.bytes.now) 0 0 ≡ get_or c.args.bytes.now 0 0
+first c = let some = (counted c).1.0 in let count = long c in get_or-take c.front_digits-count.result.0 c.args.bytes.now 0 0 (omega (arith, some, count))
 
-pub returns-in-None-clause-fault : goal.returns-in-None-clause-fault
-returns-in-None-clause-fault c =
-    let front = counted (goal.at.returns-in-None-clause-fault c).After-digit_count-count in
-    (refl, record { count = c.digit_count-count.result; longest = front.0; digits = front.1; wrong = c.in-None.ensures.none })
+pub returns-then-has_needless_zero-clause-fault : goal.returns-then-has_needless_zero-clause-fault
+returns-then-has_needless_zero-clause-fault c =
+    let after = (goal.at.returns-then-has_needless_zero-clause-fault c).After-front_digits-count in
+    let front = counted after in
+    let count = c.front_digits-count.result.0 in
+    let text = take count c.args.bytes.now in
+    let wrong : IsNoToken text = elim c.then-has_needless_zero.branch [
+      | then-has_needless_zero-via-then-has_needless_zero w ↦
+          needless_zero text front.1 (first after ∙ w.if-has_needless_zero.ensures.0) (omega (arith, long after, w.if-has_needless_zero.ensures.1))
+      | then-has_needless_zero-via-else-has_needless_zero+then-value w ↦ too_great text front.1 (c.front_digits-count.ensures.great (omega (arith, w.if-value.true)))
+    ] in
+    (refl, record { count = count; longest = front.0; digits = front.1; wrong = wrong })
+
+pub returns-clause-token : goal.returns-clause-token
+returns-clause-token c =
+    let after = (goal.at.returns-clause-token c).After-front_digits-count in
+    let front = counted after in
+    begins_as _ _ _ _ _ _ c.front_token.ensures front.0 (
+      omega (arith, c.if-value.false),
+      front_value (take c.front_digits-count.result.0 c.args.bytes.now) c.front_digits-count.result.1 front.1
+          (λ zero_first. omega (arith, long after, c.if-has_needless_zero.ensures (sym (first after) ∙ zero_first)))
+          (c.front_digits-count.ensures.value (omega (arith, c.if-value.false))) (omega (arith, c.if-value.false)),
+    )

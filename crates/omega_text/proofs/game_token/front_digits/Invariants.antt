@@ -1,0 +1,13 @@
+use Rattle.std.proofs.Common.{◌≡◌, ◌+◌, ◌*◌, ◌≤◌, ◌<◌, ℕ, true, get_or, take}
+use Rattle.std.specs.Str.Parse.{digits_value}
+use Rattle.omega_text.specs.Bytes.{is_digit}
+use Rattle.omega_text.specs.declared.limits.TheConstants.{MOST_NUMBER}
+use Rattle.omega_text.proofs.game_token.front_digits.Given as goal
+
+abbrev pub invariant-loop-count : goal.invariant-loop-count
+invariant-loop-count l = record {
+  digits : (k : ℕ) → k < l.count → is_digit (get_or l.bytes k 0) ≡ true;
+  exact : l.value ≤ MOST_NUMBER → l.value ≡ digits_value 10 (take l.count l.bytes);
+  great : MOST_NUMBER < l.value → MOST_NUMBER < digits_value 10 (take l.count l.bytes);
+  small : l.value ≤ MOST_NUMBER * 10 + 9;
+}
