@@ -7,7 +7,7 @@ use Rattle.omega_text.specs.Bytes.{is_white}
 use Rattle.omega_text.specs.Laws.{EndsAreGaps, NamesAreLongest, NumbersAreLongest, SignsAreLongest, TokensFollow, WordsAreLongest}
 use Rattle.omega_game.specs.Building.{IsWellFormed}
 use Rattle.omega_game.specs.Game.{IsNameByte}
-use Rattle.omega_game.specs.declared.limits.TheConstants.{MOST_NUMBER}
+use Rattle.omega_text.specs.declared.limits.TheConstants.{MOST_NUMBER}
 use Rattle.omega_game.specs.declared.node_spec.NodeSpec.{NodeSpec}
 use Rattle.omega_game.specs.declared.player.Player.{Player}
 use Rattle.omega_game.specs.declared.player.Player.TheVariants.{One, Zero}

@@ -8,7 +8,7 @@ use Rattle.std.proofs.lemmas.List.Sorted.{IsPermutation-refl}
 use Rattle.omega_text.specs.Laws.{EndsAreGaps, NamesAreLongest, NumbersAreLongest, SignsAreLongest, TokensFollow, WordsAreLongest}
 use Rattle.omega_game.specs.Building.{IsWellFormed, specified}
 use Rattle.omega_game.specs.Game.{IsGame, IsWithinLimits, Node, identifiers, no_node, node_at, successors_at}
-use Rattle.omega_game.specs.declared.limits.TheConstants.{MOST_NUMBER}
+use Rattle.omega_text.specs.declared.limits.TheConstants.{MOST_NUMBER}
 use Rattle.omega_game.specs.declared.node_spec.NodeSpec.{NodeSpec}
 use Rattle.omega_pg.specs.Canonical.{canonical, greatest_identifier, identifier_at}
 use Rattle.omega_pg.specs.Laws.{CanonicalTextsAreRead}

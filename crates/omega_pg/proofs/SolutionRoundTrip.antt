@@ -6,7 +6,7 @@ use Rattle.std.proofs.lemmas.List.Elements.{All-from_get_or, All-head, All-tail}
 use Rattle.std.proofs.lemmas.List.FromFn.{get_or-map-range_with_len, length-map-range_with_len}
 use Rattle.omega_text.specs.Laws.{EndsAreGaps, NamesAreLongest, NumbersAreLongest, SignsAreLongest, TokensFollow, WordsAreLongest}
 use Rattle.omega_game.specs.Game.{IsGame, IsWithinLimits, Node, owner_at}
-use Rattle.omega_game.specs.declared.limits.TheConstants.{MOST_NUMBER}
+use Rattle.omega_text.specs.declared.limits.TheConstants.{MOST_NUMBER}
 use Rattle.omega_pg.specs.Canonical.{greatest_identifier, identifier_at}
 use Rattle.omega_pg.specs.Solution.{IsSolution, Line, RawSolution, choice_at, choices_of, line_at, no_line, raw_solution}
 use Rattle.omega_pg.specs.SolutionLaws.{WrittenSolutionsAreRead}

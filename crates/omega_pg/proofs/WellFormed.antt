@@ -15,7 +15,7 @@ use Rattle.omega_text.specs.declared.token.Kind.{Kind}
 use Rattle.omega_text.specs.declared.token.Kind.TheVariants.{Comma, Name, Number, Parity, ParitySol, Semicolon}
 use Rattle.omega_game.specs.Building.{IsWellFormed}
 use Rattle.omega_game.specs.Game.{IsNameByte}
-use Rattle.omega_game.specs.declared.limits.TheConstants.{MOST_NUMBER}
+use Rattle.omega_text.specs.declared.limits.TheConstants.{MOST_NUMBER}
 use Rattle.omega_game.specs.declared.node_spec.NodeSpec.{NodeSpec}
 use Rattle.omega_pg.specs.Grammar.{name_symbols, node_symbols, successor_symbols}
 use Rattle.omega_pg.specs.Symbols.{Symbol, comma, name, number, parity, paritysol, semicolon, symbol, symbols_of, unquoted}

@@ -1,7 +1,7 @@
 -- The grammar of game texts as an automaton over symbols, which keeps what it has read.
 use Rattle.std.specs.Prelude.{◌≡◌, ℕ, ◌<◌, ◌≤◌, ◌==◌, ◌||◌, Bool, true, false, Option, Some, None, List, [], ◌∷◌, ◌++◌, length, nat_lt, option_map, if◌then◌else◌}
 use Rattle.omega_game.specs.Building.{with_last, with_name, with_successor}
-use Rattle.omega_game.specs.declared.limits.TheConstants.{MOST_NUMBER}
+use Rattle.omega_text.specs.declared.limits.TheConstants.{MOST_NUMBER}
 use Rattle.omega_game.specs.declared.node_spec.NodeSpec.{NodeSpec}
 use Rattle.omega_game.specs.declared.player.Player.{Player}
 use Rattle.omega_game.specs.declared.player.Player.TheVariants.{One, Zero}

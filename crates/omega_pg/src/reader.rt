@@ -5,8 +5,8 @@ ghost use Rattle.omega_pg.specs.Symbols.{unquoted};
 
 use crate::stage::Stage;
 use crate::token_reader::TokenReader;
-use omega_game::{GameBuilder, MOST_NUMBER, Player, Refusal};
-use omega_text::{Kind, Token};
+use omega_game::{GameBuilder, Player, Refusal};
+use omega_text::{Kind, MOST_NUMBER, Token};
 use std::alloc::Global;
 
 /// What was read of a game text so far.
