@@ -51,15 +51,18 @@ impl MeasureTable for PackedTable {
         })
     }
 
+    #[inline(always)]
     fn is_top(&self, place: u32) -> bool {
         is_top_at(&self.words, self.size, &self.cells, place as usize)
     }
 
+    #[inline(always)]
     fn compare(&self, a: u32, b: u32, p: u32) -> Ordering {
         let cell = self.cells[self.shape.kept_from(p)];
         compare_at(&self.words, self.size, cell, a as usize, b as usize)
     }
 
+    #[inline(always)]
     fn due(&self, v: u32, w: u32) -> bool {
         let cell = self.cells[self.shape.kept(v)];
         let order = compare_at(&self.words, self.size, cell, v as usize, w as usize);
@@ -69,6 +72,7 @@ impl MeasureTable for PackedTable {
         is_short(order, top, self.shape.is_strict(v))
     }
 
+    #[inline(always)]
     fn raise(&mut self, v: u32, w: u32) {
         let kept = self.shape.kept(v);
         let strict = self.shape.is_strict(v);

@@ -16,6 +16,7 @@ use crate::token::{Kind, Span, Token};
 ///
 /// White space before the token is skipped. A fault is 1 or 2, at the least place from there. No memory is taken, and
 /// no byte behind the token is looked at, but for the one behind a number or a word.
+#[inline(always)]
 pub fn next_token(source: &[u8], at: usize) -> Result<Option<Token<'_>>, TextFault>
     requires { at ≤ length source.now }
     ensures token { IfOk result (λ found. IfSome found (λ token. Follows source.now at (lexeme_of token))) }
@@ -50,6 +51,7 @@ fn tail(source: &[u8], from: usize) -> &[u8]
 }
 
 /// The token that bytes begin with, which stand at a place of the text and do not begin with white space.
+#[inline(always)]
 fn first_token(bytes: &[u8], place: usize) -> Result<Token<'_>, TextFault>
     requires some { 0 < length bytes.now }
     requires room { place + length bytes.now < 2 ^ 64 }
@@ -75,6 +77,7 @@ fn first_token(bytes: &[u8], place: usize) -> Result<Token<'_>, TextFault>
 }
 
 /// The number that bytes begin with: their whole run of digits is one, or is refused.
+#[inline(always)]
 fn first_number(bytes: &[u8], place: usize) -> Result<Token<'_>, TextFault>
     requires some { 0 < length bytes.now }
     requires room { place + length bytes.now < 2 ^ 64 }
@@ -91,6 +94,7 @@ fn first_number(bytes: &[u8], place: usize) -> Result<Token<'_>, TextFault>
 }
 
 /// How many bytes at the front are digits, and their value, or some value above the greatest number's where theirs is.
+#[inline(always)]
 fn front_digits(bytes: &[u8]) -> (usize, u64)
     ensures count { result.0 ≡ prefix_len is_digit bytes.now }
     ensures value { result.1 ≤ MOST_NUMBER → result.1 ≡ digits_value 10 (take result.0 bytes.now) }
