@@ -7,9 +7,9 @@
     bench/bench.py --only random2 --only sparse --runs 9
 
 A command is called as `COMMAND solve --player 0`, `COMMAND check --format pg` and so on, with the game on standard
-input. The first run of each warms up, and its output is compared with that of the first command: a difference is
-printed as DIFFERS and makes the exit status 1. Times differ from run to run and machine to machine, so that only the
-ratios within one run mean something.
+input; the commands take turns. The first run of each warms up, and its output is compared with that of the first
+command: a difference is printed as DIFFERS, and like a refusal or a run that takes too long it makes the exit status
+1. Times differ from run to run and machine to machine, so that only the ratios within one run mean something.
 """
 import argparse
 import math
@@ -67,34 +67,59 @@ def lifts_in(output):
     return int(words[3]) if len(words) == 4 and words[2] == b"lifts" else None
 
 
-def row(name, command, words, path, options, wanted):
-    """The figures of one command on one input: median seconds, memory, lifts, output, and whether it is as wanted."""
-    first = measured(command, words, path, options.seconds)
-    if first is None:
-        print(f"    {name}: over {options.seconds} s")
-        return None
-    if first[1] != 0:
-        print(f"    {name}: exit status {first[1]}")
-        return None
-    times = [first[0]] if options.runs == 0 else []
-    for _ in range(options.runs):
-        again = measured(command, words, path, options.seconds)
-        if again is not None:
-            times.append(again[0])
-    seconds = statistics.median(times)
-    size = os.path.getsize(path)
-    lifts = lifts_in(first[2])
-    memory = memory_of(command, words, path)
-    line = f"    {name}: {seconds * 1000:.1f} ms, {size / seconds / 1e6:.0f} MB/s"
-    if memory is not None:
-        line += f", {memory / 1e6:.1f} MB at most"
-    if lifts is not None:
-        line += f", {lifts} lifts"
-        if lifts > 0:
-            line += f", {seconds * 1e9 / lifts:.1f} ns a lift"
-    same = wanted is None or without_lifts(wanted) == without_lifts(first[2])
-    print(line if same else line + "  DIFFERS")
-    return seconds, first[2], same
+class Figures:
+    """What the runs of one command on one input gave."""
+
+    def __init__(self, name, command):
+        self.name = name
+        self.command = command
+        self.output = None
+        self.fault = None
+        self.times = []
+
+    def run(self, words, path, seconds):
+        """One run more, unless one has failed; the first warms up and is not counted."""
+        if self.fault:
+            return
+        made = measured(self.command, words, path, seconds)
+        if made is None:
+            self.fault = f"over {seconds} s"
+        elif made[1] != 0:
+            self.fault = f"exit status {made[1]}"
+        elif self.output is None:
+            self.output = made[2]
+        else:
+            self.times.append(made[0])
+
+    def line(self, words, path):
+        """The figures as they are printed."""
+        if self.fault:
+            return f"    {self.name}: {self.fault}"
+        seconds = statistics.median(self.times)
+        memory = memory_of(self.command, words, path)
+        lifts = lifts_in(self.output)
+        line = f"    {self.name}: {seconds * 1000:.1f} ms, {os.path.getsize(path) / seconds / 1e6:.0f} MB/s"
+        if memory is not None:
+            line += f", {memory / 1e6:.1f} MB at most"
+        if lifts is not None:
+            line += f", {lifts} lifts"
+            if lifts > 0:
+                line += f", {seconds * 1e9 / lifts:.1f} ns a lift"
+        return line
+
+
+def compared(figures, words, path, options):
+    """Runs the commands on one input turn by turn, and prints their figures. Their figures, if none has failed."""
+    for _ in range(options.runs + 1):
+        for one in figures:
+            one.run(words, path, options.seconds)
+    wanted = figures[0].output
+    for one in figures:
+        differs = one.output is not None and wanted is not None and without_lifts(one.output) != without_lifts(wanted)
+        if differs:
+            one.fault = "DIFFERS"
+        print(one.line(words, path))
+    return [one for one in figures if not one.fault]
 
 
 def without_lifts(output):
@@ -107,14 +132,20 @@ def main():
     parser.add_argument("--quick", action="store_true", help="small games")
     parser.add_argument("--only", action="append", help="this family alone; may be given again")
     parser.add_argument("--against", action="append", default=[], metavar="NAME=COMMAND", help="another command")
-    parser.add_argument("--omega", default=OMEGA, help="the command that is measured")
+    parser.add_argument("--omega", help="the command that is measured, if not the built program")
     parser.add_argument("--runs", type=int, default=5, help="runs of which the median is taken")
     parser.add_argument("--seconds", type=float, default=120, help="the most time for one run")
     options = parser.parse_args()
-    commands = [("omega", shlex.split(options.omega))]
+    if options.runs < 1:
+        parser.error("at least one run is counted")
+    if options.only and not set(options.only) <= set(FAMILIES):
+        parser.error("the families are " + ", ".join(FAMILIES))
+    if not options.omega and not os.path.exists(OMEGA):
+        parser.error("the program is not built: ./omega --help builds it")
+    commands = [("omega", shlex.split(options.omega or OMEGA))]
     commands += [(name, shlex.split(words)) for name, words in (pair.split("=", 1) for pair in options.against)]
     ratios = {name: [] for name, _ in commands[1:]}
-    all_same = True
+    all_well = True
     for family, (kind, quick, full) in FAMILIES.items():
         if options.only and family not in options.only:
             continue
@@ -125,18 +156,21 @@ def main():
             print(f"{family}: {len(text):,} bytes, {text.count(';'):,} nodes")
             for words in TASKS[kind]:
                 print(f"  {' '.join(words)}")
-                ours = row("omega", commands[0][1], words, file.name, options, None)
-                for name, command in commands[1:]:
-                    theirs = row(name, command, words, file.name, options, ours and ours[1])
-                    if ours and theirs:
-                        ratios[name].append(ours[0] / theirs[0])
-                        all_same = all_same and theirs[2]
-                        print(f"    omega / {name}: {ours[0] / theirs[0]:.2f}")
+                figures = compared([Figures(name, command) for name, command in commands], words, file.name, options)
+                all_well = all_well and len(figures) == len(commands)
+                if len(figures) < 2 or figures[0].name != "omega":
+                    continue
+                ours = statistics.median(figures[0].times)
+                for other in figures[1:]:
+                    ratio = ours / statistics.median(other.times)
+                    ratios[other.name].append((words[0], ratio))
+                    print(f"    omega / {other.name}: {ratio:.2f}")
     for name, found in ratios.items():
-        if found:
-            mean = math.exp(statistics.fmean(math.log(ratio) for ratio in found))
-            print(f"omega / {name}: {mean:.2f} in the geometric mean, {max(found):.2f} at worst")
-    return 0 if all_same else 1
+        for task in sorted({task for task, _ in found}):
+            of_task = [ratio for its, ratio in found if its == task]
+            mean = math.exp(statistics.fmean(math.log(ratio) for ratio in of_task))
+            print(f"omega / {name}, {task}: {mean:.2f} in the geometric mean, {max(of_task):.2f} at worst")
+    return 0 if all_well else 1
 
 
 if __name__ == "__main__":
