@@ -104,13 +104,16 @@ mod tests {
     use omega_game::GameBuilder;
     use std::test::Fail;
 
-    /// The words of a row for a game in which node i has priority 2 * i + 1 and is its own successor.
-    fn words_for(alloc: Global, nodes: u8, player: Player) -> Result<usize, Refusal> {
+    /// The words of a row for a game in which the odd priorities from 1 on are borne by `bearers` nodes each, as far as
+    /// there are nodes, and each node is its own successor.
+    fn words_for(alloc: Global, nodes: u16, bearers: u16, player: Player) -> Result<usize, Refusal>
+        requires { 0 < bearers }
+    {
         let mut builder = GameBuilder::new(alloc);
         builder.add_node(0, 1, Player::Zero, 0)?;
-        for i in 1..nodes {
-            let id = u32::from(i);
-            builder.add_node(id, 2 * id + 1, Player::Zero, id)?;
+        for id in 1..nodes {
+            let priority = 2 * u32::from(id / bearers) + 1;
+            builder.add_node(u32::from(id), priority, Player::Zero, u32::from(id))?;
         }
         let table = PackedTable::prepare(alloc, &builder.finish()?, player)?;
         Ok(table.size)
@@ -119,9 +122,23 @@ mod tests {
     // A bit for top and one for each entry.
     #[test]
     fn sixty_four_bits_a_word(rt: HostRuntime) -> Result<(), Fail> {
-        assert_eq!(rt; words_for(rt.alloc(), 63, Player::Zero)?, 1);
-        assert_eq!(rt; words_for(rt.alloc(), 64, Player::Zero)?, 2);
-        assert_eq!(rt; words_for(rt.alloc(), 64, Player::One)?, 1);
+        assert_eq!(rt; words_for(rt.alloc(), 63, 1, Player::Zero)?, 1);
+        assert_eq!(rt; words_for(rt.alloc(), 64, 1, Player::Zero)?, 2);
+        assert_eq!(rt; words_for(rt.alloc(), 63, 1, Player::One)?, 1);
+        assert_eq!(rt; words_for(rt.alloc(), 64, 1, Player::One)?, 1);
+        Ok(())
+    }
+
+    // Four bits hold 15 and five hold 16. Twelve entries of five bits fit behind the bit for top and into each word
+    // behind the first, so that 25 take a third word, though two have bits enough.
+    #[test]
+    fn no_entry_lies_across_words(rt: HostRuntime) -> Result<(), Fail> {
+        assert_eq!(rt; words_for(rt.alloc(), 15 * 15, 15, Player::Zero)?, 1);
+        assert_eq!(rt; words_for(rt.alloc(), 16 * 15, 15, Player::Zero)?, 2);
+        assert_eq!(rt; words_for(rt.alloc(), 12 * 16, 16, Player::Zero)?, 1);
+        assert_eq!(rt; words_for(rt.alloc(), 13 * 16, 16, Player::Zero)?, 2);
+        assert_eq!(rt; words_for(rt.alloc(), 24 * 16, 16, Player::Zero)?, 2);
+        assert_eq!(rt; words_for(rt.alloc(), 25 * 16, 16, Player::Zero)?, 3);
         Ok(())
     }
 }

@@ -8,20 +8,13 @@ use std::process::Abort;
 use std::test::Fail;
 
 /// The game `0 1 0 0,1; 1 3 0 2; 2 4 0 2;`. For player 0 a measure has an entry for 3 and one for 1, each at most 1.
-fn example(alloc: Global) -> Result<Game, Refusal>
-    ensures { IfOk result (λ game. length game ≡ 3) }
-{
+fn example(alloc: Global) -> Result<Game, Refusal> {
     let mut builder = GameBuilder::new(alloc);
     builder.add_node(0, 1, Player::Zero, 0)?;
     builder.add_successor(1)?;
     builder.add_node(1, 3, Player::Zero, 2)?;
     builder.add_node(2, 4, Player::Zero, 2)?;
-    let game = builder.finish()?;
-    if game.len() == 3 {
-        Ok(game)
-    } else {
-        Err(Refusal::Io)
-    }
+    builder.finish()
 }
 
 /// A game in which node i has priority 2 * i + 1, or that of the node `most` if i is above it, and is its own successor.
@@ -35,20 +28,23 @@ fn odd_game(alloc: Global, nodes: u16, most: u16) -> Result<Game, Refusal> {
     builder.finish()
 }
 
-/// A new table over three nodes.
-fn prepared<T: MeasureTable>(alloc: Global, game: &Game, player: Player) -> Result<T, Refusal>
-    requires { length game.now ≡ 3 }
-    ensures { IfOk result (λ table. length (T.content table).measures ≡ 3) }
+/// A new table, and how many places it has.
+fn prepared<T: MeasureTable>(
+    alloc: Global,
+    game: &Game,
+    player: Player,
+) -> Result<(T, u32), Refusal>
+    ensures { IfOk result (λ both. length (T.content both.0).measures ≡ both.1) }
 {
-    T::prepare(alloc, game, player)
+    Ok((T::prepare(alloc, game, player)?, game.len() as u32))
 }
 
 /// Raises `v` to its allowance towards `w` where that is due, and says whether it was.
-fn lift<T: MeasureTable>(table: &mut T, v: u32, w: u32) -> bool
-    requires three { length (T.content table.old).measures ≡ 3 }
-    requires lifted { v < 3 }
-    requires towards { w < 3 }
-    ensures { length (T.content table.new).measures ≡ 3 }
+fn lift<T: MeasureTable>(table: &mut T, places: u32, v: u32, w: u32) -> bool
+    requires places { length (T.content table.old).measures ≡ places }
+    requires lifted { v < places }
+    requires towards { w < places }
+    ensures { length (T.content table.new).measures ≡ places }
 {
     let due = table.due(v, w);
     if due {
@@ -68,24 +64,24 @@ enum Step {
     Top(u32, bool),
 }
 
-/// Takes a table over three nodes through the steps.
-fn follow<T: MeasureTable, R: Abort>(rt: &R, table: &mut T, steps: &[Step])
-    requires { length (T.content table.old).measures ≡ 3 }
+/// Takes a table over so many places through the steps.
+fn follow<T: MeasureTable, R: Abort>(rt: &R, table: &mut T, places: u32, steps: &[Step])
+    requires { length (T.content table.old).measures ≡ places }
 {
     for step in steps {
         match *step {
             Step::Lift(v, w, due) => {
-                assert!(rt; v < 3);
-                assert!(rt; w < 3);
-                assert_eq!(rt; lift(table, v, w), due);
+                assert!(rt; v < places);
+                assert!(rt; w < places);
+                assert_eq!(rt; lift(table, places, v, w), due);
             }
             Step::Order(a, b, p, order) => {
-                assert!(rt; a < 3);
-                assert!(rt; b < 3);
+                assert!(rt; a < places);
+                assert!(rt; b < places);
                 assert_eq!(rt; table.compare(a, b, p), order);
             }
             Step::Top(place, top) => {
-                assert!(rt; place < 3);
+                assert!(rt; place < places);
                 assert_eq!(rt; table.is_top(place), top);
             }
         }
@@ -129,25 +125,59 @@ const LIFTS_OF_ONE: [Step; 6] = [
     Step::Top(2, true),
 ];
 
-/// Takes new tables of both players through their steps.
-fn lifts_by_hand<T: MeasureTable, R: Abort>(rt: &R, alloc: Global) -> Result<(), Refusal> {
-    let game = example(alloc)?;
-    let mut zero: T = prepared(alloc, &game, Player::Zero)?;
-    follow(rt, &mut zero, &LIFTS_OF_ZERO);
-    let mut one: T = prepared(alloc, &game, Player::One)?;
-    follow(rt, &mut one, &LIFTS_OF_ONE);
+// Entries of the odd priorities from 127 down to 1, each at most 1: packed, that for 1 stands alone in a second word. Node 0 (priority
+// 1) counts there and carries to the entry for 3, the last of the first word, and from there to that for 5.
+const LIFTS_OVER_WORDS: [Step; 17] = [
+    Step::Lift(0, 0, true),
+    Step::Order(0, 1, 1, Ordering::Greater),
+    Step::Order(0, 1, 2, Ordering::Equal),
+    Step::Lift(0, 0, true),
+    Step::Order(0, 1, 3, Ordering::Greater),
+    Step::Order(0, 1, 4, Ordering::Equal),
+    Step::Lift(0, 0, true),
+    Step::Lift(0, 0, true),
+    Step::Order(0, 1, 5, Ordering::Greater),
+    Step::Order(0, 1, 6, Ordering::Equal),
+    Step::Lift(1, 0, true),
+    Step::Order(1, 0, 3, Ordering::Greater),
+    Step::Order(1, 0, 5, Ordering::Equal),
+    Step::Lift(63, 63, true),
+    Step::Lift(63, 63, true),
+    Step::Top(63, true),
+    Step::Top(0, false),
+];
+
+/// Takes a new table of a player through the steps.
+fn lifts_by_hand<T: MeasureTable, R: Abort>(
+    rt: &R,
+    alloc: Global,
+    game: &Game,
+    player: Player,
+    steps: &[Step],
+) -> Result<(), Refusal> {
+    let (mut table, places): (T, u32) = prepared(alloc, game, player)?;
+    follow(rt, &mut table, places, steps);
     Ok(())
+}
+
+/// Takes new tables of both players through their steps.
+fn all_lifts<T: MeasureTable, R: Abort>(rt: &R, alloc: Global) -> Result<(), Refusal> {
+    let game = example(alloc)?;
+    lifts_by_hand::<T, R>(rt, alloc, &game, Player::Zero, &LIFTS_OF_ZERO)?;
+    lifts_by_hand::<T, R>(rt, alloc, &game, Player::One, &LIFTS_OF_ONE)?;
+    let wide = odd_game(alloc, 64, 63)?;
+    lifts_by_hand::<T, R>(rt, alloc, &wide, Player::Zero, &LIFTS_OVER_WORDS)
 }
 
 #[test]
 fn plain_lifts(rt: HostRuntime) -> Result<(), Fail> {
-    lifts_by_hand::<PlainTable, HostRuntime>(&rt, rt.alloc())?;
+    all_lifts::<PlainTable, HostRuntime>(&rt, rt.alloc())?;
     Ok(())
 }
 
 #[test]
 fn packed_lifts(rt: HostRuntime) -> Result<(), Fail> {
-    lifts_by_hand::<PackedTable, HostRuntime>(&rt, rt.alloc())?;
+    all_lifts::<PackedTable, HostRuntime>(&rt, rt.alloc())?;
     Ok(())
 }
 
