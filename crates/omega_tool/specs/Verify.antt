@@ -13,20 +13,10 @@ use Rattle.omega_tool.specs.declared.exit.Exit.TheVariants.{Done, No}
 use Rattle.omega_tool.specs.Answer.{places_from}
 use Rattle.omega_tool.specs.Solution.{WinsAsGiven}
 
--- how the command ends for a solution that is right or not
-abbrev pub verdict_exit : Bool → Exit
-verdict_exit true = Done
-verdict_exit false = No
-
--- what it writes
-abbrev pub verdict_text : Bool → List ℕ
-verdict_text true = codes "yes\n"
-verdict_text false = codes "no\n"
-
--- `yes` where for each player the choices win from all nodes given to that player, else `no`
+-- `yes` where for each player the choices win from all nodes given to that player, else `no`, with an exit of its own
 abbrev pub IsVerdict : List Node → Solution → Exit → List ℕ → Type 0
-IsVerdict nodes solution Done output = WinsAsGiven nodes solution × (output ≡ verdict_text true)
-IsVerdict nodes solution No output = (¬ WinsAsGiven nodes solution) × (output ≡ verdict_text false)
+IsVerdict nodes solution Done output = WinsAsGiven nodes solution × (output ≡ codes "yes\n")
+IsVerdict nodes solution No output = (¬ WinsAsGiven nodes solution) × (output ≡ codes "no\n")
 
 -- what `verify` answers: the texts stand for a game and for a solution of it, and the verdict is written
 pub record IsVerifyAnswer (game_text text : List ℕ) (exit : Exit) (output : List ℕ) : Type 0 where
@@ -45,6 +35,16 @@ pub record RefusesSolution (game_text text : List ℕ) (refusal : Refusal) : Typ
 -- the refusal of `verify`: that of the game's text, or else that of the solution's
 abbrev pub IsVerifyRefusal : List ℕ → List ℕ → Refusal → Type 0
 IsVerifyRefusal game_text text refusal = IsRefusal game_text refusal ⊎ RefusesSolution game_text text refusal
+
+-- how the command ends for a solution that is right or not
+abbrev pub verdict_exit : Bool → Exit
+verdict_exit true = Done
+verdict_exit false = No
+
+-- what it writes
+abbrev pub verdict_text : Bool → List ℕ
+verdict_text true = codes "yes\n"
+verdict_text false = codes "no\n"
 
 -- whether the winner is the player
 abbrev pub is_given : Player → Player → Bool

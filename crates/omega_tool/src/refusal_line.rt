@@ -15,9 +15,9 @@ pub fn refusal_line(refusal: &Refusal, out: &mut Vec<u8>) -> Result<(), Refusal>
     let before = out.len();
     match append_line(*refusal, out) {
         Ok(()) => Ok(()),
-        Err(_) => {
+        Err(wanting) => {
             out.truncate(before);
-            Err(Refusal::Memory)
+            Err(wanting)
         }
     }
 }
@@ -25,6 +25,7 @@ pub fn refusal_line(refusal: &Refusal, out: &mut Vec<u8>) -> Result<(), Refusal>
 fn append_line(refusal: Refusal, out: &mut Vec<u8>) -> Result<(), Refusal>
     ensures ok { OnOk result (out.new.items ≡ out.old.items ++ line_of refusal) }
     ensures kept { StartsWith out.new.items out.old.items }
+    ensures memory { IsOkUnless result Memory }
 {
     out.extend_from_slice(b"omega: ")?;
     write_number(u128::from(refusal.number()), out)?;
@@ -38,6 +39,7 @@ fn append_line(refusal: Refusal, out: &mut Vec<u8>) -> Result<(), Refusal>
 fn append_place(place: Option<usize>, out: &mut Vec<u8>) -> Result<(), Refusal>
     ensures ok { OnOk result (out.new.items ≡ out.old.items ++ place_text place) }
     ensures kept { StartsWith out.new.items out.old.items }
+    ensures memory { IsOkUnless result Memory }
 {
     let Some(at) = place else {
         return Ok(());
