@@ -10,9 +10,15 @@ use Rattle.std.proofs.lemmas.List.Sums.{sum_by_push}
 use Rattle.std.proofs.lemmas.Map.Keys.{apart_from_distinct}
 use Rattle.omega_game.specs.declared.classes.Class.{Class}
 use Rattle.omega_game.specs.Bound.{bearers}
-use Rattle.omega_game.specs.Classes.{AreTallied}
 use Rattle.omega_game.specs.Layout.{AreClasses}
 use Rattle.omega_game.proofs.FaultLemmas.{count_none}
+
+-- the classes so far, their priorities in the order seen, each with its number of bearers among these
+pub record AreTallied (ranks seen : List ℕ) (classes : List Class) : Type 0 where
+  pub same : seen ≡ map (λ class. class.priority) classes
+  pub tallied : All (λ class. (class.bearers ≡ bearers ranks class.priority) × (0 < class.bearers)) classes
+  pub apart : IsDistinct nat_eq seen
+  pub all_seen : All (λ q. Contains seen q) ranks
 
 -- any class
 no_class : Class

@@ -7,7 +7,6 @@ pub mod Part
 pub mod Checking
 pub mod Building
 pub mod Laws
-pub mod Classes
 pub mod Entering
 pub mod Layout
 pub mod Resolving

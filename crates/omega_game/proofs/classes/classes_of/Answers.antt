@@ -4,8 +4,7 @@ use Rattle.std.specs.List.{IsDistinct, list_any}
 use Rattle.std.proofs.lemmas.Bool.{eqb-true, not-true, not-false}
 use Rattle.std.proofs.lemmas.List.{take_more, take_all}
 use Rattle.std.proofs.lemmas.Option.{get_or_from_slice_get, slice_get_within}
-use Rattle.omega_game.specs.Classes.{AreTallied}
-use Rattle.omega_game.proofs.ClassesLemmas.{classes_from_tally, tallied_again, tallied_new}
+use Rattle.omega_game.proofs.ClassesLemmas.{AreTallied, classes_from_tally, tallied_again, tallied_new}
 use Rattle.omega_game.proofs.classes.classes_of.Goals as goal
 use Rattle.omega_game.proofs.classes.classes_of.Goals.{then-is_new+in_ok-push, else-is_new}
 

@@ -1,5 +1,5 @@
 use Rattle.std.proofs.Common.{take}
-use Rattle.omega_game.specs.Classes.{AreTallied}
+use Rattle.omega_game.proofs.ClassesLemmas.{AreTallied}
 use Rattle.omega_game.proofs.classes.classes_of.Given as goal
 
 abbrev pub invariant-loop-priority : goal.invariant-loop-priority
