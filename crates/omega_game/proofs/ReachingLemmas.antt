@@ -5,9 +5,9 @@ use Rattle.std.proofs.lemmas.List.{length-set, length_push, take_more, get_or_pa
 use Rattle.std.proofs.lemmas.List.Elements.{Contains-append_left, Contains-push, Contains-push_cases, Contains-get_or}
 use Rattle.std.proofs.lemmas.List.Sums.{sum_by-set}
 use Rattle.omega_game.specs.Game.{Node, IsGame, priority_at}
-use Rattle.omega_game.specs.Part.{IsPath as IsListedPath, Reaches}
+use Rattle.omega_game.specs.Part.{IsPath, Reaches}
 use Rattle.omega_game.specs.Winning.{end_of}
-use Rattle.omega_game.specs.Checking.{left_at, mark_at, IsPath, IsReached, AreReached, AreEntered, AreChoices, AreClosed}
+use Rattle.omega_game.specs.Checking.{left_at, mark_at, IsLowPath, IsReached, AreReached, AreEntered, LeadsInside, AreClosed}
 use Rattle.omega_game.proofs.Membership.{Contains-nothing}
 
 -- the mark that was set
@@ -51,7 +51,7 @@ unmarked n v = go (cases_lt v n)
     go (inr past) = get_or_past (replicate n false) v false (omega (arith, length-replicate n false))
 
 -- the edges left possible lead to nodes
-pub left_inside : (nodes : List Node) (choices : List (Option ℕ)) (v : ℕ) (ws : List ℕ) → AreChoices nodes choices → ws ≡ left_at nodes choices v
+pub left_inside : (nodes : List Node) (choices : List (Option ℕ)) (v : ℕ) (ws : List ℕ) → LeadsInside nodes choices → ws ≡ left_at nodes choices v
     → All (λ w. w < length nodes) ws
 left_inside nodes choices v ws kept same k d below =
     kept.inside v (get_or ws k d) (subst (λ xs. Contains xs (get_or ws k d)) same (Contains-get_or ws k d below))
@@ -135,8 +135,8 @@ module _ (nodes : List Node) (most : ℕ) (places : List ℕ) (marks : List Bool
 
 module _ (nodes : List Node) (choices : List (Option ℕ)) (most : ℕ) where
   -- a path and an edge behind it
-  pub path_on : (v : ℕ) (ws : List ℕ) (u w : ℕ) → IsPath nodes choices most v ws → end_of v ws ≡ u
-      → Contains (left_at nodes choices u) w → priority_at nodes w ≤ most → IsPath nodes choices most v (ws ++ w ∷ [])
+  pub path_on : (v : ℕ) (ws : List ℕ) (u w : ℕ) → IsLowPath nodes choices most v ws → end_of v ws ≡ u
+      → Contains (left_at nodes choices u) w → priority_at nodes w ≤ most → IsLowPath nodes choices most v (ws ++ w ∷ [])
   path_on v [] u w path ends edge low = (path, subst (λ x. Contains (left_at nodes choices x) w) (sym ends) edge, low)
   path_on v (x ∷ ws) u w path ends edge low = (path.0, path.1, path_on x ws u w path.2 ends edge low)
 
@@ -231,11 +231,11 @@ module _ (nodes : List Node) (choices : List (Option ℕ)) (most : ℕ) where
 
   -- a path from a marked place stays marked where nothing waits
   marked_on : (places : List ℕ) (marks : List Bool) → IsSearch places marks [] → (v : ℕ) (ws : List ℕ)
-      → IsTrue (mark_at marks v) → IsPath nodes choices most v ws → IsTrue (mark_at marks (end_of v ws))
+      → IsTrue (mark_at marks v) → IsLowPath nodes choices most v ws → IsTrue (mark_at marks (end_of v ws))
   marked_on places marks search_ended v [] mark path = mark
   marked_on places marks search_ended v (w ∷ ws) mark path = marked_on places marks search_ended w ws (next (search_ended.done v w mark path.1 (low w ws path.2))) path.2
     where
-      low : (w : ℕ) (ws : List ℕ) → IsPath nodes choices most w ws → priority_at nodes w ≤ most
+      low : (w : ℕ) (ws : List ℕ) → IsLowPath nodes choices most w ws → priority_at nodes w ≤ most
       low w [] path = path
       low w (x ∷ ws) path = path.0
 
@@ -247,7 +247,7 @@ module _ (nodes : List Node) (choices : List (Option ℕ)) (most : ℕ) where
   pub search_ends : (places : List ℕ) (marks : List Bool) → IsSearch places marks [] → AreReached nodes choices most places marks
   search_ends places marks ended v = (ended.sound v, λ reached. complete reached)
     where
-      low : (w : ℕ) (ws : List ℕ) → IsPath nodes choices most w ws → priority_at nodes w ≤ most
+      low : (w : ℕ) (ws : List ℕ) → IsLowPath nodes choices most w ws → priority_at nodes w ≤ most
       low w [] path = path
       low w (x ∷ ws) path = path.0
 
@@ -280,17 +280,17 @@ step_push nodes most xs i marks stack marks' stack' m s within so_far below low 
     rw (m-is, s-is, take_more xs i 0 within) (entered_push nodes most (take i xs) marks stack marks' stack' so_far (get_or xs i 0) below low unmarked)
 
 -- where nothing is chosen each edge leads to a node
-pub nothing_chosen : (nodes : List Node) → IsGame nodes → AreChoices nodes []
+pub nothing_chosen : (nodes : List Node) → IsGame nodes → LeadsInside nodes []
 nothing_chosen nodes game = record { inside = game.closed }
 
 module _ (nodes : List Node) (most : ℕ) (low : (v : ℕ) → priority_at nodes v ≤ most) (game : IsGame nodes) where
   -- a path along the edges that no choice leaves is one of listed edges
-  listed_path : (v : ℕ) (ws : List ℕ) → v < length nodes → IsPath nodes [] most v ws → IsListedPath nodes v ws
+  listed_path : (v : ℕ) (ws : List ℕ) → v < length nodes → IsLowPath nodes [] most v ws → IsPath nodes v ws
   listed_path v [] within path = within
   listed_path v (w ∷ ws) within path = (path.1, listed_path w ws (game.closed v w path.1) path.2)
 
   -- and the other way round
-  path_listed : (v : ℕ) (ws : List ℕ) → IsListedPath nodes v ws → IsPath nodes [] most v ws
+  path_listed : (v : ℕ) (ws : List ℕ) → IsPath nodes v ws → IsLowPath nodes [] most v ws
   path_listed v [] path = low v
   path_listed v (w ∷ ws) path = (low v, path.0, path_listed w ws path.1)
 
@@ -317,6 +317,6 @@ module _ (nodes : List Node) (most : ℕ) (low : (v : ℕ) → priority_at nodes
           let same : v ≡ reached.start = only reached.start (Contains-push_cases [] v reached.start reached.listed) in
           record {
             path = reached.after;
-            joined = listed_path v reached.after within (subst (λ start. IsPath nodes [] most start reached.after) (sym same) reached.path);
+            joined = listed_path v reached.after within (subst (λ start. IsLowPath nodes [] most start reached.after) (sym same) reached.path);
             ends = ap (λ start. end_of start reached.after) same ∙ reached.ends;
           }

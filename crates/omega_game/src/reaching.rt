@@ -1,6 +1,6 @@
 //! The search for the places that are reached along edges that choices leave possible.
 ghost use Rattle.std.specs.Prelude.{◌≡◌, ℕ, ◌<◌, length, vec_len, All, IfOk, OnOk};
-ghost use Rattle.omega_game.specs.Checking.{left_at, AreChoices, AreEntered, AreReached};
+ghost use Rattle.omega_game.specs.Checking.{left_at, LeadsInside, AreEntered, AreReached};
 
 use crate::game::Game;
 use std::alloc::{AllocError, Global};
@@ -10,7 +10,7 @@ use std::slice;
 /// none is chosen or the choices end before the place.
 pub(crate) fn edges_left<'a>(game: &'a Game, choices: &'a [Option<u32>], place: u32) -> &'a [u32]
     requires inside { place < length game.now }
-    requires choices { AreChoices game.now choices.now }
+    requires choices { LeadsInside game.now choices.now }
     ensures left { result.now ≡ left_at game.now choices.now place }
     ensures inside { All (λ left. left < length game.now) result.now }
 {
@@ -30,7 +30,7 @@ pub(crate) fn reached_from(
     places: &[u32],
 ) -> Result<Vec<bool>, AllocError>
     requires inside { All (λ place. place < length game.now) places.now }
-    requires choices { AreChoices game.now choices.now }
+    requires choices { LeadsInside game.now choices.now }
     ensures count { IfOk result (λ marks. vec_len marks ≡ length game.now) }
     ensures reached { IfOk result (λ marks. AreReached game.now choices.now most places.now marks.items) }
 {

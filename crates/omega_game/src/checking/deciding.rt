@@ -1,7 +1,7 @@
 //! Whether no place that is reached bears a losing priority and recurs: suggested by a fast search, checked, and else
 //! tested plainly.
 ghost use Rattle.std.specs.Prelude.{◌≡◌, ◌↔◌, ℕ, ◌<◌, length, vec_len, IfOk, IsTrue};
-ghost use Rattle.omega_game.specs.Checking.{AreChoices, AreClosed, NoneRecurs};
+ghost use Rattle.omega_game.specs.Checking.{LeadsInside, AreClosed, NoneRecurs};
 
 use crate::checking::components::Edge;
 use crate::checking::nesting::{Finding, search_nested};
@@ -22,7 +22,7 @@ pub(crate) fn decide(
     marks: &[bool],
 ) -> Result<bool, AllocError>
     requires count { length marks.now ≡ length game.now }
-    requires choices { AreChoices game.now choices.now }
+    requires choices { LeadsInside game.now choices.now }
     requires closed { AreClosed game.now choices.now marks.now }
     ensures none { IfOk result (λ answer. IsTrue answer ↔ NoneRecurs game.now player choices.now marks.now) }
 {
@@ -53,7 +53,7 @@ fn loses_at(
     place: u32,
 ) -> Result<bool, AllocError>
     requires count { length marks.now ≡ length game.now }
-    requires choices { AreChoices game.now choices.now }
+    requires choices { LeadsInside game.now choices.now }
     ensures loses { IfOk result (λ answer. IsTrue answer → ¬ NoneRecurs game.now player choices.now marks.now) }
 {
     if place as usize >= game.len() || !marks[place as usize] {
@@ -75,7 +75,7 @@ fn suggest(
     marks: &[bool],
 ) -> Result<Finding, AllocError>
     requires count { length marks.now ≡ length game.now }
-    requires choices { AreChoices game.now choices.now }
+    requires choices { LeadsInside game.now choices.now }
 {
     let mut priorities = Vec::with_capacity(alloc, game.len())?;
     let mut edges = Vec::new(alloc);

@@ -1,7 +1,7 @@
 //! A proof that a strategy wins, as an order of the places: each edge leads forward, or back to a place whose priority
 //! does not lose and is the greatest on the way. A closed walk passes its greatest priority by such a step back.
 ghost use Rattle.std.specs.Prelude.{◌≡◌, ℕ, ◌<◌, ◌≤◌, length, vec_len, All, IfOk, IsTrue, slice_index};
-ghost use Rattle.omega_game.specs.Checking.{mark_at, AreChoices, AreClosed, AreEnds, IsInOrder, NoneRecurs, StandsInOrder};
+ghost use Rattle.omega_game.specs.Checking.{mark_at, LeadsInside, AreClosed, AreEnds, IsInOrder, NoneRecurs, StandsInOrder};
 
 use crate::game::Game;
 use crate::losing::is_losing;
@@ -19,7 +19,7 @@ pub(crate) fn shows_none(
     order: &[u32],
 ) -> Result<bool, AllocError>
     requires count { length marks.now ≡ length game.now }
-    requires choices { AreChoices game.now choices.now }
+    requires choices { LeadsInside game.now choices.now }
     requires closed { AreClosed game.now choices.now marks.now }
     ensures none { IfOk result (λ answer. IsTrue answer → NoneRecurs game.now player choices.now marks.now) }
 {
@@ -109,7 +109,7 @@ fn all_stand(
     ends: &[usize],
 ) -> bool
     requires count { length marks.now ≡ length game.now }
-    requires choices { AreChoices game.now choices.now }
+    requires choices { LeadsInside game.now choices.now }
     requires closed { AreClosed game.now choices.now marks.now }
     requires numbers { length numbers.now ≡ length game.now }
     requires even { length ends.now ≡ length ranks.now }
@@ -135,7 +135,7 @@ fn stands(
     place: u32,
 ) -> bool
     requires place { place < length game.now }
-    requires choices { AreChoices game.now choices.now }
+    requires choices { LeadsInside game.now choices.now }
     requires numbers { length numbers.now ≡ length game.now }
     requires ends { length ends.now ≡ length ranks.now }
     ensures { IsTrue result → StandsInOrder game.now player choices.now numbers.now ranks.now ends.now place }

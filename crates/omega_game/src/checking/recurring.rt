@@ -1,6 +1,6 @@
 //! The plain test: whether a place that is reached bears a losing priority and recurs.
 ghost use Rattle.std.specs.Prelude.{◌≡◌, ◌↔◌, ℕ, ◌<◌, length, IfOk, IsTrue};
-ghost use Rattle.omega_game.specs.Checking.{AreChoices, NoneRecurs, Recurs};
+ghost use Rattle.omega_game.specs.Checking.{LeadsInside, NoneRecurs, Recurs};
 
 use crate::game::Game;
 use crate::losing::is_losing;
@@ -16,7 +16,7 @@ pub(crate) fn recurs(
     place: u32,
 ) -> Result<bool, AllocError>
     requires inside { place < length game.now }
-    requires choices { AreChoices game.now choices.now }
+    requires choices { LeadsInside game.now choices.now }
     ensures recurs { IfOk result (λ answer. IsTrue answer ↔ Recurs game.now choices.now place) }
 {
     let left = edges_left(game, choices, place);
@@ -33,7 +33,7 @@ pub(crate) fn none_recurs(
     marks: &[bool],
 ) -> Result<bool, AllocError>
     requires count { length marks.now ≡ length game.now }
-    requires choices { AreChoices game.now choices.now }
+    requires choices { LeadsInside game.now choices.now }
     ensures none { IfOk result (λ answer. IsTrue answer ↔ NoneRecurs game.now player choices.now marks.now) }
 {
     for place in 0..game.len() as u32 {
