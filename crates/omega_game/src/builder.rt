@@ -66,7 +66,8 @@ impl GameBuilder {
         self.ids.len()
     }
 
-    /// Adds a specification with one successor and no name. 60: nothing is added.
+    /// Adds a specification with one successor and no name. `Memory` where a request for memory is refused: nothing is
+    /// added then.
     pub fn add_node(
         &mut self,
         id: u32,
@@ -114,7 +115,7 @@ impl GameBuilder {
         Ok(())
     }
 
-    /// Adds a specification without a name. 60: nothing is added.
+    /// Adds a specification without a name. On an error nothing is added.
     pub(crate) fn add(
         &mut self,
         id: u32,
@@ -136,7 +137,8 @@ impl GameBuilder {
         Ok(())
     }
 
-    /// Adds a successor to the last specification. 60: nothing is added.
+    /// Adds a successor to the last specification. `Memory` where a request for memory is refused: nothing is added
+    /// then.
     pub fn add_successor(&mut self, successor: u32) -> Result<(), Refusal>
         requires begun { 0 < length self.old }
         requires successor { successor ≤ MOST_NUMBER }
@@ -148,7 +150,7 @@ impl GameBuilder {
         Ok(())
     }
 
-    /// Names the last specification. 60: it is as before.
+    /// Names the last specification. `Memory` where a request for memory is refused: it is as before then.
     pub fn set_name(&mut self, name: &[u8]) -> Result<(), Refusal>
         requires begun { 0 < length self.old }
         requires bytes { All IsNameByte name.now }
@@ -181,7 +183,7 @@ impl GameBuilder {
             return Ok(self);
         }
         let order = self.order()?;
-        let builder = self.at(order.as_slice())?;
+        let builder = self.rearranged_by(order.as_slice())?;
         Ok(builder)
     }
 
@@ -203,7 +205,7 @@ impl GameBuilder {
     }
 
     /// The specifications at these indices, which are all of them.
-    fn at(&self, order: &[usize]) -> Result<GameBuilder, AllocError>
+    fn rearranged_by(&self, order: &[usize]) -> Result<GameBuilder, AllocError>
         requires { IsPermutation (range_with_len 0 (length self.now)) order.now }
         ensures permutation { IfOk result (λ builder. IsPermutation self.now builder) }
         ensures ids { IfOk result (λ builder. ids_of builder ≡ map (λ i. slice_index (ids_of self.now) i) order.now) }
@@ -223,7 +225,9 @@ impl GameBuilder {
         })
     }
 
-    /// The game of the specifications. 10, 11, 13, 14 or 60: the least that applies.
+    /// The game of the specifications. Refused with the first that applies of
+    /// `DuplicateNode`, `UndefinedSuccessor`, `TooManyNodes` and `TooManyEdges`, or with `Memory` where a request for
+    /// memory is refused.
     pub fn finish(self) -> Result<Game, Refusal>
         requires { 0 < length self }
         ensures game { IfOk result (λ game. IsGameOf self game) }
@@ -237,7 +241,7 @@ impl GameBuilder {
         sorted.resolved()
     }
 
-    /// The game of specifications whose identifiers rise. 11, 13, 14 or 60: the least that applies.
+    /// The game of specifications whose identifiers rise, or the first fault that applies.
     fn resolved(self) -> Result<Game, Refusal>
         requires some { 0 < length self }
         requires rising { IsStrictlyIncreasing (ids_of self) }

@@ -21,9 +21,13 @@ use omega_text::Refusal;
 use std::alloc::{AllocError, Global};
 
 /// Whether a strategy of the player wins from each of the places, which may come in any order and repeatedly: yes where
-/// none is listed. 60. A walk may take each edge that the choices leave possible: at a node with a choice that one, at
-/// each other node all. The cost is that of a search for strongly connected components (Tarjan 1972) for each halving of
-/// the priorities borne: for m edges and d priorities about m times the logarithm of d.
+/// none is listed. `Memory` where a request for memory is refused. A walk may take each edge that the choices leave
+/// possible: at a node with a choice that one, at each other node all.
+///
+/// A search for strongly connected components (Tarjan 1972) for each halving of the priorities borne suggests an answer,
+/// which is checked. For n nodes, m edges and d priorities the cost is near (m + n) · log d, after the nodes are sorted
+/// by priority, where the suggestion is accepted. Else each place of a losing priority is tested by a search of its own:
+/// n · m at worst. Tests show no suggestion that is not accepted, and no proof excludes one.
 pub fn check_strategy(
     alloc: Global,
     game: &Game,

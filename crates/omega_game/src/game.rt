@@ -45,7 +45,9 @@ impl Game {
     ghost use Rattle.omega_game.specs.Game.{IsGame, IsWithinLimits, edge_count, identifiers, node_at, owner_at, predecessors_of, priorities, priority_at, successors_at};
     ghost use Rattle.omega_game.specs.Layout.{columns_of, nodes_of, AreClasses, AreEven};
 
-    /// The game of the specifications, which may come in any order. 10, 11, 13, 14 or 60: the least that applies.
+    /// The game of the specifications, which may come in any order. Refused with the first that applies of
+    /// `DuplicateNode`, `UndefinedSuccessor`, `TooManyNodes` and `TooManyEdges`, or with `Memory` where a request for
+    /// memory is refused.
     pub fn build(alloc: Global, specs: Vec<NodeSpec>) -> Result<Game, Refusal>
         requires listed { 0 < vec_len specs }
         requires well_formed { All IsWellFormed specs.items }

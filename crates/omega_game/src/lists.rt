@@ -10,7 +10,7 @@ use std::marker::Model;
 
 /// Lists that lie one behind the other in one vector, with the place where each starts.
 #[derive(Drop)]
-pub struct Lists<T> {
+pub(crate) struct Lists<T> {
     starts: Vec<usize>,
     items: Vec<T>,
 }
@@ -29,7 +29,7 @@ impl<T> Model for Lists<T> {
 
 impl<T: Copy> Lists<T> {
     /// No list, which takes no memory.
-    pub fn new(alloc: Global) -> Self
+    pub(crate) fn new(alloc: Global) -> Self
         ensures { result ≡ [] }
     {
         Lists {
@@ -39,7 +39,7 @@ impl<T: Copy> Lists<T> {
     }
 
     /// The lists with these starts in these items.
-    pub fn from_parts(starts: Vec<usize>, items: Vec<T>) -> Self
+    pub(crate) fn from_parts(starts: Vec<usize>, items: Vec<T>) -> Self
         requires { AreStarts starts.items (length items.items) }
         ensures { result ≡ lists_of starts.items items.items }
     {
@@ -47,21 +47,21 @@ impl<T: Copy> Lists<T> {
     }
 
     /// The number of lists.
-    pub fn len(&self) -> usize
+    pub(crate) fn len(&self) -> usize
         ensures { result ≡ length self.now }
     {
         self.starts.len()
     }
 
     /// The number of items of all lists together.
-    pub fn total(&self) -> usize
+    pub(crate) fn total(&self) -> usize
         ensures { result ≡ sum_by (λ list. length list) self.now }
     {
         self.items.len()
     }
 
     /// The list at an index.
-    pub fn list(&self, index: usize) -> &[T]
+    pub(crate) fn list(&self, index: usize) -> &[T]
         requires { index < length self.now }
         ensures { result.now ≡ slice_index_or self.now index [] }
     {
@@ -69,7 +69,7 @@ impl<T: Copy> Lists<T> {
     }
 
     /// The lists at these indices, in their order, an empty one where there is none.
-    pub fn picked(&self, alloc: Global, order: &[usize]) -> Result<Lists<T>, AllocError>
+    pub(crate) fn picked(&self, alloc: Global, order: &[usize]) -> Result<Lists<T>, AllocError>
         ensures { IfOk result (λ lists. lists ≡ map (λ i. slice_index_or self.now i []) order.now) }
     {
         let mut lists = Lists::new(alloc);
@@ -84,7 +84,7 @@ impl<T: Copy> Lists<T> {
     }
 
     /// Adds a list behind the others.
-    pub fn push_list(&mut self, list: &[T]) -> Result<(), AllocError>
+    pub(crate) fn push_list(&mut self, list: &[T]) -> Result<(), AllocError>
         ensures ok { OnOk result (self.new ≡ self.old ++ list.now ∷ []) }
         ensures err { OnErr result (self.new ≡ self.old) }
     {
@@ -97,7 +97,7 @@ impl<T: Copy> Lists<T> {
     }
 
     /// Adds an item to the last list.
-    pub fn push_item(&mut self, item: T) -> Result<(), AllocError>
+    pub(crate) fn push_item(&mut self, item: T) -> Result<(), AllocError>
         requires { 0 < length self.old }
         ensures ok { OnOk result (self.new ≡ slice_set self.old (length self.old - 1) (slice_index_or self.old (length self.old - 1) [] ++ item ∷ [])) }
         ensures err { OnErr result (self.new ≡ self.old) }
@@ -109,7 +109,7 @@ impl<T: Copy> Lists<T> {
 
 impl Lists<u8> {
     /// Replaces the last list by an item and those behind it.
-    pub fn replace_last(&mut self, first: u8, rest: &[u8]) -> Result<(), AllocError>
+    pub(crate) fn replace_last(&mut self, first: u8, rest: &[u8]) -> Result<(), AllocError>
         requires { 0 < length self.old }
         ensures ok { OnOk result (self.new ≡ slice_set self.old (length self.old - 1) (first ∷ rest.now)) }
         ensures err { OnErr result (self.new ≡ self.old) }
@@ -122,7 +122,7 @@ impl Lists<u8> {
 
 impl Lists<u32> {
     /// Replaces each identifier by its place, and says whether each has one. One that has none stays.
-    pub fn resolve(&mut self, listed: &IndexSet<u32>, count: usize) -> bool
+    pub(crate) fn resolve(&mut self, listed: &IndexSet<u32>, count: usize) -> bool
         requires { length listed.now.keys ≤ 2 ^ 31 }
         ensures defined { result ≡ list_all (λ list. list_all (is_defined (identifiers_of count listed.now.keys)) list) self.old }
         ensures places { self.new ≡ map (map (resolved_in (identifiers_of count listed.now.keys))) self.old }

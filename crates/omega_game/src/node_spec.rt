@@ -8,6 +8,7 @@ pub struct NodeSpec {
     pub id: u32,
     /// The priority, at most 2,147,483,647.
     pub priority: u32,
+    /// The player who chooses the successor.
     pub owner: Player,
     /// The identifiers of the successors in the order listed, repeats kept.
     pub successors: Seq<u32>,

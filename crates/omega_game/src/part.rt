@@ -11,8 +11,8 @@ use std::alloc::Global;
 impl Game {
     ghost use Rattle.omega_game.specs.Part.{IsPart};
 
-    /// The game of all nodes to which a list of listed edges leads from the place, itself included. 60 alone.
-    /// Takes time in the nodes, and in the successors and names of those that are kept.
+    /// The game of all nodes to which a list of listed edges leads from the place, itself included. `Memory` where a
+    /// request for memory is refused. Takes time in the nodes, and in the successors and names of those that are kept.
     pub fn part(&self, alloc: Global, place: u32) -> Result<Game, Refusal>
         requires { place < length self.now }
         ensures part { IfOk result (λ part. IsPart self.now place part) }

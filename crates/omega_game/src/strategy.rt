@@ -9,6 +9,7 @@ use omega_text::Seq;
 /// A strategy: for each place none, or the place that the player moves to.
 #[derive(Debug, Drop, PartialEq, Eq)]
 pub struct Strategy {
+    /// At each place the place to move to, or none: all listed successors are left possible there.
     pub choice: Seq<Option<u32>>,
 }
 

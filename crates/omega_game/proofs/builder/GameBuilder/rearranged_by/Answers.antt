@@ -7,7 +7,7 @@ use Rattle.omega_game.specs.declared.node_spec.NodeSpec.{NodeSpec}
 use Rattle.std.specs.List.{range_with_len}
 use Rattle.std.specs.List.Sorted.{IsPermutation}
 use Rattle.std.proofs.Common.{All}
-use Rattle.omega_game.proofs.builder.GameBuilder.at.Goals as goal
+use Rattle.omega_game.proofs.builder.GameBuilder.rearranged_by.Goals as goal
 
 -- the indices are those of the columns
 over : (columns : Columns) (specs : List NodeSpec) (order : List ℕ) → specs_of columns ≡ specs → IsPermutation (range_with_len 0 (length specs)) order
