@@ -36,15 +36,20 @@ fn drawn(number: u64, below: u32) -> u32
     (number >> 48) as u32 % below.max(1)
 }
 
-/// A pseudo-random game of so many nodes with priorities below 8, and one to three successors for each. In a tame one
-/// place 0 bears 8, and odd priorities lead to it alone.
-fn random(alloc: Global, nodes: u16, tame: bool, seed: u64) -> Result<Game, Refusal> {
+/// A pseudo-random game of so many nodes with priorities below `most`, and one to three successors for each. In a tame
+/// one place 0 bears an even priority from `most` on, and odd priorities lead to it alone.
+fn random(alloc: Global, nodes: u16, most: u16, tame: bool, seed: u64) -> Result<Game, Refusal> {
     let count = u32::from(nodes);
+    let most = u32::from(most);
     let mut builder = GameBuilder::new(alloc);
     let mut number = seed;
     for id in 0..count {
         number = next(number);
-        let priority = if tame && id == 0 { 8 } else { drawn(number, 8) };
+        let priority = if tame && id == 0 {
+            most + most % 2
+        } else {
+            drawn(number, most)
+        };
         let ends = if tame && priority % 2 == 1 { 1 } else { count };
         number = next(number);
         builder.add_node(id, priority, Zero, drawn(number, ends))?;
@@ -59,7 +64,22 @@ fn random(alloc: Global, nodes: u16, tame: bool, seed: u64) -> Result<Game, Refu
 #[test]
 fn the_fast_search_is_confirmed(rt: HostRuntime) -> Result<(), Fail> {
     for seed in 0..400u16 {
-        let game = random(rt.alloc(), 1 + seed % 24, seed % 2 == 0, u64::from(seed))?;
+        let game = random(rt.alloc(), 1 + seed % 24, 8, seed % 2 == 0, u64::from(seed))?;
+        for player in [Zero, One] {
+            assert!(rt;
+                is_confirmed(rt.alloc(), &game, player)?,
+                "{player:?}, seed {seed}"
+            );
+        }
+    }
+    Ok(())
+}
+
+#[test]
+fn the_fast_search_is_confirmed_on_large_games(rt: HostRuntime) -> Result<(), Fail> {
+    for seed in 0..8u16 {
+        let most = if seed < 4 { 8 } else { 2000 };
+        let game = random(rt.alloc(), 10_000, most, seed % 2 == 0, u64::from(seed))?;
         for player in [Zero, One] {
             assert!(rt;
                 is_confirmed(rt.alloc(), &game, player)?,
