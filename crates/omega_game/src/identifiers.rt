@@ -33,10 +33,10 @@ pub(crate) fn listed_ids(alloc: Global, ids: &[u32]) -> Result<IndexSet<u32>, Al
     requires rising { IsStrictlyIncreasing ids.now }
     ensures { IfOk result (λ listed. identifiers_of (length ids.now) listed.keys ≡ ids.now) }
 {
-    let mut listed = IndexSet::new(alloc);
     if ids[ids.len() - 1] as usize == ids.len() - 1 {
-        return Ok(listed);
+        return Ok(IndexSet::new(alloc));
     }
+    let mut listed = IndexSet::with_capacity(alloc, ids.len())?;
     for id in ids {
         listed.insert(*id)?;
     }

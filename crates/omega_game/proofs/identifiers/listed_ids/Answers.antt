@@ -3,7 +3,7 @@ use Rattle.omega_game.proofs.ResolvingLemmas.{dense_ids, listed_more, listed_all
 use Rattle.omega_game.proofs.identifiers.listed_ids.Goals as goal
 
 pub returns-then-ids : goal.returns-then-ids
-returns-then-ids c = dense_ids c.args.ids.now c.new-listed.result.keys c.requires.some c.requires.rising c.if-ids.true (ap length c.new-listed.ensures.empty)
+returns-then-ids c = dense_ids c.args.ids.now c.new.result.keys c.requires.some c.requires.rising c.if-ids.true (ap length c.new.ensures.empty)
 
 pub loop-id-preserved : goal.loop-id-preserved
 loop-id-preserved c = listed_more c.args.ids.now c.loop-id.listed.keys c.insert.new.self.keys c.loop-id.id-index _ c.requires.rising c.loop-id-test.true refl c.loop-id.invariant c.in_ok-insert.ensures.keys
