@@ -174,14 +174,11 @@ impl GameBuilder {
         Ok(())
     }
 
-    /// The specifications in rising order of identifiers. No memory where they rise already.
+    /// The specifications in rising order of identifiers.
     fn rearranged(self) -> Result<GameBuilder, AllocError>
         ensures permutation { IfOk result (λ builder. IsPermutation self builder) }
         ensures rising { IfOk result (λ builder. IsNonDecreasing (ids_of builder)) }
     {
-        if self.has_rising_ids() {
-            return Ok(self);
-        }
         let order = self.order()?;
         let builder = self.rearranged_by(order.as_slice())?;
         Ok(builder)
@@ -227,13 +224,16 @@ impl GameBuilder {
 
     /// The game of the specifications. Refused with the first that applies of
     /// `DuplicateNode`, `UndefinedSuccessor`, `TooManyNodes` and `TooManyEdges`, or with `Memory` where a request for
-    /// memory is refused.
+    /// memory is refused. Identifiers that rise already are not sorted.
     pub fn finish(self) -> Result<Game, Refusal>
         requires { 0 < length self }
         ensures game { IfOk result (λ game. IsGameOf self game) }
         ensures faultless { OnOk result (fault_of self ≡ None) }
         ensures refused { IfErr result (IsBuildRefusal self) }
     {
+        if self.has_rising_ids() {
+            return self.resolved();
+        }
         let sorted = self.rearranged()?;
         if !sorted.has_rising_ids() {
             return Err(Refusal::Game(GameFault::DuplicateNode));

@@ -16,21 +16,21 @@ none = record { id = 0; priority = 0; owner = Zero; successors = []; name = None
 pub returns-then-not-has_rising_ids-clause-refused : goal.returns-then-not-has_rising_ids-clause-refused
 returns-then-not-has_rising_ids-clause-refused c =
     let falls : (k : ℕ) × (k + 1 < length (ids_of c.in_ok-sorted.sorted)) × (get_or (ids_of c.in_ok-sorted.sorted) (k + 1) 0 ≤ get_or (ids_of c.in_ok-sorted.sorted) k 0) =
-    OnFalse_at c.if-not-has_rising_ids.true c.has_rising_ids.ensures.falling in
+    OnFalse_at c.if-not-has_rising_ids.true c.has_rising_ids-2.ensures.falling in
     sym (fault_of-permutation c.args.self c.in_ok-sorted.sorted c.in_ok-sorted.ensures.permutation)
     ∙ duplicate_refused c.in_ok-sorted.sorted none (some_duplicate c.in_ok-sorted.sorted none falls.0 c.in_ok-sorted.ensures.rising falls.1 falls.2)
 
-pub resolved-requires-clause-some : goal.resolved-requires-clause-some
-resolved-requires-clause-some c = omega (arith, length_permutation c.args.self c.in_ok-sorted.sorted c.in_ok-sorted.ensures.permutation, c.requires)
+pub resolved-requires-2-clause-some : goal.resolved-requires-2-clause-some
+resolved-requires-2-clause-some c = omega (arith, length_permutation c.args.self c.in_ok-sorted.sorted c.in_ok-sorted.ensures.permutation, c.requires)
 
-pub resolved-requires-clause-rising : goal.resolved-requires-clause-rising
-resolved-requires-clause-rising c = c.has_rising_ids.ensures.rising c.if-not-has_rising_ids.false
+pub resolved-requires-2-clause-rising : goal.resolved-requires-2-clause-rising
+resolved-requires-2-clause-rising c = c.has_rising_ids-2.ensures.rising c.if-not-has_rising_ids.false
 
 pub returns-clause-game : goal.returns-clause-game
-returns-clause-game c = game_of-rearranged c.resolved.result c.args.self c.in_ok-sorted.sorted c.in_ok-sorted.ensures.permutation c.resolved.ensures.game
+returns-clause-game c = game_of-rearranged c.resolved-2.result c.args.self c.in_ok-sorted.sorted c.in_ok-sorted.ensures.permutation c.resolved-2.ensures.game
 
 pub returns-clause-faultless : goal.returns-clause-faultless
-returns-clause-faultless c = faultless-rearranged c.resolved.result c.args.self c.in_ok-sorted.sorted c.in_ok-sorted.ensures.permutation c.resolved.ensures.faultless
+returns-clause-faultless c = faultless-rearranged c.resolved-2.result c.args.self c.in_ok-sorted.sorted c.in_ok-sorted.ensures.permutation c.resolved-2.ensures.faultless
 
 pub returns-clause-refused : goal.returns-clause-refused
-returns-clause-refused c = refused-rearranged c.resolved.result c.args.self c.in_ok-sorted.sorted c.in_ok-sorted.ensures.permutation c.resolved.ensures.refused
+returns-clause-refused c = refused-rearranged c.resolved-2.result c.args.self c.in_ok-sorted.sorted c.in_ok-sorted.ensures.permutation c.resolved-2.ensures.refused

@@ -1,12 +1,8 @@
 use Rattle.std.proofs.Common.{ℕ, length, map, List, get_or, ap, sym, subst, ◌∙◌}
-use Rattle.omega_game.proofs.SortingLemmas.{rises_weakly}
 use Rattle.omega_game.specs.Building.{ids_of}
 use Rattle.std.specs.List.{range_with_len}
 use Rattle.std.specs.List.Sorted.{IsPermutation, IsNonDecreasing}
 use Rattle.omega_game.proofs.builder.GameBuilder.rearranged.Goals as goal
-
-pub returns-then-has_rising_ids-clause-rising : goal.returns-then-has_rising_ids-clause-rising
-returns-then-has_rising_ids-clause-rising c = rises_weakly (ids_of c.args.self) (c.has_rising_ids.ensures.rising c.if-has_rising_ids.true)
 
 pub rearranged_by-requires : goal.rearranged_by-requires
 rearranged_by-requires c = subst (λ (order : List ℕ). IsPermutation (range_with_len 0 (length c.args.self)) order) (sym c.as_slice.ensures.value) c.in_ok-order.ensures.permutation
