@@ -222,9 +222,9 @@ impl GameBuilder {
         })
     }
 
-    /// The game of the specifications. Refused with the first that applies of
-    /// `DuplicateNode`, `UndefinedSuccessor`, `TooManyNodes` and `TooManyEdges`, or with `Memory` where a request for
-    /// memory is refused. Identifiers that rise already are not sorted.
+    /// The game of the specifications. Refused with the first that applies of `DuplicateNode`, `UndefinedSuccessor`,
+    /// `TooManyNodes` and `TooManyEdges`, or with `Memory` where a request for memory is refused. Identifiers that rise
+    /// already are not sorted.
     pub fn finish(self) -> Result<Game, Refusal>
         requires { 0 < length self }
         ensures game { IfOk result (λ game. IsGameOf self game) }
