@@ -1,10 +1,9 @@
-use Rattle.std.proofs.Common.{◌≡◌, ℕ, ◌+◌, ◌-◌, ◌<◌, ◌^◌, Bool, true, false, List, Some, replicate, length, arith, subst, sym, inl, inr}
+use Rattle.std.proofs.Common.{◌≡◌, ℕ, ◌+◌, ◌-◌, ◌<◌, ◌^◌, Bool, true, false, List, Some, replicate, arith, subst, sym}
 use Rattle.std.specs.List.{slice_get}
-use Rattle.std.proofs.lemmas.Bool.{cases_lt}
 use Rattle.std.proofs.lemmas.List.{length-replicate, length-set}
 use Rattle.omega_solve.specs.Schedule.{IsPending, Pending, with_added, with_taken}
 use Rattle.omega_solve.specs.Sweep.{IsSweep}
-use Rattle.omega_solve.proofs.Flags.{added_pending, pending_added, pending_all, waits_all, waits_newly, waits_taken}
+use Rattle.omega_solve.proofs.Flags.{pending_all, waits_all, waits_newly, waits_taken}
 
 -- what a sweep keeps holds at its start
 pub sweep_start : (flags : List Bool) (n : ℕ) → flags ≡ replicate n true → n < 2 ^ 32 → IsSweep (record { flags = flags; taken = 0 }) 0 n
@@ -25,15 +24,12 @@ sweep_taken pending place at count next sweep waiting stands = record {
   stands = stands;
 }
 
--- and after a place is added that was not pending, at it if it is the only one
+-- and after a place is added that was not pending, at a place that is pending then
 pub sweep_added : (pending : Pending) (place at count next : ℕ) → IsSweep pending at count → slice_get pending.flags place ≡ Some false
-    → place < length pending.flags → (count ≡ 0 → next ≡ place) → (0 < count → next ≡ at)
+    → IsPending (with_added pending place) next
     → IsSweep (with_added pending place) next (count + 1)
-sweep_added pending place at count next sweep idle inside first others = record {
+sweep_added pending place at count next sweep idle stands = record {
   small = omega (arith, sweep.small, length-set pending.flags place true);
   counted = omega (arith, sweep.counted, waits_newly pending place idle);
-  stands = λ _. elim (cases_lt 0 count) [
-    | inl some ↦ subst (λ (v : ℕ). IsPending (with_added pending place) v) (sym (others some)) (pending_added pending place at (sweep.stands some))
-    | inr none ↦ subst (λ (v : ℕ). IsPending (with_added pending place) v) (sym (first (omega arith))) (added_pending pending place inside)
-  ];
+  stands = λ _. stands;
 }

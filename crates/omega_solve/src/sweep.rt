@@ -6,13 +6,15 @@ use std::alloc::Global;
 use std::marker::Model;
 
 /// Looks at the pending places in rising order, round and round. A take goes on to the next pending place, in at most
-/// one round; looking is reading it.
+/// one round; looking is reading it. A place that is added ahead comes in this round, one that was passed in the next.
 #[derive(Drop)]
 pub struct Sweep {
     pending: Vec<bool>,
     /// How many places are pending.
     count: u32,
-    /// The place to look at: a pending one, if there is one.
+    /// Where the rest of the round begins: right behind the last place looked at and taken.
+    from: u32,
+    /// The place to look at: the first pending one from there on, round the end, if there is one.
     place: u32,
     taken: u64,
 }
@@ -35,6 +37,7 @@ impl Schedule for Sweep {
         Ok(Sweep {
             pending: vec![in alloc; true; n as usize]?,
             count: n,
+            from: 0,
             place: 0,
             taken: 0,
         })
@@ -52,8 +55,11 @@ impl Schedule for Sweep {
         self.pending[place as usize] = false;
         self.count -= 1;
         self.taken += 1;
-        if place == self.place && self.count > 0 {
-            self.place = next_pending(&self.pending, place);
+        if place == self.place {
+            self.from = place + 1;
+            if self.count > 0 {
+                self.place = next_pending(&self.pending, place);
+            }
         }
     }
 
@@ -67,7 +73,8 @@ impl Schedule for Sweep {
         }
         self.pending[place as usize] = true;
         self.count += 1;
-        if self.count == 1 {
+        // Wrapped differences order the places as the sweep comes to them: those behind it are of the next round.
+        if self.count == 1 || place.wrapping_sub(self.from) < self.place.wrapping_sub(self.from) {
             self.place = place;
         }
     }

@@ -2,4 +2,4 @@ use Rattle.std.proofs.Common.{◌≡◌, length}
 use Rattle.omega_solve.proofs.schedule.tests.follow.Given as goal
 
 abbrev pub invariant-loop-step : goal.invariant-loop-step
-invariant-loop-step g l = length (g.S.Schedule.waiting l.schedule).flags ≡ 4
+invariant-loop-step g l = length (g.S.Schedule.waiting l.schedule).flags ≡ l.places
