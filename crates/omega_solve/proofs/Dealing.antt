@@ -14,24 +14,37 @@ use Rattle.omega_solve.specs.Headline.{DealsOut, Runs}
 use Rattle.omega_solve.proofs.Edges.{edge_leaves}
 use Rattle.omega_solve.proofs.Lifting.{run_more}
 
+-- a run of no lifts
+pub lifts_none : (state : State) (budget : ℕ) → LiftsWithin state budget state
+lifts_none state budget = record { places = []; lifted = refl; counted = omega arith; within = omega arith }
+
 -- a call that ends with no lift due is one of `run`
-pub call_done : (old opened state new : State) (made budget : ℕ) → opened ≡ record old { done = false }
-    → state.nodes ≡ opened.nodes → state.player ≡ opened.player → LiftsWithin opened made state → made ≤ budget
+pub call_done : (old state new : State) (made budget : ℕ)
+    → state.nodes ≡ old.nodes → state.player ≡ old.player → LiftsWithin old made state → made ≤ budget
     → IsFinished state → new ≡ record state { done = true } → Runs old budget new
-call_done old opened state new made budget is_opened same_nodes same_player lifts within finished told =
-    let same_lifts = ap (λ (s : State). s.lifts) is_opened in
+call_done old state new made budget same_nodes same_player lifts within finished told =
     rw told (record {
-      same_nodes = same_nodes ∙ ap (λ (s : State). s.nodes) is_opened;
-      same_player = same_player ∙ ap (λ (s : State). s.player) is_opened;
+      same_nodes = same_nodes;
+      same_player = same_player;
       lifted = record {
         places = lifts.places;
-        lifted = subst (λ (s : State). IsRun s.nodes s.player s.table.measures lifts.places state.table.measures) is_opened lifts.lifted;
-        counted = omega (arith, lifts.counted, same_lifts);
+        lifted = lifts.lifted;
+        counted = lifts.counted;
         within = omega (arith, lifts.within);
       };
       done = λ done. finished;
       spent = λ goes_on. absurd (false≢true (sym goes_on));
     })
+
+-- and so is one of a solver that is done
+pub call_over : (state : State) (budget : ℕ) → state.done ≡ true → IsFinished state → Runs state budget state
+call_over state budget done finished = record {
+  same_nodes = refl;
+  same_player = refl;
+  lifted = lifts_none state budget;
+  done = λ _. finished;
+  spent = λ goes_on. absurd (false≢true (sym goes_on ∙ done));
+}
 
 -- one run behind another
 run_append : (nodes : List Node) (player : Player) (old table new : List Measure) (places more : List ℕ)

@@ -81,7 +81,7 @@ impl<'g, T: MeasureTable, S: Schedule> Solver<'g, T, S> {
         })
     }
 
-    /// Makes lifts until none is due, at most the budget. A later run goes on from there.
+    /// Makes lifts until none is due, at most the budget. A later run goes on from there; one that is done stays so.
     pub fn run(&mut self, budget: u64) -> Outcome
         requires { self.old.lifts + budget ≤ 2 ^ 40 }
         ensures game { self.new.nodes ≡ self.old.nodes }
@@ -94,7 +94,9 @@ impl<'g, T: MeasureTable, S: Schedule> Solver<'g, T, S> {
         // All but the outcome in one: the call of which `headline` speaks.
         ensures call { Runs self.old budget self.new }
     {
-        self.reopen();
+        if self.done {
+            return Outcome::Done;
+        }
         let mut made = 0;
         while let Some(place) = self.next() {
             match self.due_towards(place) {
@@ -163,13 +165,6 @@ impl<'g, T: MeasureTable, S: Schedule> Solver<'g, T, S> {
             won: &self.won,
             choice: &self.choice,
         })
-    }
-
-    /// The solver goes on.
-    fn reopen(&mut self)
-        ensures { self.new ≡ record self.old { done = false } }
-    {
-        self.done = false;
     }
 
     /// A pending place. Where there is none, no lift is due.
