@@ -58,7 +58,8 @@ fn equal_allowances(alloc: Global) -> Result<Game, Refusal> {
 struct Wanted<'a> {
     player: Player,
     bound: u128,
-    lifts: u64,
+    /// None where it depends on the schedule.
+    lifts: Option<u64>,
     most_attempts: u64,
     won: &'a [bool],
     choice: &'a [Option<u32>],
@@ -75,9 +76,10 @@ fn answers<T: MeasureTable, S: Schedule, R: Abort>(
     assert!(rt; solver.answer().is_none());
     assert_eq!(rt; bound(game, wanted.player), Some(wanted.bound));
     assert_eq!(rt; solver.run(MOST_LIFTS), Outcome::Done);
-    assert_eq!(rt; solver.lifts(), wanted.lifts);
-    assert_eq!(rt; solver.room(), MOST_LIFTS.wrapping_sub(wanted.lifts));
-    assert!(rt; solver.attempts() >= wanted.lifts);
+    let lifts = solver.lifts();
+    assert_eq!(rt; lifts, wanted.lifts.unwrap_or(lifts));
+    assert_eq!(rt; solver.room(), MOST_LIFTS.wrapping_sub(lifts));
+    assert!(rt; solver.attempts() >= lifts);
     assert!(rt; solver.attempts() <= wanted.most_attempts);
     match solver.answer() {
         Some(answer) => {
@@ -143,7 +145,7 @@ fn one_even_node(rt: HostRuntime) -> Result<(), Fail> {
     let zero = Wanted {
         player: Player::Zero,
         bound: 1,
-        lifts: 0,
+        lifts: Some(0),
         most_attempts: 2,
         won: &[true],
         choice: &[Some(0)],
@@ -152,7 +154,7 @@ fn one_even_node(rt: HostRuntime) -> Result<(), Fail> {
     let one = Wanted {
         player: Player::One,
         bound: 2,
-        lifts: 2,
+        lifts: Some(2),
         most_attempts: 3,
         won: &[false],
         choice: &[None],
@@ -167,7 +169,7 @@ fn one_odd_node(rt: HostRuntime) -> Result<(), Fail> {
     let zero = Wanted {
         player: Player::Zero,
         bound: 2,
-        lifts: 2,
+        lifts: Some(2),
         most_attempts: 3,
         won: &[false],
         choice: &[None],
@@ -176,7 +178,7 @@ fn one_odd_node(rt: HostRuntime) -> Result<(), Fail> {
     let one = Wanted {
         player: Player::One,
         bound: 1,
-        lifts: 0,
+        lifts: Some(0),
         most_attempts: 2,
         won: &[true],
         choice: &[None],
@@ -191,7 +193,7 @@ fn a_loop_of_both_players(rt: HostRuntime) -> Result<(), Fail> {
     let zero = Wanted {
         player: Player::Zero,
         bound: 4,
-        lifts: 1,
+        lifts: Some(1),
         most_attempts: 6,
         won: &[true, true],
         choice: &[Some(1), None],
@@ -200,7 +202,7 @@ fn a_loop_of_both_players(rt: HostRuntime) -> Result<(), Fail> {
     let one = Wanted {
         player: Player::One,
         bound: 4,
-        lifts: 4,
+        lifts: Some(4),
         most_attempts: 6,
         won: &[false, false],
         choice: &[None, None],
@@ -215,12 +217,21 @@ fn the_better_successor_is_chosen(rt: HostRuntime) -> Result<(), Fail> {
     let zero = Wanted {
         player: Player::Zero,
         bound: 6,
-        lifts: 1,
+        lifts: Some(1),
         most_attempts: 11,
         won: &[true, true, true],
         choice: &[Some(2), None, None],
     };
     each_answers(&rt, rt.alloc(), &game, &zero)?;
+    let one = Wanted {
+        player: Player::One,
+        bound: 12,
+        lifts: None,
+        most_attempts: 19,
+        won: &[false, false, false],
+        choice: &[None, None, None],
+    };
+    each_answers(&rt, rt.alloc(), &game, &one)?;
     Ok(())
 }
 
@@ -231,12 +242,21 @@ fn a_measure_carries(rt: HostRuntime) -> Result<(), Fail> {
     let zero = Wanted {
         player: Player::Zero,
         bound: 12,
-        lifts: 4,
+        lifts: Some(4),
         most_attempts: 19,
         won: &[true, true, true],
         choice: &[Some(1), Some(2), Some(2)],
     };
     each_answers(&rt, rt.alloc(), &game, &zero)?;
+    let one = Wanted {
+        player: Player::One,
+        bound: 6,
+        lifts: None,
+        most_attempts: 11,
+        won: &[false, false, false],
+        choice: &[None, None, None],
+    };
+    each_answers(&rt, rt.alloc(), &game, &one)?;
     Ok(())
 }
 
@@ -246,12 +266,21 @@ fn the_first_of_equal_allowances_is_chosen(rt: HostRuntime) -> Result<(), Fail> 
     let zero = Wanted {
         player: Player::Zero,
         bound: 6,
-        lifts: 1,
+        lifts: Some(1),
         most_attempts: 11,
         won: &[true, true, true],
         choice: &[Some(1), Some(0), None],
     };
     each_answers(&rt, rt.alloc(), &game, &zero)?;
+    let one = Wanted {
+        player: Player::One,
+        bound: 9,
+        lifts: None,
+        most_attempts: 15,
+        won: &[false, false, false],
+        choice: &[None, None, None],
+    };
+    each_answers(&rt, rt.alloc(), &game, &one)?;
     Ok(())
 }
 
@@ -286,5 +315,27 @@ fn a_run_goes_on(rt: HostRuntime) -> Result<(), Fail> {
         (0, Outcome::Done, 4),
     ];
     each_runs(&rt, rt.alloc(), &game, Player::One, &ones)?;
+    Ok(())
+}
+
+#[test]
+fn budgets_of_one_lift_each(rt: HostRuntime) -> Result<(), Fail> {
+    let chosen = three_nodes(rt.alloc())?;
+    let once = [
+        (0, Outcome::Spent, 0),
+        (1, Outcome::Done, 1),
+        (1, Outcome::Done, 1),
+        (0, Outcome::Done, 1),
+    ];
+    each_runs(&rt, rt.alloc(), &chosen, Player::Zero, &once)?;
+    let game = carrying(rt.alloc())?;
+    let ones = [
+        (1, Outcome::Spent, 1),
+        (1, Outcome::Spent, 2),
+        (1, Outcome::Spent, 3),
+        (1, Outcome::Done, 4),
+        (1, Outcome::Done, 4),
+    ];
+    each_runs(&rt, rt.alloc(), &game, Player::Zero, &ones)?;
     Ok(())
 }
