@@ -12,7 +12,7 @@ pub trait Schedule: Drop {
     /// Which places are pending and how many takes were made, however they are kept.
     ghost waiting: { Self → Pending };
 
-    /// A schedule of the places below `n`, all pending. 60 alone.
+    /// A schedule of the places below `n`, all pending. Refused `Refusal::Memory` alone.
     fn prepare(alloc: Global, n: u32) -> Result<Self, Refusal>
     where
         Self: Sized,

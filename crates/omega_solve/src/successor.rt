@@ -65,6 +65,7 @@ pub(crate) fn choice_at<T: MeasureTable>(
     Some(best_successor(game, table, place, Ordering::Less))
 }
 
+/// Whether the player owns the place.
 fn owns(game: &Game, player: Player, place: u32) -> bool
     requires { place < length game.now }
     ensures { IsTrue result ↔ (owner_at game.now place ≡ player) }
@@ -89,6 +90,7 @@ fn exceeds_to_all<T: MeasureTable>(game: &Game, table: &T, place: u32) -> bool
 
 /// The first successor of a place to whose measure no other's compares as wanted, on the entries for priorities at
 /// least that of the place.
+// Inlined, so that the order asked for is known where words are compared.
 #[inline(always)]
 fn best_successor<T: MeasureTable>(game: &Game, table: &T, place: u32, wanted: Ordering) -> u32
     requires inside { place < length game.now }
