@@ -12,7 +12,8 @@ use std::alloc::Global;
 
 /// The text of a solution of the game. 60 alone.
 ///
-/// It is read back to the same solution, by the law `written_solutions_are_read`. The cost is linear in the nodes.
+/// If it has at most 16,777,216 bytes, it is read back to the same solution, by the law `written_solutions_are_read`.
+/// The cost is linear in the nodes.
 pub fn write_solution(alloc: Global, game: &Game, solution: &Solution) -> Result<Vec<u8>, Refusal>
     requires { IsSolution game.now solution.now }
     ensures text { IfOk result (λ text. text.items ≡ solution_text game.now solution.now) }

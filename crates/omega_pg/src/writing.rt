@@ -10,7 +10,8 @@ use std::alloc::Global;
 
 /// The canonical text of a game. 60 alone.
 ///
-/// It is read back to the same game, by the law `canonical_texts_are_read`. The cost is linear in the text.
+/// If it has at most 16,777,216 bytes, it is read back to the same game, by the law `canonical_texts_are_read`. The
+/// cost is linear in the text.
 pub fn write_game(alloc: Global, game: &Game) -> Result<Vec<u8>, Refusal>
     ensures text { IfOk result (λ text. text.items ≡ canonical game.now) }
     ensures memory { IsOkUnless result Refusal.Memory }
