@@ -13,10 +13,10 @@ use Rattle.omega_game.specs.Building.{IsGameOf, has_duplicate, has_undefined}
 use Rattle.omega_game.specs.Game.{IsWithinLimits, Node}
 use Rattle.omega_game.specs.declared.node_spec.NodeSpec.{NodeSpec}
 use Rattle.omega_pg.specs.Automaton.{IsReached, State}
-use Rattle.omega_pg.specs.Building.{IsBuiltRefusal, fault_with}
+use Rattle.omega_pg.specs.Building.{IsBuiltRefusal}
 use Rattle.omega_pg.specs.Grammar.{SpellsGame}
 use Rattle.omega_pg.specs.Reading.{IsRead}
-use Rattle.omega_pg.specs.Refusing.{IsReadRefusal, is_header_small}
+use Rattle.omega_pg.specs.Refusing.{IsReadRefusal, fault_with, is_header_small}
 use Rattle.omega_pg.specs.Symbols.{symbols_of}
 use Rattle.omega_pg.specs.Syntax.{Writes}
 use Rattle.omega_pg.specs.Text.{Covers, IsGameText}

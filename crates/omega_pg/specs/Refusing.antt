@@ -17,15 +17,19 @@ abbrev pub is_header_small : Option ℕ → List NodeSpec → Bool
 is_header_small None specs = false
 is_header_small (Some number) specs = list_any (λ spec. nat_lt number spec.id) specs
 
--- the fault of what is written: of those that apply the one with the least number, or none
-abbrev pub fault_in : RawGame → Option GameFault
-fault_in raw =
-    if has_duplicate raw.specs then Some DuplicateNode else
-    if has_undefined raw.specs then Some UndefinedSuccessor else
-    if is_header_small raw.header raw.specs then Some HeaderTooSmall else
-    if nat_lt MOST_NODES (length raw.specs) then Some TooManyNodes else
-    if nat_lt MOST_EDGES (listed_successors raw.specs) then Some TooManyEdges else
+-- the fault of specifications behind a header that is too small or not: of those that apply the one with the least number, or none
+abbrev pub fault_with : Bool → List NodeSpec → Option GameFault
+fault_with small specs =
+    if has_duplicate specs then Some DuplicateNode else
+    if has_undefined specs then Some UndefinedSuccessor else
+    if small then Some HeaderTooSmall else
+    if nat_lt MOST_NODES (length specs) then Some TooManyNodes else
+    if nat_lt MOST_EDGES (listed_successors specs) then Some TooManyEdges else
     None
+
+-- the fault of what is written, or none
+abbrev pub fault_in : RawGame → Option GameFault
+fault_in raw = fault_with (is_header_small raw.header raw.specs) raw.specs
 
 -- the bytes are a text of the grammar, and what is written makes no game
 pub record IsGameFault (source : List ℕ) (fault : GameFault) : Type 0 where

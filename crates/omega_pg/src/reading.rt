@@ -1,8 +1,8 @@
 ghost use Rattle.std.specs.Prelude.{◌≡◌, ◌<◌, length, None, IfOk, IfErr};
 ghost use Rattle.omega_game.specs.Building.{IsGameOf};
 ghost use Rattle.omega_game.specs.Game.{IsWithinLimits};
-ghost use Rattle.omega_pg.specs.Building.{IsBuiltRefusal, fault_with};
-ghost use Rattle.omega_pg.specs.Refusing.{IsReadRefusal};
+ghost use Rattle.omega_pg.specs.Building.{IsBuiltRefusal};
+ghost use Rattle.omega_pg.specs.Refusing.{IsReadRefusal, fault_with};
 ghost use Rattle.omega_pg.specs.Text.{IsGameText};
 
 use crate::reader::Reader;
