@@ -104,7 +104,7 @@ number_shown Ended greatest lines symbols n shows = ap (λ list. list ++ number 
 number_shown (Identifier id) greatest lines symbols n shows =
     elim (player_of n)
     as (λ o. IfSome o (λ winner. player_number winner ≡ n)
-    → IfSome (option_map (λ winner. to_stage (Winner id winner) (at (Identifier id) greatest lines)) o) (λ next. IsShown next (symbols ++ number n ∷ []))) [
+    → IfSome (option_map (λ next. to_stage next (at (Identifier id) greatest lines)) (option_map (λ winner. Winner id winner) o)) (λ next. IsShown next (symbols ++ number n ∷ []))) [
       | None ↦ λ e. tt
       | Some winner ↦ λ e. ap (λ list. list ++ number n ∷ []) shows ∙ append_assoc (spelled greatest lines) (number id ∷ []) (number n ∷ [])
           ∙ ap (λ m. spelled greatest lines ++ number id ∷ number m ∷ []) (sym e)

@@ -1,10 +1,9 @@
 -- One token more of a solution text.
-use Rattle.std.proofs.Common.{◌≡◌, ℕ, Bool, true, false, Option, Some, None, Result, Ok, Err, IfOk, List, [], ◌∷◌, ◌++◌, refl, ap, sym, ◌∙◌, subst}
+use Rattle.std.proofs.Common.{◌≡◌, ℕ, Bool, true, false, Option, Some, Result, Ok, Err, IfOk, List, [], ◌∷◌, ◌++◌, refl, ap, sym, ◌∙◌, subst}
 use Rattle.std.specs.Prelude.{option_map}
 use Rattle.omega_text.specs.declared.refusal.Refusal.{Refusal}
 use Rattle.omega_game.specs.Game.{Node}
 use Rattle.omega_game.specs.declared.player.Player.{Player}
-use Rattle.omega_pg.specs.Automaton.{player_of}
 use Rattle.omega_pg.specs.Solution.{Line}
 use Rattle.omega_pg.specs.SolutionAutomaton.{SolutionState, initial, after_number, after_semicolon, after_word, stage_after_number, stage_after_word, step, to_stage, with_line}
 use Rattle.omega_pg.specs.SolutionLines.{AreJudged}
@@ -17,30 +16,10 @@ use Rattle.omega_pg.specs.SolutionReader.{HasBecome}
 use Rattle.omega_pg.specs.declared.solution_lines.SolutionLines.{SolutionLines}
 use Rattle.omega_pg.specs.declared.solution_reader.SolutionReader.{SolutionReader}
 use Rattle.omega_pg.specs.declared.solution_stage.SolutionStage.{SolutionStage}
-use Rattle.omega_pg.specs.declared.solution_stage.SolutionStage.TheVariants.{Chosen, Ended, Identifier, Number, Start, Winner, Word}
+use Rattle.omega_pg.specs.declared.solution_stage.SolutionStage.TheVariants.{Ended, Number}
 use Rattle.omega_pg.proofs.Deciding.{refused_from_run}
 use Rattle.omega_pg.proofs.Runs.{run_by_push}
 use Rattle.omega_pg.proofs.SolutionGrammar.{decides_solutions}
-
--- a number changes the stage alone
-after_number-stage : (stage : SolutionStage) (state : SolutionState) (n : ℕ)
-    → after_number stage state n ≡ option_map (λ next. to_stage next state) (stage_after_number stage n)
-after_number-stage Start state n = refl
-after_number-stage Word state n = refl
-after_number-stage (Number greatest) state n = refl
-after_number-stage Ended state n = refl
-after_number-stage (Identifier id) state n =
-    elim (player_of n)
-    as (λ o. option_map (λ winner. to_stage (Winner id winner) state) o ≡ option_map (λ next. to_stage next state) (option_map (λ winner. Winner id winner) o))
-    [ None ↦ refl | Some winner ↦ refl ]
-after_number-stage (Winner id winner) state n = refl
-after_number-stage (Chosen id winner successor) state n = refl
-
--- so does the word
-after_word-stage : (stage : SolutionStage) (state : SolutionState)
-    → after_word stage state ≡ option_map (λ next. to_stage next state) (stage_after_word stage)
-after_word-stage Start state = refl
-after_word-stage _ state = refl
 
 -- a call that goes on by the stage keeps the next state
 went_on : (nodes : List Node) (state : SolutionState) (taken : Bool) (next : Option SolutionStage) (stage stage' : SolutionStage) (greatest greatest' : ℕ) (lines lines' : SolutionLines)
@@ -61,16 +40,16 @@ pub number_goes : (nodes : List Node) (state : SolutionState) (taken : Bool) (n 
     → next ≡ stage_after_number stage n → GoesOn taken next stage greatest lines stage' greatest' lines' → Keeps nodes state stage greatest lines
     → KeepsNext taken nodes (after_number state.stage state n) stage' greatest' lines'
 number_goes nodes state taken n next stage stage' greatest greatest' lines lines' e goes keeps =
-    subst (λ o. KeepsNext taken nodes o stage' greatest' lines')
-    (ap (option_map (λ next. to_stage next state)) (e ∙ ap (λ s. stage_after_number s n) keeps.same_stage) ∙ sym (after_number-stage state.stage state n))
+    subst (λ stage. KeepsNext taken nodes (option_map (λ next. to_stage next state) stage) stage' greatest' lines')
+    (e ∙ ap (λ s. stage_after_number s n) keeps.same_stage)
     (went_on nodes state taken next stage stage' greatest greatest' lines lines' goes keeps)
 
 pub word_goes : (nodes : List Node) (state : SolutionState) (taken : Bool) (next : Option SolutionStage) (stage stage' : SolutionStage) (greatest greatest' : ℕ) (lines lines' : SolutionLines)
     → next ≡ stage_after_word stage → GoesOn taken next stage greatest lines stage' greatest' lines' → Keeps nodes state stage greatest lines
     → KeepsNext taken nodes (after_word state.stage state) stage' greatest' lines'
 word_goes nodes state taken next stage stage' greatest greatest' lines lines' e goes keeps =
-    subst (λ o. KeepsNext taken nodes o stage' greatest' lines')
-    (ap (option_map (λ next. to_stage next state)) (e ∙ ap stage_after_word keeps.same_stage) ∙ sym (after_word-stage state.stage state))
+    subst (λ stage. KeepsNext taken nodes (option_map (λ next. to_stage next state) stage) stage' greatest' lines')
+    (e ∙ ap stage_after_word keeps.same_stage)
     (went_on nodes state taken next stage stage' greatest greatest' lines lines' goes keeps)
 
 -- the header ends

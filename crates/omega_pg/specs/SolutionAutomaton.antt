@@ -30,20 +30,28 @@ with_line id winner successor state = record {
   lines = state.lines ++ record { identifier = id; winner = winner; successor = successor } ∷ [];
 }
 
+-- where a number leads
+abbrev pub stage_after_number : SolutionStage → ℕ → Option SolutionStage
+stage_after_number Start n = None
+stage_after_number Word n = Some (Number n)
+stage_after_number (Number greatest) n = None
+stage_after_number Ended n = Some (Identifier n)
+stage_after_number (Identifier id) n = option_map (λ winner. Winner id winner) (player_of n)
+stage_after_number (Winner id winner) n = Some (Chosen id winner n)
+stage_after_number (Chosen id winner successor) n = None
+
+-- where the word `paritysol` leads
+abbrev pub stage_after_word : SolutionStage → Option SolutionStage
+stage_after_word Start = Some Word
+stage_after_word _ = None
+
 -- what a number makes of the state
 abbrev pub after_number : SolutionStage → SolutionState → ℕ → Option SolutionState
-after_number Start state n = None
-after_number Word state n = Some (to_stage (Number n) state)
-after_number (Number greatest) state n = None
-after_number Ended state n = Some (to_stage (Identifier n) state)
-after_number (Identifier id) state n = option_map (λ winner. to_stage (Winner id winner) state) (player_of n)
-after_number (Winner id winner) state n = Some (to_stage (Chosen id winner n) state)
-after_number (Chosen id winner successor) state n = None
+after_number stage state n = option_map (λ next. to_stage next state) (stage_after_number stage n)
 
 -- what the word `paritysol` makes of the state
 abbrev pub after_word : SolutionStage → SolutionState → Option SolutionState
-after_word Start state = Some (to_stage Word state)
-after_word _ state = None
+after_word stage state = option_map (λ next. to_stage next state) (stage_after_word stage)
 
 -- what a semicolon makes of the state
 abbrev pub after_semicolon : SolutionStage → SolutionState → Option SolutionState
@@ -64,18 +72,3 @@ step state (name bytes) = None
 -- what symbols make of the state
 abbrev pub run : SolutionState → List Symbol → Option SolutionState
 run = run_by step
-
--- where a number leads
-abbrev pub stage_after_number : SolutionStage → ℕ → Option SolutionStage
-stage_after_number Start n = None
-stage_after_number Word n = Some (Number n)
-stage_after_number (Number greatest) n = None
-stage_after_number Ended n = Some (Identifier n)
-stage_after_number (Identifier id) n = option_map (λ winner. Winner id winner) (player_of n)
-stage_after_number (Winner id winner) n = Some (Chosen id winner n)
-stage_after_number (Chosen id winner successor) n = None
-
--- where the word `paritysol` leads
-abbrev pub stage_after_word : SolutionStage → Option SolutionStage
-stage_after_word Start = Some Word
-stage_after_word _ = None
