@@ -40,7 +40,7 @@ refused_early source state short read open_stage =
 
 -- the refusal of what was kept is the text's
 pub refused_built : (source : List ℕ) (state : State) (refusal : Refusal) → length source ≤ MOST_TEXT → IsRead (λ symbols. IsReached symbols state) source → state.stage ≡ Ended
-    → IsBuiltRefusal state.small state.specs refusal → IsReadRefusal source refusal
+    → IsBuiltRefusal state.header_too_small state.specs refusal → IsReadRefusal source refusal
 refused_built source state (Text fault) short read ended refused = absurd refused
 refused_built source state (Game fault) short read ended refused = inr (record {
   short = short;
@@ -71,25 +71,25 @@ Covers-from_test (Some n) (spec ∷ specs) e =
 
 -- the game of what was kept is the text's
 pub IsGameText-built : (source : List ℕ) (state : State) (game : List Node) → length source ≤ MOST_TEXT → IsRead (λ symbols. IsReached symbols state) source → state.stage ≡ Ended
-    → IsGameOf state.specs game → IsWithinLimits game → fault_with state.small state.specs ≡ None → IsGameText source game
+    → IsGameOf state.specs game → IsWithinLimits game → fault_with state.header_too_small state.specs ≡ None → IsGameText source game
 IsGameText-built source state game short read ended rearranged limits faultless = record {
   short = short;
   raw = raw_of state;
   writes = writes_kept source state read ended;
   rearranged = rearranged;
   covers = Covers-from_test state.header state.specs
-      (sym (small_from_run (symbols_of read.lexemes) state read.all_taken.0) ∙ third_failed (has_duplicate state.specs) (has_undefined state.specs) state.small _ _ _ _ faultless);
+      (sym (small_from_run (symbols_of read.lexemes) state read.all_taken.0) ∙ third_failed (has_duplicate state.specs) (has_undefined state.specs) state.header_too_small _ _ _ _ faultless);
   limits = limits;
 }
 
 -- the two, of what a call gave
 pub refused_built_all : (source : List ℕ) (state : State) (result : Result (List Node) Refusal) → length source ≤ MOST_TEXT → IsRead (λ symbols. IsReached symbols state) source
-    → state.stage ≡ Ended → IfErr result (IsBuiltRefusal state.small state.specs) → IfErr result (IsReadRefusal source)
+    → state.stage ≡ Ended → IfErr result (IsBuiltRefusal state.header_too_small state.specs) → IfErr result (IsReadRefusal source)
 refused_built_all source state (Ok game) short read ended refused = tt
 refused_built_all source state (Err refusal) short read ended refused = refused_built source state refusal short read ended refused
 
 pub IsGameText-built_all : (source : List ℕ) (state : State) (result : Result (List Node) Refusal) → length source ≤ MOST_TEXT → IsRead (λ symbols. IsReached symbols state) source
-    → state.stage ≡ Ended → IfOk result (IsGameOf state.specs) → IfOk result IsWithinLimits → IfOk result (λ _. fault_with state.small state.specs ≡ None)
+    → state.stage ≡ Ended → IfOk result (IsGameOf state.specs) → IfOk result IsWithinLimits → IfOk result (λ _. fault_with state.header_too_small state.specs ≡ None)
     → IfOk result (IsGameText source)
 IsGameText-built_all source state (Ok game) short read ended rearranged limits faultless =
     IsGameText-built source state game short read ended rearranged limits faultless

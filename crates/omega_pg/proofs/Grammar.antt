@@ -38,7 +38,7 @@ SpellsGame-from_run symbols state e ended =
     }
 
 -- what it knows of the header
-pub small_from_run : (symbols : List Symbol) (state : State) → run initial symbols ≡ Some state → state.small ≡ is_header_small state.header state.specs
+pub small_from_run : (symbols : List Symbol) (state : State) → run initial symbols ≡ Some state → state.header_too_small ≡ is_header_small state.header state.specs
 small_from_run symbols state e = (shown_by_run symbols state e).small
 
 -- what completes a text from a stage
@@ -89,7 +89,7 @@ pub decides_games : Decides SpellsGame step initial IsEnded raw_of
 decides_games = record {
   reads = reads;
   text = SpellsGame-from_run;
-  completes = λ state. completes state.stage state.header state.specs state.small;
+  completes = λ state. completes state.stage state.header state.specs state.header_too_small;
   ends = λ state. ended_or_open state.stage;
 }
 

@@ -72,7 +72,7 @@ ShowsAt Named header specs symbols = IsOpen header specs (λ spec. front spec ++
 -- the symbols lead to the state
 pub record Shows (state : State) (symbols : List Symbol) : Type 0 where
   pub there : ShowsAt state.stage state.header state.specs symbols
-  pub small : state.small ≡ is_header_small state.header state.specs
+  pub small : state.header_too_small ≡ is_header_small state.header state.specs
 
 -- one specification more is below the header's number if it or one of the others is
 is_header_small-push : (header : Option ℕ) (specs : List NodeSpec) (spec : NodeSpec)
@@ -308,9 +308,9 @@ name_shown _ header specs small symbols bytes shows = tt
 -- what a symbol leads to is shown
 pub step_shown : (state : State) (symbols : List Symbol) (symbol : Symbol) → Shows state symbols
     → IfSome (step state symbol) (λ next. Shows next (symbols ++ symbol ∷ []))
-step_shown state symbols (number n) shows = number_shown state.stage state.header state.specs state.small symbols n shows
-step_shown state symbols parity shows = word_shown state.stage state.header state.specs state.small symbols shows
+step_shown state symbols (number n) shows = number_shown state.stage state.header state.specs state.header_too_small symbols n shows
+step_shown state symbols parity shows = word_shown state.stage state.header state.specs state.header_too_small symbols shows
 step_shown state symbols paritysol shows = tt
-step_shown state symbols semicolon shows = semicolon_shown state.stage state.header state.specs state.small symbols shows
-step_shown state symbols comma shows = comma_shown state.stage state.header state.specs state.small symbols shows
-step_shown state symbols (name bytes) shows = name_shown state.stage state.header state.specs state.small symbols bytes shows
+step_shown state symbols semicolon shows = semicolon_shown state.stage state.header state.specs state.header_too_small symbols shows
+step_shown state symbols comma shows = comma_shown state.stage state.header state.specs state.header_too_small symbols shows
+step_shown state symbols (name bytes) shows = name_shown state.stage state.header state.specs state.header_too_small symbols bytes shows

@@ -15,7 +15,7 @@ use Rattle.omega_pg.proofs.Changes.{with_last_push}
 
 -- a state with these parts
 abbrev pub at : Stage → Option ℕ → List NodeSpec → Bool → State
-at stage header specs small = record { stage = stage; header = header; specs = specs; small = small }
+at stage header specs small = record { stage = stage; header = header; specs = specs; header_too_small = small }
 
 -- further successors are added to the last specification
 run_successors : (header : Option ℕ) (small : Bool) (specs : List NodeSpec) (spec : NodeSpec) (others : List ℕ) (rest : List Symbol)

@@ -15,11 +15,11 @@ pub record State : Type 0 where
   pub stage : Stage
   pub header : Option ℕ
   pub specs : List NodeSpec
-  pub small : Bool
+  pub header_too_small : Bool
 
 -- nothing was read
 abbrev pub initial : State
-initial = record { stage = Start; header = None; specs = []; small = false }
+initial = record { stage = Start; header = None; specs = []; header_too_small = false }
 
 -- the state at another stage
 abbrev pub to_stage : Stage → State → State
@@ -40,7 +40,12 @@ begun id priority owner first = record { id = id; priority = priority; owner = o
 
 -- the state with one specification more
 abbrev pub with_node : NodeSpec → State → State
-with_node spec state = record { stage = Listed; header = state.header; specs = state.specs ++ spec ∷ []; small = state.small || is_above state.header spec.id }
+with_node spec state = record {
+  stage = Listed;
+  header = state.header;
+  specs = state.specs ++ spec ∷ [];
+  header_too_small = state.header_too_small || is_above state.header spec.id;
+}
 
 -- the state with the last specification changed
 abbrev pub with_change : Stage → (NodeSpec → NodeSpec) → State → State

@@ -18,7 +18,7 @@ pub(crate) struct Reader {
     /// The specifications, of which the last is open where the stage says so.
     pub(crate) builder: GameBuilder,
     /// Whether an identifier is above the header's number.
-    pub(crate) small: bool,
+    pub(crate) header_too_small: bool,
 }
 
 impl Reader {
@@ -33,7 +33,7 @@ impl Reader {
             stage: Stage::Start,
             header: None,
             builder: GameBuilder::new(alloc),
-            small: false,
+            header_too_small: false,
         }
     }
 
@@ -76,7 +76,8 @@ impl Reader {
                 owner,
             } => {
                 self.builder.add_node(id, priority, owner, number)?;
-                self.small = self.small || self.header.is_some_and(|header| header < id);
+                self.header_too_small = self.header_too_small
+                    || self.header.is_some_and(|header| header < id);
                 self.stage = Stage::Listed;
             }
             Stage::Comma => {

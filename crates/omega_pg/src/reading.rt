@@ -30,29 +30,30 @@ pub fn read_game(alloc: Global, bytes: &[u8]) -> Result<Game, Refusal>
     let Reader {
         stage,
         builder,
-        small,
+        header_too_small,
         ..
     } = read_tokens(Reader::new(alloc), bytes)?;
     match stage {
-        Stage::Ended => built(builder, small),
+        Stage::Ended => built(builder, header_too_small),
         _ => Err(Refusal::Text(TextFault::Syntax { at: bytes.len() })),
     }
 }
 
-/// The game of specifications, of which one is above the number of the header if `small` says so.
-fn built(builder: GameBuilder, small: bool) -> Result<Game, Refusal>
+/// The game of specifications, of which one is above the number of the header if that is `too_small`.
+fn built(builder: GameBuilder, too_small: bool) -> Result<Game, Refusal>
     requires { 0 < length builder }
     ensures game { IfOk result (IsGameOf builder) }
     ensures limits { IfOk result IsWithinLimits }
-    ensures faultless { IfOk result (λ _. fault_with small builder ≡ None) }
-    ensures refused { IfErr result (IsBuiltRefusal small builder) }
+    ensures faultless { IfOk result (λ _. fault_with too_small builder ≡ None) }
+    ensures refused { IfErr result (IsBuiltRefusal too_small builder) }
 {
     match builder.finish() {
-        Err(Refusal::Game(GameFault::TooManyNodes | GameFault::TooManyEdges)) if small => {
+        Err(Refusal::Game(GameFault::TooManyNodes | GameFault::TooManyEdges)) if too_small => {
             Err(Refusal::Game(GameFault::HeaderTooSmall))
         }
-        Ok(_game) if small => Err(Refusal::Game(GameFault::HeaderTooSmall)),
+        Ok(_game) if too_small => Err(Refusal::Game(GameFault::HeaderTooSmall)),
         Ok(game) => {
+            // For the proof alone: the contract of `len` hands out the limits, which every game keeps.
             let _ = game.len();
             Ok(game)
         }
