@@ -52,11 +52,6 @@ fn built(builder: GameBuilder, too_small: bool) -> Result<Game, Refusal>
             Err(Refusal::Game(GameFault::HeaderTooSmall))
         }
         Ok(_game) if too_small => Err(Refusal::Game(GameFault::HeaderTooSmall)),
-        Ok(game) => {
-            // For the proof alone: the contract of `len` hands out the limits, which every game keeps.
-            let _ = game.len();
-            Ok(game)
-        }
-        refused => refused,
+        other => other,
     }
 }
