@@ -195,3 +195,12 @@ fn reads_the_file_of_the_game(rt: HostRuntime) {
     let empty = read_file(&rt, "/dev/null").is_ok_and(|bytes| bytes.is_empty());
     assert!(rt; empty);
 }
+
+/// A file without an end is read up to the first byte past the greatest length of a text, and each byte is the file's.
+#[test]
+fn stops_in_a_file_without_an_end(rt: HostRuntime) -> Result<(), Fail> {
+    let bytes = read_file(&rt, "/dev/zero")?;
+    assert_eq!(rt; bytes.len(), 16_777_217);
+    assert!(rt; bytes.as_slice().iter().all(|byte| *byte == 0));
+    Ok(())
+}
