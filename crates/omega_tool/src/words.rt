@@ -79,7 +79,11 @@ fn line_of(found: &ArgMatches<'_>) -> Result<Line, &'static str>
     if name == "canon" {
         return Ok(Line::Run(Command::Canon(Format::Pg), MOST_LIFTS));
     }
-    solve_line(options)
+    if name == "solve" {
+        return solve_line(options);
+    }
+    // `verify` is taken before, and `clap` has refused every other name.
+    Err("the subcommand is not known")
 }
 
 fn solve_line(options: &ArgMatches<'_>) -> Result<Line, &'static str>
@@ -99,7 +103,7 @@ fn solve_line(options: &ArgMatches<'_>) -> Result<Line, &'static str>
     Ok(Line::Run(command, budget))
 }
 
-/// The player with a number.
+/// The player with a number. The option's range lets only 0 and 1 through, so that any number but 0 is 1.
 fn player_of(number: u64) -> Player {
     if number == 0 {
         Player::Zero
