@@ -2,10 +2,12 @@ use crate::tests::omega;
 use std::test::Fail;
 
 /// Command lines that are at fault, and what the text says of each.
-static FAULTS: [(&str, &str); 32] = [
+static FAULTS: [(&str, &str); 35] = [
     ("", "requires a subcommand"),
     ("frobnicate", "unrecognized subcommand 'frobnicate'"),
     ("help", "unrecognized subcommand 'help'"),
+    ("empty", "unrecognized subcommand 'empty'"),
+    ("game", "unrecognized subcommand 'game'"),
     ("--version", "unexpected argument '--version'"),
     ("-V", "unexpected argument '-V'"),
     ("show", "--format <FORMAT>"),
@@ -18,6 +20,10 @@ static FAULTS: [(&str, &str); 32] = [
     (
         "show --format xyz",
         "invalid value 'xyz' for '--format <FORMAT>'",
+    ),
+    (
+        "check --format hoa",
+        "invalid value 'hoa' for '--format <FORMAT>'",
     ),
     (
         "show --format pg --format pg",
