@@ -1,4 +1,4 @@
-//! What both formats stand on: refusals, tokens with their places, a cursor over tokens, and decimal text.
+//! What game texts stand on: refusals, tokens with their places, a cursor over tokens, and decimal text.
 #![tactic(auto)]
 
 mod bytes;

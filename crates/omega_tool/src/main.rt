@@ -1,4 +1,4 @@
-//! The program `omega`: reads, checks, writes and solves parity games and omega-automata.
+//! The program `omega`: reads, checks, writes and solves parity games, and verifies their solutions.
 #![tactic(auto)]
 
 ghost use Rattle.std.specs.Prelude.{◌≤◌, ◌^◌};
