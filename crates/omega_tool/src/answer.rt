@@ -23,6 +23,7 @@ pub fn write_answer(
     ensures text { IfOk result (λ text. text.items ≡ answer_text player lifts game.now (places_from 0 won.now) choices.now) }
     ensures memory { IsOkUnless result Memory }
 {
+    // Called for what its contract says: the nodes are a game's, within the limits.
     let _nodes = game.len();
     let mut out = Vec::new(alloc);
     append_lifts(player, lifts, &mut out)?;

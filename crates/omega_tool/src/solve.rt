@@ -46,6 +46,7 @@ fn solve_part<T: MeasureTable, S: Schedule>(
     ensures refused { IfErr result (IsGameRefusal game asked (Some identifier) budget) }
 {
     regions_of_parts();
+    // Called for what its contract says: the nodes are a game's, within the limits.
     let _nodes = game.len();
     let place = match game.place_of(identifier) {
         Some(place) => place,

@@ -66,6 +66,7 @@ fn wins_given(
     ensures wins { IfOk result (λ answer. IsTrue answer ↔ WinsGiven game.now solution.now player) }
     ensures memory { IsOkUnless result Memory }
 {
+    // Called for what its contract says: the nodes are a game's, within the limits.
     let _nodes = game.len();
     let places = given_to(alloc, player, solution.winners.as_slice())?;
     let strategy = strategy_of(solution, player);

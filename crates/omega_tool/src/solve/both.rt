@@ -36,6 +36,7 @@ fn solution_of<T: MeasureTable, S: Schedule>(
 {
     regions_are_apart();
     regions_cover();
+    // Called for what its contract says: the nodes are a game's, within the limits.
     let _nodes = game.len();
     let for_zero: Solver<'_, T, S> = Solver::prepare(alloc, game, Player::Zero)?;
     let for_one: Solver<'_, T, S> = Solver::prepare(alloc, game, Player::One)?;

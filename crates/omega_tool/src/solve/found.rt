@@ -32,6 +32,7 @@ impl Found {
         runs_keep_tables();
         zero_tables_are_tables();
         let outcome = solver.run(budget);
+        // Called for what its contract says: the table was reached by these lifts, and their bound holds.
         let _lifts = solver.lifts();
         match outcome {
             Outcome::Spent => Err(Refusal::Task(TaskFault::Budget)),
