@@ -10,8 +10,6 @@ mod check;
 mod command;
 mod exit;
 mod game_file;
-#[cfg(test)]
-mod game_tests;
 mod game_text;
 mod input;
 mod line;
@@ -21,18 +19,10 @@ mod reading;
 mod refusal_line;
 mod run;
 mod show;
-#[cfg(test)]
-mod solution_tests;
 mod solve;
 #[cfg(test)]
 mod tests;
-#[cfg(test)]
-mod transfer_tests;
 mod verify;
-#[cfg(test)]
-mod verify_tests;
-#[cfg(test)]
-mod word_tests;
 mod words;
 mod writing;
 

@@ -2,6 +2,12 @@
 ghost use Rattle.std.specs.Prelude.{◌≤◌, ◌^◌};
 ghost use Rattle.omega_tool.specs.Line.{IsOffered};
 
+mod games;
+mod solutions;
+mod transfers;
+mod verify;
+mod words;
+
 use crate::command::Command;
 use crate::exit::exit_code;
 use crate::input::FromRead;

@@ -1,7 +1,7 @@
 //! Solutions that are verified.
+use super::omega_with_file;
 use crate::game_file::read_file;
 use crate::line::Line;
-use crate::tests::omega_with_file;
 use crate::words::read_words;
 use omega_text::Refusal;
 use std::test::Fail;

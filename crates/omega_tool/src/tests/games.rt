@@ -1,4 +1,4 @@
-use crate::tests::omega;
+use super::omega;
 use std::alloc::Global;
 use std::test::Fail;
 

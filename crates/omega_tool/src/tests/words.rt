@@ -1,4 +1,4 @@
-use crate::tests::omega;
+use super::omega;
 use std::test::Fail;
 
 /// Command lines that are at fault, and what the text says of each.

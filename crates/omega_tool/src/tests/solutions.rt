@@ -1,5 +1,5 @@
 //! Games that are solved for both players.
-use crate::tests::omega;
+use super::omega;
 use std::alloc::Global;
 use std::test::Fail;
 
