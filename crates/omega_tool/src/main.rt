@@ -1,7 +1,8 @@
 //! The program `omega`: reads, checks, writes and solves parity games, and verifies their solutions.
 #![tactic(auto)]
 
-ghost use Rattle.std.specs.Prelude.{◌≤◌, ◌^◌};
+ghost use Rattle.std.specs.Prelude.{◌≤◌};
+ghost use Rattle.omega_solve.specs.declared.solver.TheConstants.{MOST_LIFTS};
 ghost use Rattle.omega_tool.specs.Line.{IsOffered, IsRunnable};
 
 mod answer;
@@ -102,7 +103,7 @@ fn obey(rt: &HostRuntime, line: Line) -> ExitCode
 /// Runs a command over standard input and output, and gives the status to end with.
 fn perform(rt: &HostRuntime, command: &Command, budget: u64) -> ExitCode
     requires offered { IsOffered command.now }
-    requires budget { budget ≤ 2 ^ 40 }
+    requires budget { budget ≤ MOST_LIFTS }
 {
     let mut input = FromRead::new(rt.stdin());
     let mut output = ToWrite::new(rt.stdout());

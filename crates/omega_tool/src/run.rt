@@ -1,4 +1,5 @@
 ghost use Rattle.std.specs.Prelude.{◌≡◌, ◌+◌, ◌-◌, ◌⊎◌, ◌^◌, ◌<◌, ◌≤◌, IfOk, IfErr, OnErr, OnOk, length};
+ghost use Rattle.omega_solve.specs.declared.solver.TheConstants.{MOST_LIFTS};
 ghost use Rattle.std.specs.Io.KnownBytes.{Keeps};
 ghost use Rattle.omega_text.specs.declared.limits.TheConstants.{MOST_TEXT};
 ghost use Rattle.omega_text.specs.declared.refusal.Refusal.TheVariants.{Memory};
@@ -34,7 +35,7 @@ pub fn run_command<R: Input, W: Output>(
     budget: u64,
 ) -> Result<Exit, Refusal>
     requires offered { IsOffered command.now }
-    requires budget { budget ≤ 2 ^ 40 }
+    requires budget { budget ≤ MOST_LIFTS }
     requires reads { R.failed input.old < 2 ^ 64 - 1 }
     requires writes { W.failed output.old < 2 ^ 64 - 1 }
 
@@ -65,7 +66,7 @@ fn answer(
     budget: u64,
 ) -> Result<(Exit, Vec<u8>), Refusal>
     requires offered { IsOffered command.now }
-    requires budget { budget ≤ 2 ^ 40 }
+    requires budget { budget ≤ MOST_LIFTS }
     ensures answers { IfOk result (λ made. Answers command.now budget text.items made.0 made.1.items) }
     ensures short { OnOk result (length text.items ≤ MOST_TEXT) }
     ensures refused { IfErr result (λ refusal. (refusal ≡ Memory) ⊎ Refuses command.now budget text.items refusal) }

@@ -1,4 +1,5 @@
-ghost use Rattle.std.specs.Prelude.{◌≡◌, ◌≤◌, ◌⊎◌, ◌^◌, IfOk, IfErr, Some, None};
+ghost use Rattle.std.specs.Prelude.{◌≡◌, ◌≤◌, ◌⊎◌, IfOk, IfErr, Some, None};
+ghost use Rattle.omega_solve.specs.declared.solver.TheConstants.{MOST_LIFTS};
 ghost use Rattle.omega_text.specs.declared.refusal.Refusal.TheVariants.{Memory};
 ghost use Rattle.omega_tool.specs.Solve.{IsGameRefusal, IsSolveAnswer, IsSolveRefusal, SolvesPart, SolvesWhole};
 
@@ -22,7 +23,7 @@ pub fn solve<T: MeasureTable, S: Schedule>(
     from: Option<u32>,
     budget: u64,
 ) -> Result<Vec<u8>, Refusal>
-    requires { budget ≤ 2 ^ 40 }
+    requires { budget ≤ MOST_LIFTS }
     ensures answer { IfOk result (λ output. IsSolveAnswer text.items asked from budget output.items) }
     ensures refused { IfErr result (λ refusal. (refusal ≡ Memory) ⊎ IsSolveRefusal text.items asked from budget refusal) }
 {
@@ -41,7 +42,7 @@ fn solve_part<T: MeasureTable, S: Schedule>(
     identifier: u32,
     budget: u64,
 ) -> Result<Vec<u8>, Refusal>
-    requires { budget ≤ 2 ^ 40 }
+    requires { budget ≤ MOST_LIFTS }
     ensures answer { IfOk result (λ output. SolvesPart game asked identifier budget output.items) }
     ensures refused { IfErr result (IsGameRefusal game asked (Some identifier) budget) }
 {
@@ -64,7 +65,7 @@ fn solve_whole<T: MeasureTable, S: Schedule>(
     asked: Option<Player>,
     budget: u64,
 ) -> Result<Vec<u8>, Refusal>
-    requires { budget ≤ 2 ^ 40 }
+    requires { budget ≤ MOST_LIFTS }
     ensures answer { IfOk result (λ output. SolvesWhole game.now asked budget output.items) }
     ensures refused { IfErr result (IsGameRefusal game.now asked None budget) }
 {

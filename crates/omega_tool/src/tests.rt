@@ -1,5 +1,6 @@
 //! Runs of the program over readers and writers in memory.
-ghost use Rattle.std.specs.Prelude.{◌≤◌, ◌^◌};
+ghost use Rattle.std.specs.Prelude.{◌≤◌};
+ghost use Rattle.omega_solve.specs.declared.solver.TheConstants.{MOST_LIFTS};
 ghost use Rattle.omega_tool.specs.Line.{IsOffered};
 
 mod games;
@@ -42,7 +43,7 @@ fn words_of(alloc: Global, line: &str) -> Result<Vec<String>, Fail> {
 /// Runs a command as the program does.
 fn perform(alloc: Global, command: &Command, budget: u64, text: &[u8]) -> Result<Left, Fail>
     requires offered { IsOffered command.now }
-    requires budget { budget ≤ 2 ^ 40 }
+    requires budget { budget ≤ MOST_LIFTS }
 {
     let mut error = Vec::new(alloc);
     let mut input = FromRead::new(text);

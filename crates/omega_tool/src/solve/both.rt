@@ -1,4 +1,5 @@
-ghost use Rattle.std.specs.Prelude.{◌≡◌, ◌≤◌, ◌^◌, IfOk, IfErr, IsOkUnless, None};
+ghost use Rattle.std.specs.Prelude.{◌≡◌, ◌≤◌, IfOk, IfErr, IsOkUnless, None};
+ghost use Rattle.omega_solve.specs.declared.solver.TheConstants.{MOST_LIFTS};
 ghost use Rattle.omega_text.specs.declared.refusal.Refusal.TheVariants.{Memory};
 ghost use Rattle.omega_tool.specs.Solution.{IsRight, IsSolutionOf, winners_of};
 ghost use Rattle.omega_tool.specs.Solve.{IsGameRefusal};
@@ -15,7 +16,7 @@ pub fn solve_both<T: MeasureTable, S: Schedule>(
     game: &Game,
     budget: u64,
 ) -> Result<Vec<u8>, Refusal>
-    requires { budget ≤ 2 ^ 40 }
+    requires { budget ≤ MOST_LIFTS }
     ensures answer { IfOk result (λ output. IsSolutionOf game.now budget output.items) }
     ensures refused { IfErr result (IsGameRefusal game.now None None budget) }
 {
@@ -30,7 +31,7 @@ fn solution_of<T: MeasureTable, S: Schedule>(
     game: &Game,
     budget: u64,
 ) -> Result<Solution, Refusal>
-    requires { budget ≤ 2 ^ 40 }
+    requires { budget ≤ MOST_LIFTS }
     ensures right { IfOk result (IsRight game.now budget) }
     ensures refused { IfErr result (IsGameRefusal game.now None None budget) }
 {

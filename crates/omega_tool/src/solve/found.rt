@@ -11,7 +11,8 @@ pub struct Found {
 }
 
 impl Found {
-    ghost use Rattle.std.specs.Prelude.{◌≡◌, ◌≤◌, ◌⊎◌, ◌^◌, IfOk, IfErr};
+    ghost use Rattle.std.specs.Prelude.{◌≡◌, ◌≤◌, ◌⊎◌, IfOk, IfErr};
+    ghost use Rattle.omega_solve.specs.declared.solver.TheConstants.{MOST_LIFTS};
     ghost use Rattle.omega_text.specs.declared.refusal.Refusal.TheVariants.{Memory, Task};
     ghost use Rattle.omega_text.specs.declared.refusal.task.TaskFault.TheVariants.{Budget};
     ghost use Rattle.omega_solve.specs.Solver.{start_of};
@@ -25,7 +26,7 @@ impl Found {
         budget: u64,
     ) -> Result<Found, Refusal>
         requires fresh { solver ≡ start_of solver.nodes solver.player }
-        requires budget { budget ≤ 2 ^ 40 }
+        requires budget { budget ≤ MOST_LIFTS }
         ensures found { IfOk result (λ found. IsFound solver.entry.nodes solver.entry.player budget found.won.items found.choice.items) }
         ensures refused { IfErr result (λ refusal. (refusal ≡ Memory) ⊎ ((refusal ≡ Task Budget) × GoesOnAfter solver.entry.nodes solver.entry.player budget)) }
     {

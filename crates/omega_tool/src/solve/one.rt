@@ -1,4 +1,5 @@
-ghost use Rattle.std.specs.Prelude.{◌≡◌, ◌≤◌, ◌^◌, IfOk, IfErr, Some, None};
+ghost use Rattle.std.specs.Prelude.{◌≡◌, ◌≤◌, IfOk, IfErr, Some, None};
+ghost use Rattle.omega_solve.specs.declared.solver.TheConstants.{MOST_LIFTS};
 ghost use Rattle.omega_tool.specs.Answer.{IsAnswerOf};
 ghost use Rattle.omega_tool.specs.Solve.{IsGameRefusal};
 
@@ -14,7 +15,7 @@ pub fn solve_one<T: MeasureTable, S: Schedule>(
     player: Player,
     budget: u64,
 ) -> Result<Vec<u8>, Refusal>
-    requires { budget ≤ 2 ^ 40 }
+    requires { budget ≤ MOST_LIFTS }
     ensures answer { IfOk result (λ output. IsAnswerOf game.now player budget output.items) }
     ensures refused { IfErr result (IsGameRefusal game.now (Some player) None budget) }
 {
