@@ -20,6 +20,7 @@ import statistics
 import subprocess
 import sys
 import tempfile
+import threading
 import time
 
 from families import FAMILIES
@@ -37,13 +38,17 @@ def measured(command, words, path, seconds):
     """One run: its time in seconds, its status and its output; none after so many seconds."""
     with open(path, "rb") as text, tempfile.TemporaryFile() as output:
         start = time.perf_counter()
-        try:
-            done = subprocess.run(command + words, stdin=text, stdout=output, stderr=subprocess.DEVNULL, timeout=seconds)
-        except subprocess.TimeoutExpired:
-            return None
+        child = subprocess.Popen(command + words, stdin=text, stdout=output, stderr=subprocess.DEVNULL)
+        # Waiting with a limit of time would poll, and round the time up to the next look.
+        limit = threading.Timer(seconds, child.kill)
+        limit.start()
+        status = child.wait()
         elapsed = time.perf_counter() - start
+        limit.cancel()
+        if elapsed >= seconds:
+            return None
         output.seek(0)
-        return elapsed, done.returncode, output.read()
+        return elapsed, status, output.read()
 
 
 def memory_of(command, words, path):
