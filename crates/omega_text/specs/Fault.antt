@@ -1,11 +1,11 @@
 -- Where a game text can't be cut.
 use Rattle.std.specs.Prelude.{◌≡◌, ℕ, ◌<◌, false, ◌⊎◌, List, length, take, drop, slice_index}
 use Rattle.omega_text.specs.Bytes.{is_white}
+use Rattle.omega_text.specs.Cases.{never, or_memory, or_text}
 use Rattle.omega_text.specs.Cut.{Cuts, IsGap}
 use Rattle.omega_text.specs.Forms.{IsDigits, IsForm, IsLongest, IsNoToken, IsWord}
 use Rattle.omega_text.specs.Lexeme.{Lexeme}
 use Rattle.omega_text.specs.declared.refusal.Refusal.{Refusal}
-use Rattle.omega_text.specs.declared.refusal.Refusal.TheVariants.{Automaton, Game, Io, Memory, Task, Text}
 use Rattle.omega_text.specs.declared.refusal.text.TextFault.{TextFault}
 use Rattle.omega_text.specs.declared.refusal.text.TextFault.TheVariants.{Lex, Number, Syntax, TooLong}
 
@@ -51,9 +51,4 @@ pub record IsFault (source : List ℕ) (fault : TextFault) : Type 0 where
 
 -- a text is refused by its fault at the least place, or for want of memory
 abbrev pub IsRefusedBy : List ℕ → Refusal → Type 0
-IsRefusedBy source (Text fault) = IsFault source fault
-IsRefusedBy source (Game fault) = ⊥
-IsRefusedBy source (Automaton fault) = ⊥
-IsRefusedBy source (Task fault) = ⊥
-IsRefusedBy source Memory = Unit {0}
-IsRefusedBy source Io = ⊥
+IsRefusedBy source = or_text (IsFault source) (or_memory never)

@@ -20,7 +20,7 @@ pub use laws::{
     names_are_longest, numbers_are_longest, numbers_are_plain, signs_are_longest,
     spellings_are_one, tokens_are_one, tokens_follow, ways_are_apart, words_are_longest,
 };
-pub use limits::{MOST_NUMBER, MOST_TEXT};
+pub use limits::{MOST_NUMBER, MOST_TEXT, text_limits_are_stated};
 pub use number::write_number;
 pub use refusal::{AutomatonFault, GameFault, Refusal, TaskFault, TextFault};
 pub use seq::Seq;
