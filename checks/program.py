@@ -1,0 +1,48 @@
+"""The program under check: how it is run, and what is said where it does something else than is wanted."""
+import os
+import subprocess
+import tempfile
+
+ROOT = os.path.dirname(os.path.dirname(os.path.abspath(__file__)))
+OMEGA = os.path.join(ROOT, "crates", "omega_tool", "out", "omega_tool")
+
+# Far above what any check takes on a slow machine.
+SECONDS = 120
+
+
+def shown(text):
+    """The beginning of a text, for a message."""
+    return repr(text if len(text) <= 80 else text[:80] + b"...")
+
+
+def difference(kind, came, wanted):
+    """Says where two texts differ, or nothing."""
+    if came == wanted:
+        return None
+    place = next((i for i, (a, b) in enumerate(zip(came, wanted)) if a != b), min(len(came), len(wanted)))
+    return (f"{kind} of {len(came)} bytes differs from the {len(wanted)} wanted at byte {place}: "
+            f"{shown(came[place:])} for {shown(wanted[place:])}")
+
+
+def fault_of(words, text, status, output, error=b""):
+    """Runs the program with these words on this text. What differs from the status, output and error wanted, or nothing."""
+    try:
+        run = subprocess.run([OMEGA] + words, input=text, capture_output=True, timeout=SECONDS)
+    except subprocess.TimeoutExpired:
+        return f"not done after {SECONDS} seconds"
+    if run.returncode != status:
+        return f"status {run.returncode} for {status}: {shown(run.stdout)} {shown(run.stderr)}"
+    return difference("output", run.stdout, output) or difference("standard error", run.stderr, error)
+
+
+def refusal_fault(words, text, line, status=1):
+    """Runs the program on a text that it must refuse by this line, writing nothing."""
+    return fault_of(words, text, status, b"", f"omega: {line}\n".encode())
+
+
+def fault_with_file(words, held, text, status, output, error=b""):
+    """The same as `fault_of`, with the path of a file that holds these bytes as the last word."""
+    with tempfile.NamedTemporaryFile() as file:
+        file.write(held)
+        file.flush()
+        return fault_of(words + [file.name], text, status, output, error)
