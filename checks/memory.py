@@ -1,0 +1,110 @@
+"""Requests for memory, refused one by one: each run ends by refusal 60 with nothing written, or as with ample memory."""
+import contextlib
+import os
+import subprocess
+import tempfile
+
+from program import OMEGA, SECONDS, shown
+
+HERE = os.path.dirname(os.path.abspath(__file__))
+REFUSED = (4, b"", b"omega: 60 Memory\n")
+
+TWO = b"0 1 0 1; 1 2 1 0;"
+GAPS = b'parity 9; 9 3 1 4; 4 2 0 9,4 "a";'
+CARRY = b"0 1 0 0; 1 0 0 1; 2 3 0 2; 3 1 1 2,0;"
+CHOICE = b"0 0 0 1,2; 1 1 1 0; 2 2 1 0;"
+
+# Words, the text on standard input, and the text in the file of `--game` where there is one.
+RUNS = [
+    *((["solve", *more], text, None)
+      for text in (TWO, GAPS, CARRY, CHOICE)
+      for more in ([], ["--player", "0"], ["--player", "1"], ["--from", "0"], ["--budget", "3"])),
+    *(([name, "--format", "pg"], text, None) for text in (TWO, GAPS, CHOICE) for name in ("show", "check", "canon")),
+    (["verify", "--game"], b"paritysol 2; 0 0 2; 1 0; 2 0;", CHOICE),
+    (["verify", "--game"], b"paritysol 2; 0 0 1; 1 0; 2 0;", CHOICE),
+    (["verify", "--game"], b"paritysol 2; 0 0;", CHOICE),
+    (["check", "--format", "pg"], b"0 0 0;", None),
+    (["check", "--format", "pg"], b"", None),
+    (["solve", "--from", "7"], CHOICE, None),
+    (["--help"], b"", None),
+    (["solve", "--help"], b"", None),
+    (["solve", "--player", "2"], b"", None),
+    (["frobnicate"], b"", None),
+]
+
+
+@contextlib.contextmanager
+def shim():
+    """The path of the shim that refuses requests, compiled for these runs, in a folder that is removed behind them."""
+    with tempfile.TemporaryDirectory() as folder:
+        path = os.path.join(folder, "refusing.so")
+        subprocess.run(["cc", "-O2", "-shared", "-fPIC", "-o", path, os.path.join(HERE, "refusing.c"), "-ldl"], check=True)
+        yield folder, path
+
+
+class Shimmed:
+    """The program under the shim."""
+
+    def __init__(self, folder, path):
+        self.count = os.path.join(folder, "count")
+        self.held = os.path.join(folder, "game")
+        self.path = path
+
+    def run(self, words, text, held, refuse_from=0, refuse_to=0):
+        """Status, output and standard error of a run, and how many requests it made."""
+        if held is not None:
+            with open(self.held, "wb") as file:
+                file.write(held)
+            words = words + [self.held]
+        given = {"LD_PRELOAD": self.path, "REFUSE_COUNT": self.count}
+        if refuse_from:
+            given |= {"REFUSE_FROM": str(refuse_from), "REFUSE_TO": str(max(refuse_from, refuse_to))}
+        ran = subprocess.run([OMEGA] + words, input=text, capture_output=True, env=given, timeout=SECONDS)
+        with open(self.count) as file:
+            return (ran.returncode, ran.stdout, ran.stderr), int(file.read())
+
+
+def fault_in(came, ample):
+    if came in (ample, REFUSED):
+        return None
+    return f"status {came[0]}, {shown(came[1])}, {shown(came[2])}"
+
+
+def refused_runs(shimmed, words, text, held):
+    """Each request refused, alone and with all behind it."""
+    ample, requests = shimmed.run(words, text, held)
+    label = f"{' '.join(words)} on {shown(text)}"
+    yield f"{label}: with ample memory", "refused 60" if ample == REFUSED else None
+    for n in range(1, requests + 1):
+        for to in (n, 2 ** 60):
+            came, _ = shimmed.run(words, text, held, n, to)
+            yield f"{label}: request {n} of {requests}{'' if to == n else ' and all behind it'}", fault_in(came, ample)
+
+
+def chain(nodes, loop_first):
+    """A chain to an odd loop, which is lifted first, or last: the same sizes, and few lifts or very many."""
+    if loop_first:
+        return "".join(f"{v} {int(v == 0)} 0 {max(v - 1, 0)};" for v in range(nodes)).encode()
+    return "".join(f"{v} {int(v == nodes - 1)} 0 {min(v + 1, nodes - 1)};" for v in range(nodes)).encode()
+
+
+def lifts_without_requests(shimmed):
+    """Runs of one size make one number of requests, whatever the number of lifts: a solver asks for none once it is made."""
+    words = ["solve", "--player", "1"]
+    made = [shimmed.run(words, chain(2000, loop_first), None) for loop_first in (True, False)]
+    lifts = [int(came[1].split()[3]) for came, _ in made]
+    requests = [count for _, count in made]
+    fault = None
+    if max(lifts) < 100 * min(lifts):
+        fault = f"the numbers of lifts are too near: {lifts}"
+    elif requests[0] != requests[1]:
+        fault = f"{requests} requests for {lifts} lifts"
+    yield "requests of a solver that is made", fault
+
+
+def memory_checks():
+    with shim() as (folder, path):
+        shimmed = Shimmed(folder, path)
+        for words, text, held in RUNS:
+            yield from refused_runs(shimmed, words, text, held)
+        yield from lifts_without_requests(shimmed)
