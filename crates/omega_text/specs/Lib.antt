@@ -1,10 +1,6 @@
-pub mod Bytes
 pub mod Cases
 pub mod Cursor
-pub mod Cut
-pub mod Fault
-pub mod Forms
-pub mod Laws
 pub mod Lexeme
 pub mod Limits
 pub mod Refusal
+pub mod pg

@@ -1,0 +1,10 @@
+use Rattle.std.proofs.Common.{◌-◌, ◌≤◌, length, map}
+use Rattle.omega_text.specs.pg.Cut.{Cuts}
+use Rattle.omega_text.specs.Lexeme.{lexeme_of}
+use Rattle.omega_text.proofs.pg.tokens.pg_tokens.Given as goal
+
+abbrev pub invariant-loop-tokens : goal.invariant-loop-tokens
+invariant-loop-tokens l = record { cuts : Cuts l.source 0 (map lexeme_of l.tokens.items) l.at; inside : l.at ≤ length l.source }
+
+abbrev pub decreases-loop-tokens : goal.decreases-loop-tokens
+decreases-loop-tokens l = length l.source - l.at

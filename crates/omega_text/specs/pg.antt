@@ -1,0 +1,6 @@
+-- What PGSolver's texts are cut into.
+pub mod Bytes
+pub mod Cut
+pub mod Fault
+pub mod Forms
+pub mod Laws
