@@ -1,1 +1,3 @@
+pub mod formats
 pub mod pg_texts
+pub mod syntaxes

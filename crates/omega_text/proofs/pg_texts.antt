@@ -1,6 +1,6 @@
 -- Lemmas of PGSolver's tokens.
 pub mod Classes
-pub mod Cuts
+pub mod Exact
 pub mod Gaps
 pub mod Longest
 pub mod Numbers

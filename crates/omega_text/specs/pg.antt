@@ -2,5 +2,6 @@
 pub mod Bytes
 pub mod Cut
 pub mod Fault
+pub mod Format
 pub mod Forms
 pub mod Laws

@@ -4,20 +4,28 @@
 #![tactic(auto)]
 
 mod cursor;
+pub mod laws;
 mod limits;
 mod number;
 pub mod pg;
 mod refusal;
 mod seq;
+mod syntax;
 mod token;
+mod token_kind;
+mod token_reader;
+mod tokens;
 
 pub use cursor::Cursor;
-pub use limits::{MOST_NUMBER, MOST_TEXT, text_limits_are_stated};
+pub use limits::{MOST_NUMBER, MOST_TEXT};
 pub use number::write_number;
 pub use pg::{PgKind, next_pg_token, pg_tokens};
 pub use refusal::{AutomatonFault, GameFault, Refusal, TaskFault, TextFault};
 pub use seq::Seq;
+pub use syntax::TextSyntax;
 pub use token::{Span, Token};
+pub use token_kind::TokenKind;
+pub use token_reader::{TokenReader, read_tokens};
 
 #[cfg(test)]
 mod tests;

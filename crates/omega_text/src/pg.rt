@@ -1,6 +1,7 @@
 //! PGSolver's texts, of games and of solutions, as tokens.
 
 mod bytes;
+mod format;
 mod kind;
 pub mod laws;
 mod token;

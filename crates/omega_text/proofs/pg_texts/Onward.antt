@@ -1,4 +1,4 @@
--- From each place a text goes on in some way, and so it has a cut or a fault.
+-- From each place a PGSolver text goes on in some way.
 use Rattle.std.proofs.Common.{◌≡◌, ℕ, zero, suc, ◌+◌, ◌<◌, ◌≤◌, ◌⊎◌, inl, inr, ⊎_elim, true, List, [], ◌∷◌, length, get_or, take, drop, refl, ap, ◌∙◌, subst, arith, codes, eqb, length-drop, length-take-le}
 use Rattle.std.proofs.lemmas.Bool.{cases_eq}
 use Rattle.std.proofs.lemmas.List.{take_more}
@@ -7,13 +7,13 @@ use Rattle.std.specs.Cmp.Lexicographic.{bytes_decides, pointwise}
 use Rattle.std.specs.List.{prefix_len}
 use Rattle.std.specs.Str.Parse.{digits_value}
 use Rattle.omega_text.specs.pg.Bytes.{is_digit, is_letter, is_name_byte, is_white, is_word_byte}
-use Rattle.omega_text.specs.pg.Cut.{Cuts, Follows, IsCut, IsGap}
+use Rattle.omega_text.specs.pg.Cut.{Follows, IsGap}
 use Rattle.omega_text.specs.Limits.{most_number}
 use Rattle.omega_text.specs.declared.refusal.text.TextFault.{TextFault}
 use Rattle.omega_text.specs.declared.refusal.text.TextFault.TheVariants.{Lex, Number as NumberFault}
 use Rattle.omega_text.specs.declared.pg.kind.PgKind.{PgKind}
 use Rattle.omega_text.specs.declared.pg.kind.PgKind.TheVariants.{Comma, Name, Number, Parity, ParitySol, Semicolon}
-use Rattle.omega_text.specs.pg.Fault.{Faults, IsFault, IsFaultOf}
+use Rattle.omega_text.specs.pg.Fault.{Faults, IsFaultOf}
 use Rattle.omega_text.specs.pg.Forms.{IsLongest, IsNoToken, Spells}
 use Rattle.omega_text.specs.Lexeme.{Lexeme, lexeme_at}
 use Rattle.omega_text.proofs.pg_texts.Classes.{both_ways, two_ways}
@@ -107,10 +107,10 @@ module _ (bytes : List ℕ) (place : ℕ) (some : 0 < length bytes) where
           inl (kind, 0, 1, longest_sign bytes some either, spells (take_more bytes 0 0 some ∙ ap (λ b. b ∷ []) is))
 
 -- how a text goes on from a place: with white space to its end, a token, or a fault
-abbrev Onward : List ℕ → ℕ → Type 0
+abbrev pub Onward : List ℕ → ℕ → Type 0
 Onward source from = IsGap source from (length source) ⊎ (((lexeme : Lexeme PgKind) × Follows source from lexeme) ⊎ ((fault : TextFault) × Faults source from fault))
 
-onward : (source : List ℕ) (from : ℕ) → from ≤ length source → Onward source from
+pub onward : (source : List ℕ) (from : ℕ) → from ≤ length source → Onward source from
 onward source from inside =
     let start = from + prefix_len is_white (drop from source) in
     let bytes = drop start source in
@@ -141,27 +141,3 @@ onward source from inside =
     (begins bytes start some))
     (λ past. let end : start ≡ length source = omega (arith, gap.within) in inl (subst (IsGap source from) end gap))
     (order start (length source))
-
--- from a place on, a text is cut to its end or to a fault
-abbrev CutFrom : List ℕ → ℕ → Type 0
-CutFrom source from = ((lexemes : List (Lexeme PgKind)) × (to : ℕ) × Cuts source from lexemes to × IsGap source to (length source))
-    ⊎ ((lexemes : List (Lexeme PgKind)) × (to : ℕ) × (fault : TextFault) × Cuts source from lexemes to × Faults source to fault)
-
-cut_from : (left : ℕ) (source : List ℕ) (from : ℕ) → from ≤ length source → length source ≤ from + left → CutFrom source from
-cut_from zero source from inside all = inl ([], from, refl, record { forward = inside; within = omega arith; white = λ k d low high. absurd (omega arith) })
-cut_from (suc left) source from inside all = ⊎_elim
-    (λ gap. inl ([], from, refl, gap))
-    (⊎_elim
-    (λ token. ⊎_elim
-    (λ cut. inl (token.0 ∷ cut.0, cut.1, (token.1, cut.2), cut.3))
-    (λ faulty. inr (token.0 ∷ faulty.0, faulty.1, faulty.2, (token.1, faulty.3), faulty.4))
-    (cut_from left source token.0.span.end token.1.within (omega (arith, token.1.gap.forward, token.1.token.nonempty))))
-    (λ fault. inr ([], from, fault.0, refl, fault.1)))
-    (onward source from inside)
-
--- a text has a cut or a fault
-pub cut_or_fault : (source : List ℕ) → ((lexemes : List (Lexeme PgKind)) × IsCut source lexemes) ⊎ ((fault : TextFault) × IsFault source fault)
-cut_or_fault source = ⊎_elim
-    (λ cut. inl (cut.0, record { end = cut.1; cuts = cut.2; rest = cut.3 }))
-    (λ faulty. inr (faulty.2, record { lexemes = faulty.0; end = faulty.1; cuts = faulty.3; faults = faulty.4 }))
-    (cut_from (length source) source 0 (omega arith) (omega arith))

@@ -5,13 +5,13 @@ use Rattle.std.proofs.lemmas.Fmt.{decimal_injective}
 use Rattle.std.proofs.lemmas.List.{get_or-drop}
 use Rattle.std.proofs.str.Laws.{order}
 use Rattle.omega_text.specs.pg.Bytes.{is_digit, is_letter, is_white}
-use Rattle.omega_text.specs.pg.Cut.{BeginsWith, Cuts, Follows, IsCut, IsGap}
+use Rattle.omega_text.specs.pg.Cut.{BeginsWith, Follows, IsGap}
 use Rattle.omega_text.specs.Limits.{most_number}
 use Rattle.omega_text.specs.declared.refusal.text.TextFault.{TextFault}
 use Rattle.omega_text.specs.declared.refusal.text.TextFault.TheVariants.{Lex, Number as NumberFault, Syntax, TooLong}
 use Rattle.omega_text.specs.declared.pg.kind.PgKind.{PgKind}
 use Rattle.omega_text.specs.declared.pg.kind.PgKind.TheVariants.{Comma, Name, Number, Parity, ParitySol, Semicolon}
-use Rattle.omega_text.specs.pg.Fault.{BeginsNoForm, BeginsWrongDigits, BeginsWrongWord, Faults, IsFault, IsFaultOf}
+use Rattle.omega_text.specs.pg.Fault.{BeginsNoForm, BeginsWrongDigits, BeginsWrongWord, Faults, IsFaultOf}
 use Rattle.omega_text.specs.pg.Forms.{IsDigits, IsForm, IsLongest, IsNoToken, IsWord, Spells}
 use Rattle.omega_text.specs.Lexeme.{Lexeme}
 use Rattle.omega_text.proofs.pg_texts.Classes.{both_ways, digit_range, letter_range}
@@ -190,50 +190,3 @@ token_or_end source from lexeme follows gap =
 pub fault_or_end : (source : List ℕ) (from : ℕ) (fault : TextFault) → Faults source from fault → IsGap source from (length source) → ⊥
 fault_or_end source from fault faults gap =
     omega (arith, gap_stops source from (length source) faults.place gap faults.gap.forward (fault_black source from fault faults), faults.more)
-
--- how a cut stops: at the end of the text, or at a fault
-abbrev pub Stops : List ℕ → ℕ → Option TextFault → Type 0
-Stops source at None = IsGap source at (length source)
-Stops source at (Some fault) = Faults source at fault
-
--- a cut stops in one way
-stop_once : (source : List ℕ) (at : ℕ) (one other : Option TextFault) → Stops source at one → Stops source at other → one ≡ other
-stop_once source at None None first second = refl
-stop_once source at None (Some fault) first second = absurd (fault_or_end source at fault second first)
-stop_once source at (Some fault) None first second = absurd (fault_or_end source at fault first second)
-stop_once source at (Some one) (Some other) first second = ap Some (one_faults source at one other first second)
-
--- where a token follows, a cut does not stop
-follows_goes_on : (source : List ℕ) (at : ℕ) (lexeme : Lexeme PgKind) (stop : Option TextFault) → Follows source at lexeme → Stops source at stop → ⊥
-follows_goes_on source at lexeme None follows stops = token_or_end source at lexeme follows stops
-follows_goes_on source at lexeme (Some fault) follows stops = token_or_fault source at lexeme fault follows stops
-
--- two cuts from one place that both stop are the same, and stop in the same way
-pub one_stop : (source : List ℕ) (from : ℕ) (one other : List (Lexeme PgKind)) (to end : ℕ) (stop halt : Option TextFault)
-    → Cuts source from one to → Stops source to stop → Cuts source from other end → Stops source end halt → (one ≡ other) × (stop ≡ halt)
-one_stop source from [] [] to end stop halt cuts stops again halts =
-    (refl, stop_once source end stop halt (subst (λ n. Stops source n stop) (sym cuts ∙ again) stops) halts)
-one_stop source from [] (lexeme ∷ other) to end stop halt cuts stops again halts =
-    absurd (follows_goes_on source from lexeme stop again.0 (subst (λ n. Stops source n stop) (sym cuts) stops))
-one_stop source from (lexeme ∷ one) [] to end stop halt cuts stops again halts =
-    absurd (follows_goes_on source from lexeme halt cuts.0 (subst (λ n. Stops source n halt) (sym again) halts))
-one_stop source from (lexeme ∷ one) (twin ∷ other) to end stop halt cuts stops again halts =
-    let same = one_follows source from lexeme twin cuts.0 again.0 in
-    let rest = one_stop source twin.span.end one other to end stop halt (subst (λ l. Cuts source l.span.end one to) same cuts.1) stops again.1 halts in
-    ((λ i. same i ∷ rest.0 i), rest.1)
-
--- a text has at most one cut
-pub one_cut : (source : List ℕ) (one other : List (Lexeme PgKind)) → IsCut source one → IsCut source other → one ≡ other
-one_cut source one other first second = (one_stop source 0 one other first.end second.end None None first.cuts first.rest second.cuts second.rest).0
-
--- a text has at most one fault at its least place
-pub one_fault : (source : List ℕ) (one other : TextFault) → IsFault source one → IsFault source other → one ≡ other
-one_fault source one other first second =
-    let same = (one_stop source 0 first.lexemes second.lexemes first.end second.end (Some one) (Some other) first.cuts first.faults second.cuts second.faults).1 in
-    cc
-
--- a text that has a cut has no fault
-pub not_both : (source : List ℕ) (lexemes : List (Lexeme PgKind)) (fault : TextFault) → IsCut source lexemes → IsFault source fault → ⊥
-not_both source lexemes fault cut faulty =
-    let same = (one_stop source 0 lexemes faulty.lexemes cut.end faulty.end None (Some fault) cut.cuts cut.rest faulty.cuts faulty.faults).1 in
-    cc

@@ -1,5 +1,5 @@
 -- How a game text is cut into tokens: the longest form at each place, and white space between.
-use Rattle.std.specs.Prelude.{◌≡◌, ℕ, ◌-◌, ◌<◌, ◌≤◌, true, List, [], ◌∷◌, length, take, drop}
+use Rattle.std.specs.Prelude.{◌≡◌, ℕ, ◌-◌, ◌<◌, ◌≤◌, true, List, length, take, drop}
 use Rattle.std.specs.List.{AllWithin}
 use Rattle.omega_text.specs.pg.Bytes.{is_white}
 use Rattle.omega_text.specs.pg.Forms.{IsLongest, Spells}
@@ -24,14 +24,3 @@ pub record Follows (source : List ℕ) (from : ℕ) (lexeme : Lexeme PgKind) : T
   pub gap : IsGap source from lexeme.span.start
   pub token : BeginsWith (drop lexeme.span.start source) lexeme
   pub within : lexeme.span.end ≤ length source
-
--- from one place on, these tokens follow one another, and the last ends at the other place
-abbrev pub Cuts : List ℕ → ℕ → List (Lexeme PgKind) → ℕ → Type 0
-Cuts source from [] to = from ≡ to
-Cuts source from (lexeme ∷ rest) to = Follows source from lexeme × Cuts source lexeme.span.end rest to
-
--- the tokens are the whole text, but for white space
-pub record IsCut (source : List ℕ) (lexemes : List (Lexeme PgKind)) : Type 0 where
-  pub end : ℕ
-  pub cuts : Cuts source 0 lexemes end
-  pub rest : IsGap source end (length source)

@@ -1,12 +1,8 @@
 -- Where a game text can't be cut.
 use Rattle.std.specs.Prelude.{◌≡◌, ℕ, ◌<◌, false, ◌⊎◌, List, length, take, drop, slice_index}
 use Rattle.omega_text.specs.pg.Bytes.{is_white}
-use Rattle.omega_text.specs.Cases.{never, or_memory, or_text}
-use Rattle.omega_text.specs.pg.Cut.{Cuts, IsGap}
+use Rattle.omega_text.specs.pg.Cut.{IsGap}
 use Rattle.omega_text.specs.pg.Forms.{IsDigits, IsForm, IsLongest, IsNoToken, IsWord}
-use Rattle.omega_text.specs.declared.pg.kind.PgKind.{PgKind}
-use Rattle.omega_text.specs.Lexeme.{Lexeme}
-use Rattle.omega_text.specs.declared.refusal.Refusal.{Refusal}
 use Rattle.omega_text.specs.declared.refusal.text.TextFault.{TextFault}
 use Rattle.omega_text.specs.declared.refusal.text.TextFault.TheVariants.{Lex, Number, Syntax, TooLong}
 
@@ -42,14 +38,3 @@ pub record Faults (source : List ℕ) (from : ℕ) (fault : TextFault) : Type 0 
   pub more : place < length source
   pub black : is_white (slice_index source place) ≡ false
   pub fault_there : IsFaultOf (drop place source) place fault
-
--- the fault of a text at its least place: before it, the text can be cut
-pub record IsFault (source : List ℕ) (fault : TextFault) : Type 0 where
-  pub lexemes : List (Lexeme PgKind)
-  pub end : ℕ
-  pub cuts : Cuts source 0 lexemes end
-  pub faults : Faults source end fault
-
--- a text is refused by its fault at the least place, or for want of memory
-abbrev pub IsRefusedBy : List ℕ → Refusal → Type 0
-IsRefusedBy source = or_text (IsFault source) (or_memory never)

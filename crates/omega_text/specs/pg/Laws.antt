@@ -3,46 +3,14 @@ use Rattle.std.specs.Prelude.{◌≡◌, ℕ, ◌+◌, ◌<◌, ◌≤◌, false
 use Rattle.std.specs.List.{AllPass}
 use Rattle.std.specs.Str.Parse.{digits_value}
 use Rattle.omega_text.specs.pg.Bytes.{is_digit, is_white, is_word_byte}
-use Rattle.omega_text.specs.pg.Cut.{Cuts, Follows, IsCut, IsGap}
-use Rattle.omega_text.specs.pg.Fault.{Faults, IsFault}
+use Rattle.omega_text.specs.pg.Cut.{Follows, IsGap}
+use Rattle.omega_text.specs.pg.Fault.{Faults}
 use Rattle.omega_text.specs.pg.Forms.{IsDigits, IsLongest, IsQuoted, IsSign, IsWord, Spells}
 use Rattle.omega_text.specs.Lexeme.{Lexeme, lexeme_at}
 use Rattle.omega_text.specs.Limits.{most_number}
 use Rattle.omega_text.specs.declared.refusal.text.TextFault.{TextFault}
 use Rattle.omega_text.specs.declared.pg.kind.PgKind.{PgKind}
 use Rattle.omega_text.specs.declared.pg.kind.PgKind.TheVariants.{Number}
-
--- a text has at most one cut
-abbrev pub CutsAreOne : Type 0
-CutsAreOne = (source : List ℕ) (one other : List (Lexeme PgKind)) → IsCut source one → IsCut source other → one ≡ other
-
--- a text has at most one fault at its least place
-abbrev pub FaultsAreOne : Type 0
-FaultsAreOne = (source : List ℕ) (one other : TextFault) → IsFault source one → IsFault source other → one ≡ other
-
--- a text has a cut or a fault
-abbrev pub CutOrFault : Type 0
-CutOrFault = (source : List ℕ) → ((lexemes : List (Lexeme PgKind)) × IsCut source lexemes) ⊎ ((fault : TextFault) × IsFault source fault)
-
--- a text that has a cut has no fault
-abbrev pub CutsHaveNoFault : Type 0
-CutsHaveNoFault = (source : List ℕ) (lexemes : List (Lexeme PgKind)) (fault : TextFault) → IsCut source lexemes → IsFault source fault → ⊥
-
--- at most one token follows a place
-abbrev pub TokensAreOne : Type 0
-TokensAreOne = (source : List ℕ) (from : ℕ) (one other : Lexeme PgKind) → Follows source from one → Follows source from other → one ≡ other
-
--- what follows a place is a token, a fault or white space to the end, and never two of these
-abbrev pub WaysAreApart : Type 0
-WaysAreApart = (source : List ℕ) (from : ℕ) (lexeme : Lexeme PgKind) (fault : TextFault)
-    → (Follows source from lexeme → Faults source from fault → ⊥)
-    × (Follows source from lexeme → IsGap source from (length source) → ⊥)
-    × (Faults source from fault → IsGap source from (length source) → ⊥)
-
--- a cut, and a cut from where it ends, are a cut
-abbrev pub CutsJoin : Type 0
-CutsJoin = (source : List ℕ) (from middle to : ℕ) (front back : List (Lexeme PgKind))
-    → Cuts source from front middle → Cuts source middle back to → Cuts source from (front ++ back) to
 
 -- a text is a token of at most one kind and value, and no value is above the greatest number
 abbrev pub SpellingsAreOne : Type 0

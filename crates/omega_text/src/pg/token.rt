@@ -5,6 +5,7 @@ ghost use Rattle.omega_text.specs.pg.Bytes.{is_digit, is_letter, is_white};
 ghost use Rattle.omega_text.specs.pg.Cut.{BeginsWith, Follows, IsGap};
 ghost use Rattle.omega_text.specs.pg.Fault.{Faults, IsFaultOf};
 ghost use Rattle.omega_text.specs.pg.Forms.{IsDigits, IsNoToken};
+ghost use Rattle.omega_text.specs.Format.{IsPartBehind};
 ghost use Rattle.omega_text.specs.Lexeme.{lexeme_at, lexeme_of};
 ghost use Rattle.omega_text.specs.Limits.{most_number};
 
@@ -24,9 +25,7 @@ pub fn next_pg_token(source: &[u8], at: usize) -> Result<Option<Token<'_, PgKind
     ensures token { IfOk result (λ found. IfSome found (λ token. Follows source.now at (lexeme_of token))) }
     ensures end { IfOk result (λ found. IfNone found (IsGap source.now at (length source.now))) }
     ensures fault { IfErr result (Faults source.now at) }
-    ensures progress { IfOk result (λ found. IfSome found (λ token.
-        (at ≤ token.span.start) × (token.span.start < token.span.end)
-        × (token.span.end ≤ length source.now))) }
+    ensures progress { IfOk result (λ found. IfSome found (λ token. IsPartBehind source.now at token.span)) }
 {
     let start = gap_end(source, at);
     if start == source.len() {

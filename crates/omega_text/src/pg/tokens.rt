@@ -1,28 +1,22 @@
-ghost use Rattle.std.specs.Prelude.{◌≡◌, ◌⊎◌, map, IfErr, IfOk};
-ghost use Rattle.omega_text.specs.pg.Cut.{IsCut};
-ghost use Rattle.omega_text.specs.pg.Fault.{IsRefusedBy};
+ghost use Rattle.std.specs.Prelude.{map, IfErr, IfOk};
+ghost use Rattle.omega_text.specs.Cut.{IsCut, IsRefusedBy};
 ghost use Rattle.omega_text.specs.Lexeme.{lexeme_of};
+ghost use Rattle.omega_text.specs.pg.Format.{pg_format};
 
 use super::kind::PgKind;
-use super::token::next_pg_token;
 use crate::refusal::Refusal;
 use crate::token::Token;
+use crate::tokens::all_tokens;
 use std::alloc::Global;
 
-/// All tokens of a game text, in order: refused 1 or 2 at the least place of a fault, or 60.
+/// All tokens of a PGSolver text, in order: refused 1 or 2 at the least place of a fault, or 60.
 ///
 /// The list takes 48 bytes a token at most. A reader that needs a token at a time calls `next_pg_token`.
 pub fn pg_tokens(alloc: Global, source: &[u8]) -> Result<Vec<Token<'_, PgKind>>, Refusal>
-    ensures cut { IfOk result (λ tokens. IsCut source.now (map lexeme_of tokens.items)) }
-    ensures refused { IfErr result (IsRefusedBy source.now) }
+    ensures cut { IfOk result (λ tokens. IsCut pg_format source.now (map lexeme_of tokens.items)) }
+    ensures refused { IfErr result (IsRefusedBy pg_format source.now) }
 {
-    let mut tokens = Vec::new(alloc);
-    let mut at = 0;
-    while let Some(token) = next_pg_token(source, at)? {
-        tokens.push(token)?;
-        at = token.span.end;
-    }
-    Ok(tokens)
+    all_tokens::<PgKind>(alloc, source)
 }
 
 // A list of tokens takes at most 48 bytes a token.

@@ -1,0 +1,5 @@
+-- Lemmas of every syntax.
+pub mod Faults
+pub mod Fronts
+pub mod Places
+pub mod Taking

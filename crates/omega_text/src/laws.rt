@@ -1,0 +1,63 @@
+//! What holds of the texts of every format and syntax, for callers' proofs: each call does nothing and states one law.
+
+ghost use Rattle.omega_text.specs.Cut.{CutOrFault, CutsAreOne, CutsHaveNoFault, CutsJoin, FaultsAreOne};
+ghost use Rattle.omega_text.specs.Syntax.{SyntaxFaultsAreFirst, TextFaultsAreOne, TextsHaveNoFault};
+
+use crate::syntax::TextSyntax;
+use crate::token_kind::TokenKind;
+
+pub use crate::limits::text_limits_are_stated;
+
+/// A text has at most one cut into tokens.
+pub fn cuts_are_one<K: TokenKind>()
+    ensures { CutsAreOne K.format }
+{
+    K::goes_on_one_way();
+}
+
+/// A text has at most one fault at its least place.
+pub fn faults_are_one<K: TokenKind>()
+    ensures { FaultsAreOne K.format }
+{
+    K::goes_on_one_way();
+}
+
+/// A text has a cut or a fault.
+pub fn cut_or_fault<K: TokenKind>()
+    ensures { CutOrFault K.format }
+{
+    K::goes_on_one_way();
+}
+
+/// A text that has a cut has no fault.
+pub fn cuts_have_no_fault<K: TokenKind>()
+    ensures { CutsHaveNoFault K.format }
+{
+    K::goes_on_one_way();
+}
+
+/// Cuts are joined end to end.
+pub fn cuts_join<K: TokenKind>()
+    ensures { CutsJoin K.format }
+{}
+
+/// A text has at most one fault by a syntax.
+pub fn text_faults_are_one<S: TextSyntax>()
+    ensures { TextFaultsAreOne S.syntax }
+{
+    S::goes_on_one_way();
+}
+
+/// A text within the limit that spells something has no fault.
+pub fn texts_have_no_fault<S: TextSyntax>()
+    ensures { TextsHaveNoFault S.syntax }
+{
+    S::goes_on_one_way();
+}
+
+/// A text of the grammar begins through each token before the place of a syntax fault, and through no other.
+pub fn syntax_faults_are_first<S: TextSyntax>()
+    ensures { SyntaxFaultsAreFirst S.syntax }
+{
+    S::goes_on_one_way();
+}
