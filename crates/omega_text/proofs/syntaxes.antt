@@ -1,4 +1,5 @@
 -- Lemmas of every syntax.
+pub mod Deciding
 pub mod Faults
 pub mod Fronts
 pub mod Places

@@ -1,10 +1,11 @@
 -- What was read of a text, token by token.
-use Rattle.std.specs.Prelude.{ℕ, Bool, true, false, Option, Some, None, List, [], ◌∷◌, ◌++◌}
+use Rattle.std.specs.Prelude.{ℕ, Bool, true, false, Option, Some, None, List, [], ◌∷◌, ◌++◌, length, ◌≤◌}
 use Rattle.omega_text.specs.Cases.{never, or_memory, or_text}
 use Rattle.omega_text.specs.Cut.{Cuts, IsCut, IsFault}
 use Rattle.omega_text.specs.Format.{Format}
 use Rattle.omega_text.specs.Lexeme.{Lexeme}
-use Rattle.omega_text.specs.Syntax.{IsWrongAt}
+use Rattle.omega_text.specs.Limits.{most_text}
+use Rattle.omega_text.specs.Syntax.{IsFaultBy, IsUnfinished, IsWrongAt}
 use Rattle.omega_text.specs.declared.refusal.Refusal.{Refusal}
 use Rattle.omega_text.specs.declared.refusal.text.TextFault.{TextFault}
 use Rattle.omega_text.specs.declared.refusal.text.TextFault.TheVariants.{Lex, Number, Syntax, TooLong}
@@ -51,3 +52,20 @@ IsTokenFault format begins source TooLong = ⊥
 -- the refusal of such a text, or memory
 abbrev pub IsTokenRefusal : {Kind : Type 0} → Format Kind → (List (Lexeme Kind) → Type 0) → List ℕ → Refusal → Type 0
 IsTokenRefusal format begins source = or_text (IsTokenFault format begins source) (or_memory never)
+
+-- a call said of tokens whether they are a text
+abbrev pub IsWholeOrUnfinished : {Kind : Type 0} → Bool → (begins completes : List (Lexeme Kind) → Type 0) → List (Lexeme Kind) → Type 0
+IsWholeOrUnfinished true begins completes lexemes = completes lexemes
+IsWholeOrUnfinished false begins completes lexemes = IsUnfinished begins completes lexemes
+
+-- the text is within the limit and was read, and its tokens were taken and are a text
+pub record IsReadText {Kind : Type 0} (format : Format Kind) (taken completes : List (Lexeme Kind) → Type 0) (source : List ℕ) : Type 0 where
+  pub short : length source ≤ most_text
+  pub lexemes : List (Lexeme Kind)
+  pub cut : IsCut format source lexemes
+  pub all_taken : taken lexemes
+  pub complete : completes lexemes
+
+-- the refusal of a text that can't be read so, or memory
+abbrev pub IsReadingRefusal : {Kind : Type 0} → Format Kind → (begins completes : List (Lexeme Kind) → Type 0) → List ℕ → Refusal → Type 0
+IsReadingRefusal format begins completes source = or_text (IsFaultBy format begins completes source) (or_memory never)

@@ -25,6 +25,10 @@ TokensBegin syntax lexemes = Begins syntax (map syntax.symbol lexemes)
 abbrev pub TokensSpell : {Kind Symbol Raw : Type 0} → Syntax Kind Symbol Raw → List (Lexeme Kind) → Raw → Type 0
 TokensSpell syntax lexemes raw = syntax.spells (map syntax.symbol lexemes) raw
 
+-- the tokens are a text
+abbrev pub TokensComplete : {Kind Symbol Raw : Type 0} → Syntax Kind Symbol Raw → List (Lexeme Kind) → Type 0
+TokensComplete {Kind} {Symbol} {Raw} syntax lexemes = (raw : Raw) × TokensSpell syntax lexemes raw
+
 -- the bytes can be cut into tokens that spell this raw text
 pub record IsTextOf {Kind Symbol Raw : Type 0} (syntax : Syntax Kind Symbol Raw) (source : List ℕ) (raw : Raw) : Type 0 where
   pub lexemes : List (Lexeme Kind)
@@ -42,22 +46,26 @@ pub record IsWrongAt {Kind : Type 0} (begins : List (Lexeme Kind) → Type 0) (l
   pub there : place ≡ wrong.span.start
 
 -- the tokens begin a text, and are none
-pub record IsUnfinished {Kind Symbol Raw : Type 0} (syntax : Syntax Kind Symbol Raw) (lexemes : List (Lexeme Kind)) : Type 0 where
-  pub begins : TokensBegin syntax lexemes
-  pub partial : (raw : Raw) → TokensSpell syntax lexemes raw → ⊥
+pub record IsUnfinished {Kind : Type 0} (begins completes : List (Lexeme Kind) → Type 0) (lexemes : List (Lexeme Kind)) : Type 0 where
+  pub begun : begins lexemes
+  pub partial : completes lexemes → ⊥
 
 -- the place of a syntax fault: that of the first wrong token, or the length of a text that ends too early
-pub record IsMisplaced {Kind Symbol Raw : Type 0} (syntax : Syntax Kind Symbol Raw) (source : List ℕ) (place : ℕ) : Type 0 where
+pub record IsMisplaced {Kind : Type 0} (format : Format Kind) (begins completes : List (Lexeme Kind) → Type 0) (source : List ℕ) (place : ℕ) : Type 0 where
   pub lexemes : List (Lexeme Kind)
-  pub cut : IsCut syntax.format source lexemes
-  pub fault_there : IsWrongAt (TokensBegin syntax) lexemes place ⊎ (IsUnfinished syntax lexemes × (place ≡ length source))
+  pub cut : IsCut format source lexemes
+  pub fault_there : IsWrongAt begins lexemes place ⊎ (IsUnfinished begins completes lexemes × (place ≡ length source))
 
--- the fault of bytes that are no text: the length first, then tokens, then syntax
+-- the fault of bytes, where it is known which tokens begin a text and which are one: the length first, then tokens, then syntax
+abbrev pub IsFaultBy : {Kind : Type 0} → Format Kind → (begins completes : List (Lexeme Kind) → Type 0) → List ℕ → TextFault → Type 0
+IsFaultBy format begins completes source (Lex at) = (length source ≤ most_text) × IsFault format source (Lex at)
+IsFaultBy format begins completes source (Number at) = (length source ≤ most_text) × IsFault format source (Number at)
+IsFaultBy format begins completes source (SyntaxFault at) = (length source ≤ most_text) × IsMisplaced format begins completes source at
+IsFaultBy format begins completes source TooLong = most_text < length source
+
+-- the fault of bytes that are no text of a syntax
 abbrev pub IsTextFault : {Kind Symbol Raw : Type 0} → Syntax Kind Symbol Raw → List ℕ → TextFault → Type 0
-IsTextFault syntax source (Lex at) = (length source ≤ most_text) × IsFault syntax.format source (Lex at)
-IsTextFault syntax source (Number at) = (length source ≤ most_text) × IsFault syntax.format source (Number at)
-IsTextFault syntax source (SyntaxFault at) = (length source ≤ most_text) × IsMisplaced syntax source at
-IsTextFault syntax source TooLong = most_text < length source
+IsTextFault syntax = IsFaultBy syntax.format (TokensBegin syntax) (TokensComplete syntax)
 
 -- a text has at most one fault
 abbrev pub TextFaultsAreOne : {Kind Symbol Raw : Type 0} → Syntax Kind Symbol Raw → Type 0
@@ -73,3 +81,14 @@ abbrev pub SyntaxFaultsAreFirst : {Kind Symbol Raw : Type 0} → Syntax Kind Sym
 SyntaxFaultsAreFirst {Kind} syntax = (source : List ℕ) (place : ℕ) (front rest : List (Lexeme Kind)) (token : Lexeme Kind)
     → IsTextFault syntax source (SyntaxFault place) → IsCut syntax.format source (front ++ token ∷ rest)
     → TokensBegin syntax (front ++ token ∷ []) ↔ (token.span.start < place)
+
+-- there is a text, and of all symbols it can be said whether they begin one and whether they are one
+pub record IsDecided {Kind Symbol Raw : Type 0} (syntax : Syntax Kind Symbol Raw) : Type 0 where
+  pub some_text : Begins syntax []
+  pub begins_or_not : (symbols : List Symbol) → Begins syntax symbols ⊎ (Begins syntax symbols → ⊥)
+  pub spells_or_not : (symbols : List Symbol) → ((raw : Raw) × syntax.spells symbols raw) ⊎ ((raw : Raw) → syntax.spells symbols raw → ⊥)
+
+-- each text within the limit spells something, or the bytes have a fault
+abbrev pub TextsAreReadOrFaulty : {Kind Symbol Raw : Type 0} → Syntax Kind Symbol Raw → Type 0
+TextsAreReadOrFaulty {Kind} {Symbol} {Raw} syntax = (source : List ℕ)
+    → ((length source ≤ most_text) × ((raw : Raw) × IsTextOf syntax source raw)) ⊎ ((fault : TextFault) × IsTextFault syntax source fault)

@@ -1,12 +1,11 @@
 //! What holds of the texts of every format and syntax, for callers' proofs: each call does nothing and states one law.
 
 ghost use Rattle.omega_text.specs.Cut.{CutOrFault, CutsAreOne, CutsHaveNoFault, CutsJoin, FaultsAreOne};
-ghost use Rattle.omega_text.specs.Syntax.{SyntaxFaultsAreFirst, TextFaultsAreOne, TextsHaveNoFault};
-
-use crate::syntax::TextSyntax;
-use crate::token_kind::TokenKind;
+ghost use Rattle.omega_text.specs.Syntax.{IsDecided, SyntaxFaultsAreFirst, TextFaultsAreOne, TextsAreReadOrFaulty, TextsHaveNoFault};
 
 pub use crate::limits::text_limits_are_stated;
+use crate::syntax::TextSyntax;
+use crate::token_kind::TokenKind;
 
 /// A text has at most one cut into tokens.
 pub fn cuts_are_one<K: TokenKind>()
@@ -58,6 +57,13 @@ pub fn texts_have_no_fault<S: TextSyntax>()
 /// A text of the grammar begins through each token before the place of a syntax fault, and through no other.
 pub fn syntax_faults_are_first<S: TextSyntax>()
     ensures { SyntaxFaultsAreFirst S.syntax }
+{
+    S::goes_on_one_way();
+}
+
+/// Each text within the limit spells something, or has a fault, if the syntax is decided.
+pub fn texts_are_read_or_faulty<S: TextSyntax>()
+    ensures { IsDecided S.syntax → TextsAreReadOrFaulty S.syntax }
 {
     S::goes_on_one_way();
 }

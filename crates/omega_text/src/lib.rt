@@ -8,6 +8,7 @@ pub mod laws;
 mod limits;
 mod number;
 pub mod pg;
+mod reading;
 mod refusal;
 mod seq;
 mod syntax;
@@ -20,12 +21,13 @@ pub use cursor::Cursor;
 pub use limits::{MOST_NUMBER, MOST_TEXT};
 pub use number::write_number;
 pub use pg::{PgKind, next_pg_token, pg_tokens};
+pub use reading::read_text;
 pub use refusal::{AutomatonFault, GameFault, Refusal, TaskFault, TextFault};
 pub use seq::Seq;
 pub use syntax::TextSyntax;
 pub use token::{Span, Token};
 pub use token_kind::TokenKind;
-pub use token_reader::{TokenReader, read_tokens};
+pub use token_reader::TokenReader;
 
 #[cfg(test)]
 mod tests;

@@ -8,7 +8,10 @@ use crate::token_kind::TokenKind;
 use std::alloc::Global;
 
 /// All tokens of a text, in order: refused 1 or 2 at the least place of a fault, or 60.
-pub(crate) fn all_tokens<K: TokenKind>(alloc: Global, source: &[u8]) -> Result<Vec<Token<'_, K>>, Refusal>
+pub(crate) fn all_tokens<K: TokenKind>(
+    alloc: Global,
+    source: &[u8],
+) -> Result<Vec<Token<'_, K>>, Refusal>
     ensures cut { IfOk result (λ tokens. IsCut K.format source.now (map lexeme_of tokens.items)) }
     ensures refused { IfErr result (IsRefusedBy K.format source.now) }
 {

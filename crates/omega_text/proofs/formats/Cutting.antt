@@ -1,7 +1,7 @@
 -- Cuts, piece by piece, and that each text has one or a fault.
-use Rattle.std.proofs.Common.{◌≡◌, ℕ, zero, suc, ◌+◌, ◌<◌, ◌≤◌, ◌⊎◌, inl, inr, ⊎_elim, List, [], ◌∷◌, ◌++◌, length, map, refl, sym, subst, arith}
+use Rattle.std.proofs.Common.{ℕ, zero, suc, ◌+◌, ◌≤◌, ◌⊎◌, inl, inr, ⊎_elim, List, [], ◌∷◌, ◌++◌, length, map, refl, sym, subst, arith}
 use Rattle.std.proofs.lemmas.List.{map_push}
-use Rattle.omega_text.specs.Cut.{CutOrFault, Cuts, IsCut, IsFault}
+use Rattle.omega_text.specs.Cut.{CutOrFault, Cuts}
 use Rattle.omega_text.specs.Format.{Format, IsExact}
 use Rattle.omega_text.specs.Lexeme.{Lexeme, lexeme_of}
 use Rattle.omega_text.specs.declared.refusal.text.TextFault.{TextFault}

@@ -4,8 +4,7 @@ use Rattle.omega_text.specs.Cut.{IsCut}
 use Rattle.omega_text.specs.Format.{IsExact}
 use Rattle.omega_text.specs.Lexeme.{Lexeme}
 use Rattle.omega_text.specs.Limits.{most_text}
-use Rattle.omega_text.specs.Syntax.{IsMisplaced, IsTextFault, IsTextOf, IsUnfinished, IsWrongAt, Syntax, TextFaultsAreOne, TextsHaveNoFault, TokensBegin, TokensSpell}
-use Rattle.omega_text.specs.declared.refusal.text.TextFault.{TextFault}
+use Rattle.omega_text.specs.Syntax.{IsMisplaced, IsUnfinished, IsWrongAt, Syntax, TextFaultsAreOne, TextsHaveNoFault, TokensBegin, TokensComplete, TokensSpell}
 use Rattle.omega_text.specs.declared.refusal.text.TextFault.TheVariants.{Lex, Number, Syntax as SyntaxFault, TooLong}
 use Rattle.omega_text.proofs.formats.Stops.{not_both, one_cut, one_fault}
 use Rattle.omega_text.proofs.syntaxes.Fronts.{wrong_ends, wrong_one}
@@ -17,22 +16,22 @@ both_lengths size short long = omega arith
 module _ {Kind Symbol Raw : Type 0} (syntax : Syntax Kind Symbol Raw) (exact : IsExact syntax.format) where
   -- tokens that are no text, with the place of their fault, and the length of the text
   abbrev pub IsMisplacedIn : List (Lexeme Kind) → ℕ → ℕ → Type 0
-  IsMisplacedIn lexemes size place = IsWrongAt (TokensBegin syntax) lexemes place ⊎ (IsUnfinished syntax lexemes × (place ≡ size))
+  IsMisplacedIn lexemes size place = IsWrongAt (TokensBegin syntax) lexemes place ⊎ (IsUnfinished (TokensBegin syntax) (TokensComplete syntax) lexemes × (place ≡ size))
 
   -- the place of a syntax fault among the tokens of a cut
-  pub misplaced_in : (source : List ℕ) (lexemes : List (Lexeme Kind)) (place : ℕ) → IsCut syntax.format source lexemes → IsMisplaced syntax source place
+  pub misplaced_in : (source : List ℕ) (lexemes : List (Lexeme Kind)) (place : ℕ) → IsCut syntax.format source lexemes → IsMisplaced syntax.format (TokensBegin syntax) (TokensComplete syntax) source place
       → IsMisplacedIn lexemes (length source) place
   misplaced_in source lexemes place cut misplaced =
       subst (λ list. IsMisplacedIn list (length source) place) (one_cut syntax.format exact source misplaced.lexemes lexemes misplaced.cut cut) misplaced.fault_there
 
   misplaced_one : (lexemes : List (Lexeme Kind)) (size place other : ℕ) → IsMisplacedIn lexemes size place → IsMisplacedIn lexemes size other → place ≡ other
   misplaced_one lexemes size place other (inl a) (inl b) = wrong_one syntax lexemes place other a b
-  misplaced_one lexemes size place other (inl a) (inr b) = absurd (wrong_ends syntax lexemes place a b.0.begins)
-  misplaced_one lexemes size place other (inr a) (inl b) = absurd (wrong_ends syntax lexemes other b a.0.begins)
+  misplaced_one lexemes size place other (inl a) (inr b) = absurd (wrong_ends syntax lexemes place a b.0.begun)
+  misplaced_one lexemes size place other (inr a) (inl b) = absurd (wrong_ends syntax lexemes other b a.0.begun)
   misplaced_one lexemes size place other (inr a) (inr b) = a.1 ∙ sym b.1
 
   -- a syntax fault has one place
-  one_place : (source : List ℕ) (place other : ℕ) → IsMisplaced syntax source place → IsMisplaced syntax source other → place ≡ other
+  one_place : (source : List ℕ) (place other : ℕ) → IsMisplaced syntax.format (TokensBegin syntax) (TokensComplete syntax) source place → IsMisplaced syntax.format (TokensBegin syntax) (TokensComplete syntax) source other → place ≡ other
   one_place source place other a b =
       misplaced_one b.lexemes (length source) place other (misplaced_in source b.lexemes place b.cut a) b.fault_there
 
@@ -40,7 +39,7 @@ module _ {Kind Symbol Raw : Type 0} (syntax : Syntax Kind Symbol Raw) (exact : I
   misplaced_apart lexemes size place raw (inl wrong) text =
       wrong_ends syntax lexemes place wrong
       (([], raw, subst (λ list. syntax.spells list raw) (sym (append-nil (map syntax.symbol lexemes))) text))
-  misplaced_apart lexemes size place raw (inr unfinished) text = unfinished.0.partial raw text
+  misplaced_apart lexemes size place raw (inr unfinished) text = unfinished.0.partial (raw, text)
 
   -- what is written has no fault
   pub texts_have_no_fault : TextsHaveNoFault syntax

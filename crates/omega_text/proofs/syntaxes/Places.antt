@@ -1,6 +1,6 @@
 -- The places of tokens, and of a syntax fault among them.
 use Rattle.std.proofs.Common.{ℕ, ◌<◌, ◌≤◌, ◌↔◌, inl, inr, List, [], ◌∷◌, ◌++◌, length, refl, ap, ◌∙◌, subst, append_assoc, arith}
-use Rattle.omega_text.specs.Cut.{Cuts, IsCut}
+use Rattle.omega_text.specs.Cut.{Cuts}
 use Rattle.omega_text.specs.Format.{Format, IsExact}
 use Rattle.omega_text.specs.Lexeme.{Lexeme}
 use Rattle.omega_text.specs.Syntax.{IsWrongAt, Syntax, SyntaxFaultsAreFirst, TokensBegin}
@@ -72,6 +72,6 @@ module _ {Kind Symbol Raw : Type 0} (syntax : Syntax Kind Symbol Raw) (exact : I
         | inl wrong ↦ first_wrong source cut.end place front rest token cut.cuts wrong
         | inr unfinished ↦ (
           (λ begins. let before : token.span.start < length source = within syntax.format exact source 0 cut.end front rest token cut.cuts in omega (arith, unfinished.1)),
-          (λ before. begins_through syntax front (front ++ token ∷ rest) token (rest, refl) unfinished.0.begins),
+          (λ before. begins_through syntax front (front ++ token ∷ rest) token (rest, refl) unfinished.0.begun),
         )
       ]

@@ -1,5 +1,5 @@
 -- One token more of a text that is read.
-use Rattle.std.proofs.Common.{◌≡◌, ℕ, Bool, true, false, Option, Some, None, List, [], ◌∷◌, ◌++◌, refl, sym, subst}
+use Rattle.std.proofs.Common.{◌≡◌, ℕ, Bool, true, false, Option, Some, None, List, [], ◌∷◌, ◌++◌, refl}
 use Rattle.std.specs.Prelude.{is_some}
 use Rattle.omega_text.specs.Format.{Format, IsLexical}
 use Rattle.omega_text.specs.Lexeme.{Lexeme}

@@ -1,14 +1,12 @@
 -- What holds of every game text and its cut, and how written tokens are cut.
-use Rattle.std.specs.Prelude.{◌≡◌, ℕ, ◌+◌, ◌<◌, ◌≤◌, false, ◌⊎◌, ◌↔◌, List, ◌++◌, length, drop, slice_index, decimal}
+use Rattle.std.specs.Prelude.{◌≡◌, ℕ, ◌+◌, ◌<◌, ◌≤◌, false, ◌↔◌, List, ◌++◌, length, drop, slice_index, decimal}
 use Rattle.std.specs.List.{AllPass}
 use Rattle.std.specs.Str.Parse.{digits_value}
 use Rattle.omega_text.specs.pg.Bytes.{is_digit, is_white, is_word_byte}
 use Rattle.omega_text.specs.pg.Cut.{Follows, IsGap}
-use Rattle.omega_text.specs.pg.Fault.{Faults}
 use Rattle.omega_text.specs.pg.Forms.{IsDigits, IsLongest, IsQuoted, IsSign, IsWord, Spells}
-use Rattle.omega_text.specs.Lexeme.{Lexeme, lexeme_at}
+use Rattle.omega_text.specs.Lexeme.{lexeme_at}
 use Rattle.omega_text.specs.Limits.{most_number}
-use Rattle.omega_text.specs.declared.refusal.text.TextFault.{TextFault}
 use Rattle.omega_text.specs.declared.pg.kind.PgKind.{PgKind}
 use Rattle.omega_text.specs.declared.pg.kind.PgKind.TheVariants.{Number}
 
