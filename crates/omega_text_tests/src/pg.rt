@@ -1,10 +1,10 @@
-use crate::{Cursor, PgKind, Seq, TextFault, next_pg_token, pg_tokens, write_number};
+use omega_text::{PgKind, TextFault, next_pg_token, pg_tokens};
 use std::alloc::Global;
 use std::test::Fail;
 
 // How many tokens a text has, or the number and the place of its refusal.
-fn answer(alloc: Global, text: &str) -> Result<usize, (u32, Option<usize>)> {
-    match pg_tokens(alloc, text.as_bytes()) {
+fn answer(alloc: Global, text: &[u8]) -> Result<usize, (u32, Option<usize>)> {
+    match pg_tokens(alloc, text) {
         Ok(tokens) => Ok(tokens.len()),
         Err(refusal) => Err((refusal.number(), refusal.at())),
     }
@@ -60,7 +60,11 @@ const CUT: [(&str, usize); 9] = [
 #[test]
 fn tokens_are_the_longest(rt: HostRuntime) {
     for (text, count) in CUT.iter() {
-        assert_eq!(rt; answer(rt.alloc(), text), Ok(*count), "for {text:?}");
+        assert_eq!(rt;
+            answer(rt.alloc(), text.as_bytes()),
+            Ok(*count),
+            "for {text:?}"
+        );
     }
 }
 
@@ -93,7 +97,7 @@ const REFUSED: [(&str, u32, usize); 22] = [
 fn wrong_texts_are_refused(rt: HostRuntime) {
     for (text, number, at) in REFUSED.iter() {
         assert_eq!(rt;
-            answer(rt.alloc(), text),
+            answer(rt.alloc(), text.as_bytes()),
             Err((*number, Some(*at))),
             "for {text:?}"
         );
@@ -116,42 +120,20 @@ fn tokens_come_one_at_a_time(rt: HostRuntime) -> Result<(), Fail> {
 }
 
 #[test]
-fn a_cursor_goes_over_tokens(rt: HostRuntime) -> Result<(), Fail> {
-    let text = b"5 ;  ".as_slice();
-    let tokens = pg_tokens(rt.alloc(), text)?;
-    let mut cursor = Cursor::new(tokens.as_slice(), text.len());
-    assert_eq!(rt; cursor.place(), 0);
-    assert_eq!(rt; cursor.look().ok_or("a number")?.value, 5);
-    assert_eq!(rt; cursor.take().ok_or("a number")?.value, 5);
-    assert_eq!(rt; cursor.place(), 2);
-    assert_eq!(rt; cursor.take().ok_or("a sign")?.kind, PgKind::Semicolon);
-    assert_eq!(rt; cursor.look().is_none(), true);
-    assert_eq!(rt; cursor.take().is_none(), true);
-    assert_eq!(rt; cursor.place(), 5);
-    Ok(())
-}
-
-#[test]
-fn numbers_are_written(rt: HostRuntime) -> Result<(), Fail> {
-    let mut out = Vec::new(rt.alloc());
-    for n in [0, 9, 10, 18_446_744_073_709_551_616, u128::MAX] {
-        write_number(n, &mut out)?;
-        out.push(b' ')?;
+fn names_are_cut_at_each_length(rt: HostRuntime) -> Result<(), Fail> {
+    let mut text = vec![in rt.alloc(); b'"']?;
+    for length in 0..300usize {
+        text.push(b'"')?;
+        let name = next_pg_token(text.as_slice(), 0)?.ok_or("a name")?;
+        assert_eq!(rt; name.kind, PgKind::Name);
+        assert_eq!(rt; name.text, text.as_slice());
+        text.pop();
+        text.push(b'a')?;
+        assert_eq!(rt;
+            answer(rt.alloc(), text.as_slice()),
+            Err((1, Some(0))),
+            "after {length}"
+        );
     }
-    let want = b"0 9 10 18446744073709551616 340282366920938463463374607431768211455 ";
-    assert_eq!(rt; out.as_slice(), want.as_slice());
-    Ok(())
-}
-
-#[test]
-fn plain_lists_are_compared_by_their_values(rt: HostRuntime) -> Result<(), Fail> {
-    let pair = Seq::from_vec(vec![in rt.alloc(); 1u32, 2]?);
-    let other = Seq::from_vec(vec![in rt.alloc(); 1u32, 3]?);
-    let none: Seq<u32> = Seq::new(rt.alloc());
-    assert_ne!(rt; pair, other);
-    assert_ne!(rt; pair, none);
-    assert_eq!(rt; pair.len(), 2);
-    assert_eq!(rt; other.as_slice(), [1, 3].as_slice());
-    assert_eq!(rt; pair.into_vec().as_slice(), [1, 2].as_slice());
     Ok(())
 }
