@@ -1,10 +1,12 @@
-pub mod Bytes
+-- What contracts cite: refusals and limits, then tokens, texts and how they are read; of PGSolver's texts in `pg`.
 pub mod Cases
 pub mod Cursor
 pub mod Cut
-pub mod Fault
-pub mod Forms
-pub mod Laws
+pub mod Format
 pub mod Lexeme
 pub mod Limits
+pub mod Reading
 pub mod Refusal
+pub mod Syntax
+pub mod pg
+pub mod reader
