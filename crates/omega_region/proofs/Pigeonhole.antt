@@ -1,7 +1,7 @@
 -- Among n + 1 numbers below n two are equal: found by search, never by contradiction.
 use Rattle.std.proofs.Common.{◌≡◌, ◌≢◌, ℕ, zero, suc, ◌-◌, ◌<◌, ◌≤◌, ◌⊎◌, inl, inr, arith, le_refl}
 use Rattle.std.proofs.lemmas.Bool.{cases_lt, cases_eq}
-use Rattle.omega_game.proofs.Search.{sought_below}
+use Rattle.omega_region.proofs.Search.{sought_below}
 
 -- f takes the value c below k
 abbrev pub TakesBelow : (ℕ → ℕ) → ℕ → ℕ → Type 0

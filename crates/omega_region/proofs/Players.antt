@@ -3,33 +3,28 @@ use Rattle.std.proofs.Common.{◌≡◌, ℕ, ◌%◌, ◌⊎◌, inl, inr, Bool
 use Rattle.std.proofs.lemmas.Bool.{cases_eq}
 use Rattle.omega_game.specs.declared.player.Player.{Player}
 use Rattle.omega_game.specs.declared.player.Player.TheVariants.{Zero, One}
-use Rattle.omega_game.specs.Player.{loses}
-
--- the other player
-abbrev pub other : Player → Player
-other Zero = One
-other One = Zero
+use Rattle.omega_game.specs.Player.{loses, opponent_of}
 
 -- the other of the other
-pub other_twice : (i : Player) → other (other i) ≡ i
-other_twice Zero = refl
-other_twice One = refl
+pub opponent_twice : (i : Player) → opponent_of (opponent_of i) ≡ i
+opponent_twice Zero = refl
+opponent_twice One = refl
 
 -- a player is a given one or the other
-pub cases_player : (p i : Player) → (p ≡ i) ⊎ (p ≡ other i)
+pub cases_player : (p i : Player) → (p ≡ i) ⊎ (p ≡ opponent_of i)
 cases_player Zero Zero = inl refl
 cases_player Zero One = inr refl
 cases_player One Zero = inr refl
 cases_player One One = inl refl
 
 -- no player is the other
-pub apart_from_other : (i : Player) → i ≡ other i → ⊥
-apart_from_other Zero e = absurd (cc)
-apart_from_other One e = absurd (cc)
+pub apart_from_opponent : (i : Player) → i ≡ opponent_of i → ⊥
+apart_from_opponent Zero e = absurd (cc)
+apart_from_opponent One e = absurd (cc)
 
 -- no player is both
-pub not_both : (p i : Player) → p ≡ i → p ≡ other i → ⊥
-not_both p i e f = apart_from_other i (sym e ∙ f)
+pub not_both : (p i : Player) → p ≡ i → p ≡ opponent_of i → ⊥
+not_both p i e f = apart_from_opponent i (sym e ∙ f)
 
 -- whether the two are one player
 abbrev pub is_player : Player → Player → Bool

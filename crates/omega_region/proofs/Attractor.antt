@@ -3,9 +3,10 @@ use Rattle.std.proofs.Common.{◌≡◌, ◌≢◌, ℕ, zero, suc, ◌<◌, ◌
 use Rattle.std.proofs.lemmas.Bool.{cases_Bool, cases_eq, false≢true, false_from_ne_true, true_from_ne_false}
 use Rattle.omega_game.specs.declared.player.Player.{Player}
 use Rattle.omega_game.specs.Game.{Node, HasEdge, owner_at, successors_at}
-use Rattle.omega_game.proofs.Places.{minus, minus_parts, minus_from, minus_out, size, size_lt, changed, changed_at, changed_off}
-use Rattle.omega_game.proofs.Players.{other, cases_player, not_both}
-use Rattle.omega_game.proofs.Search.{sought_below, sought_in}
+use Rattle.omega_region.proofs.Places.{minus, minus_parts, minus_from, minus_out, size, size_lt, changed, changed_at, changed_off}
+use Rattle.omega_game.specs.Player.{opponent_of}
+use Rattle.omega_region.proofs.Players.{cases_player, not_both}
+use Rattle.omega_region.proofs.Search.{sought_below, sought_in}
 
 -- from each place of A outside the target the player draws on in A, to smaller ranks, all below the bound
 pub record IsDrawn (nodes : List Node) (S T : ℕ → Bool) (player : Player) (A : ℕ → Bool) (rank pick : ℕ → ℕ) (bound : ℕ) : Type 0 where
@@ -19,7 +20,7 @@ pub record IsDrawn (nodes : List Node) (S T : ℕ → Bool) (player : Player) (A
 -- a place from which the player cannot draw into A: none of the player's successors is in it, or one of the other's is outside
 pub record IsStuck (nodes : List Node) (S : ℕ → Bool) (player : Player) (A : ℕ → Bool) (v : ℕ) : Type 0 where
   pub own : owner_at nodes v ≡ player → (w : ℕ) → HasEdge nodes v w → S w ≡ true → A w ≡ false
-  pub free : owner_at nodes v ≡ other player → (w : ℕ) × HasEdge nodes v w × (S w ≡ true) × (A w ≡ false)
+  pub free : owner_at nodes v ≡ opponent_of player → (w : ℕ) × HasEdge nodes v w × (S w ≡ true) × (A w ≡ false)
 
 -- a set from which the player draws on into the target, and outside which every place is stuck
 pub record Attractor (nodes : List Node) (S T : ℕ → Bool) (player : Player) : Type 0 where
@@ -54,7 +55,7 @@ ready_or_stuck nodes S player A inside v = go (cases_player (owner_at nodes v) p
       free = λ owns_not. absurd (not_both (owner_at nodes v) player owns owns_not);
     })
 
-    free : owner_at nodes v ≡ other player → ((w : ℕ) × HasEdge nodes v w × (minus S A w ≡ true)) ⊎ ((w : ℕ) → HasEdge nodes v w → minus S A w ≡ false)
+    free : owner_at nodes v ≡ opponent_of player → ((w : ℕ) × HasEdge nodes v w × (minus S A w ≡ true)) ⊎ ((w : ℕ) → HasEdge nodes v w → minus S A w ≡ false)
         → ((x : ℕ) × IsReady nodes S player A v x) ⊎ IsStuck nodes S player A v
     free owns_not (inl found) = inr (record {
       own = λ owns. absurd (not_both (owner_at nodes v) player owns owns_not);
@@ -68,7 +69,7 @@ ready_or_stuck nodes S player A inside v = go (cases_player (owner_at nodes v) p
       },
     )
 
-    go : (owner_at nodes v ≡ player) ⊎ (owner_at nodes v ≡ other player) → ((x : ℕ) × IsReady nodes S player A v x) ⊎ IsStuck nodes S player A v
+    go : (owner_at nodes v ≡ player) ⊎ (owner_at nodes v ≡ opponent_of player) → ((x : ℕ) × IsReady nodes S player A v x) ⊎ IsStuck nodes S player A v
     go (inl owns) = own owns (sought_in (λ w. A w ≡ true) (λ w. A w ≡ false) (λ w. cases_Bool (A w)) (successors_at nodes v))
     go (inr owns_not) = free owns_not (sought_in (λ w. minus S A w ≡ true) (λ w. minus S A w ≡ false) (λ w. cases_Bool (minus S A w)) (successors_at nodes v))
 

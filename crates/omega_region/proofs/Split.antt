@@ -5,11 +5,12 @@ use Rattle.omega_game.specs.declared.player.Player.{Player}
 use Rattle.omega_game.specs.Game.{Node, HasEdge, owner_at, priority_at, successors_at}
 use Rattle.omega_game.specs.Winning.{end_of, greatest_on}
 use Rattle.omega_game.specs.Player.{loses}
-use Rattle.omega_game.proofs.Attractor.{Attractor}
-use Rattle.omega_game.proofs.Places.{minus, minus_parts, minus_from, minus_out, size, size_lt}
-use Rattle.omega_game.proofs.Players.{other, other_twice, cases_player, is_player, is_player-true, is_player-same}
-use Rattle.omega_game.proofs.Search.{sought_in}
-use Rattle.omega_game.proofs.Tours.{IsTour, Meets, Along, greatest_le, le-greatest, tour_start, along_tour, kept_along, met_at_end, retour, met_or_outside}
+use Rattle.omega_region.proofs.Attractor.{Attractor}
+use Rattle.omega_region.proofs.Places.{minus, minus_parts, minus_from, minus_out, size, size_lt}
+use Rattle.omega_game.specs.Player.{opponent_of}
+use Rattle.omega_region.proofs.Players.{opponent_twice, cases_player, is_player, is_player-true, is_player-same}
+use Rattle.omega_region.proofs.Search.{sought_in}
+use Rattle.omega_region.proofs.Tours.{IsTour, Meets, Along, greatest_le, le-greatest, tour_start, along_tour, kept_along, met_at_end, retour, met_or_outside}
 
 -- a set of places of the game in which each has a listed successor
 pub record IsSubgame (nodes : List Node) (S : ℕ → Bool) : Type 0 where
@@ -36,7 +37,7 @@ remaining nodes S T player A sub = record {
   continued = λ v left. go v (minus_parts S A.set v left) (cases_player (owner_at nodes v) player);
 }
   where
-    go : (v : ℕ) → (S v ≡ true) × (A.set v ≡ false) → (owner_at nodes v ≡ player) ⊎ (owner_at nodes v ≡ other player)
+    go : (v : ℕ) → (S v ≡ true) × (A.set v ≡ false) → (owner_at nodes v ≡ player) ⊎ (owner_at nodes v ≡ opponent_of player)
         → (w : ℕ) × HasEdge nodes v w × (minus S A.set w ≡ true)
     go v parts (inl owns) =
         let next = sub.continued v parts.0 in
@@ -170,7 +171,7 @@ abbrev pub won_by : {nodes : List Node} {S : ℕ → Bool} → Player → Split 
 won_by {S = S} player split v = S v && is_player (split.winner v) player
 
 -- a player's attractor for the places that the player wins of what the other's attractor leaves, and a split of what that leaves
-module _ (nodes : List Node) (S T : ℕ → Bool) (player : Player) (A : Attractor nodes S T (other player)) (rest : Split nodes (minus S A.set))
+module _ (nodes : List Node) (S T : ℕ → Bool) (player : Player) (A : Attractor nodes S T (opponent_of player)) (rest : Split nodes (minus S A.set))
     (B : Attractor nodes S (won_by player rest) player) (last : Split nodes (minus S B.set)) where
   -- the places that the player wins of what the other's attractor leaves
   abbrev held : ℕ → Bool
@@ -225,19 +226,19 @@ module _ (nodes : List Node) (S T : ℕ → Bool) (player : Player) (A : Attract
 
   -- a step from held stays outside the other's attractor
   left_from_held : (v w : ℕ) → held v ≡ true → JointGoes v w → S w ≡ true
-      → (owner_at nodes v ≡ other player) ⊎ (owner_at nodes v ≡ other (other player)) → minus S A.set w ≡ true
+      → (owner_at nodes v ≡ opponent_of player) ⊎ (owner_at nodes v ≡ opponent_of (opponent_of player)) → minus S A.set w ≡ true
   left_from_held v w here goes within (inl owns_not) =
       let parts = minus_parts S A.set v (held_parts v here).0 in
       minus_from S A.set w within ((A.stuck v parts.0 parts.1).own owns_not w goes.0 within)
   left_from_held v w here goes within (inr owns) =
       let wins = (held_parts v here).1 in
-      let mine : owner_at nodes v ≡ rest.winner v = owns ∙ other_twice player ∙ sym wins in
+      let mine : owner_at nodes v ≡ rest.winner v = owns ∙ opponent_twice player ∙ sym wins in
       subst (λ u. minus S A.set u ≡ true) (sym ((goes_in_rest v w here goes).1 mine)) (rest.chosen v (held_parts v here).0 mine).1
 
   -- steps from held places lead to held places
   kept_in_held : (v w : ℕ) → held v ≡ true → JointGoes v w → S w ≡ true → held w ≡ true
   kept_in_held v w here goes within =
-      let left = left_from_held v w here goes within (cases_player (owner_at nodes v) (other player)) in
+      let left = left_from_held v w here goes within (cases_player (owner_at nodes v) (opponent_of player)) in
       held_from w left (rest.kept v w (held_parts v here).0 left (goes_in_rest v w here goes) ∙ (held_parts v here).1)
 
   -- within the attractor ranks fall
@@ -262,7 +263,7 @@ module _ (nodes : List Node) (S T : ℕ → Bool) (player : Player) (A : Attract
 
   -- only the player's places lead into the attractor
   enters_attractor : (v w : ℕ) → S v ≡ true → B.set v ≡ false → JointGoes v w → S w ≡ true → B.set w ≡ true
-      → (last.winner v ≡ player) ⊎ (last.winner v ≡ other player) → (owner_at nodes v ≡ player) ⊎ (owner_at nodes v ≡ other player) → last.winner v ≡ player
+      → (last.winner v ≡ player) ⊎ (last.winner v ≡ opponent_of player) → (owner_at nodes v ≡ player) ⊎ (owner_at nodes v ≡ opponent_of player) → last.winner v ≡ player
   enters_attractor v w here out goes within drawn (inl wins) o = wins
   enters_attractor v w here out goes within drawn (inr loses_here) (inl owns) =
       absurd (false≢true (sym ((B.stuck v here out).own owns w goes.0 within) ∙ drawn))

@@ -5,9 +5,9 @@ use Rattle.omega_game.specs.declared.player.Player.TheVariants.{Zero, One}
 use Rattle.omega_game.specs.Game.{Node, IsGame, HasEdge, owner_at}
 use Rattle.omega_game.specs.Winning.{IsStrategy, Leaves, Wins, InRegion, end_of, greatest_on}
 use Rattle.omega_game.specs.Player.{loses}
-use Rattle.omega_game.proofs.Following.{reached, trail, end-trail, longer_trail, reached-add, reached_below, walk_of_trail, choice_at, some_left}
-use Rattle.omega_game.proofs.Pigeonhole.{Repeats, repeats}
-use Rattle.omega_game.proofs.Players.{loses_for_one}
+use Rattle.omega_region.proofs.Following.{reached, trail, end-trail, longer_trail, reached-add, reached_below, walk_of_trail, choice_at, some_left}
+use Rattle.omega_region.proofs.Pigeonhole.{Repeats, repeats}
+use Rattle.omega_region.proofs.Players.{loses_for_one}
 
 -- the first's choice at the nodes of player 0, the second's at the others
 abbrev by_owner : Player → ℕ → ℕ → ℕ

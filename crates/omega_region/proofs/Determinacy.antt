@@ -7,14 +7,15 @@ use Rattle.omega_game.specs.declared.player.Player.TheVariants.{Zero, One}
 use Rattle.omega_game.specs.Game.{Node, IsGame, HasEdge, owner_at, successors_at}
 use Rattle.omega_game.specs.Winning.{IsStrategy, Leaves, IsWalk, Wins, InRegion, end_of, greatest_on}
 use Rattle.omega_game.specs.Player.{loses}
-use Rattle.omega_game.proofs.Apart.{apart}
-use Rattle.omega_game.proofs.Choices.{entries_of, length_entries, picked, picks}
-use Rattle.omega_game.proofs.Following.{first_listed}
-use Rattle.omega_game.proofs.Places.{size}
-use Rattle.omega_game.proofs.Players.{other, cases_player, is_player, is_player-true, is_player-same}
-use Rattle.omega_game.proofs.Split.{IsSubgame, Split, Goes}
-use Rattle.omega_game.proofs.Tours.{IsTour}
-use Rattle.omega_game.proofs.Zielonka.{split_of}
+use Rattle.omega_region.proofs.Apart.{apart}
+use Rattle.omega_region.proofs.Choices.{entries_of, length_entries, picked, picks}
+use Rattle.omega_region.proofs.Following.{first_listed}
+use Rattle.omega_region.proofs.Places.{size}
+use Rattle.omega_game.specs.Player.{opponent_of}
+use Rattle.omega_region.proofs.Players.{cases_player, is_player, is_player-true, is_player-same}
+use Rattle.omega_region.proofs.Split.{IsSubgame, Split, Goes}
+use Rattle.omega_region.proofs.Tours.{IsTour}
+use Rattle.omega_region.proofs.Zielonka.{split_of}
 
 -- all places
 abbrev everywhere : List Node → ℕ → Bool
@@ -130,12 +131,12 @@ covered nodes v game below = go (cases_player (split.winner v) Zero)
     split : Split nodes (everywhere nodes)
     split = split_of_game nodes game
 
-    go : (split.winner v ≡ Zero) ⊎ (split.winner v ≡ other Zero) → InRegion nodes Zero v ⊎ InRegion nodes One v
+    go : (split.winner v ≡ Zero) ⊎ (split.winner v ≡ opponent_of Zero) → InRegion nodes Zero v ⊎ InRegion nodes One v
     go (inl zero_wins) = inl (region_of_split nodes game split Zero v below zero_wins)
     go (inr one_wins) = inr (region_of_split nodes game split One v below one_wins)
 
 -- no node is in a player's region and the other's
-apart_from_others : (nodes : List Node) (player : Player) (v : ℕ) → IsGame nodes → InRegion nodes player v → InRegion nodes (other player) v → ⊥
+apart_from_others : (nodes : List Node) (player : Player) (v : ℕ) → IsGame nodes → InRegion nodes player v → InRegion nodes (opponent_of player) v → ⊥
 apart_from_others nodes Zero v game mine theirs = apart nodes v game mine theirs
 apart_from_others nodes One v game mine theirs = apart nodes v game theirs mine
 
@@ -148,7 +149,7 @@ won_at_once nodes player game =
     split : Split nodes (everywhere nodes)
     split = split_of_game nodes game
 
-    go : (v : ℕ) → InRegion nodes player v → (split.winner v ≡ player) ⊎ (split.winner v ≡ other player) → Wins nodes player (choices nodes game split player) v
+    go : (v : ℕ) → InRegion nodes player v → (split.winner v ≡ player) ⊎ (split.winner v ≡ opponent_of player) → Wins nodes player (choices nodes game split player) v
     go v region (inl wins) = wins_by_split nodes game split player v region.node wins
     go v region (inr loses_here) =
-        absurd (apart_from_others nodes player v game region (region_of_split nodes game split (other player) v region.node loses_here))
+        absurd (apart_from_others nodes player v game region (region_of_split nodes game split (opponent_of player) v region.node loses_here))

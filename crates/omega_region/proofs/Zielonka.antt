@@ -5,12 +5,13 @@ use Rattle.omega_game.specs.declared.player.Player.{Player}
 use Rattle.omega_game.specs.declared.player.Player.TheVariants.{Zero}
 use Rattle.omega_game.specs.Game.{Node, priority_at}
 use Rattle.omega_game.specs.Player.{loses}
-use Rattle.omega_game.proofs.Attractor.{Attractor, attractor}
-use Rattle.omega_game.proofs.Places.{minus, size, size_lt}
-use Rattle.omega_game.proofs.Players.{other, other_twice, cases_player, is_player, is_player-same, favoured}
-use Rattle.omega_game.proofs.Search.{sought_below}
-use Rattle.omega_game.proofs.Split.{IsSubgame, Split, remaining, fewer, sole_split, won_by, joint_split}
-use Rattle.omega_game.proofs.Tours.{tour_start}
+use Rattle.omega_region.proofs.Attractor.{Attractor, attractor}
+use Rattle.omega_region.proofs.Places.{minus, size, size_lt}
+use Rattle.omega_game.specs.Player.{opponent_of}
+use Rattle.omega_region.proofs.Players.{opponent_twice, cases_player, is_player, is_player-same, favoured}
+use Rattle.omega_region.proofs.Search.{sought_below}
+use Rattle.omega_region.proofs.Split.{IsSubgame, Split, remaining, fewer, sole_split, won_by, joint_split}
+use Rattle.omega_region.proofs.Tours.{tour_start}
 
 -- a place of the set below n whose priority no other has above it
 record IsTop (nodes : List Node) (S : ℕ → Bool) (n v : ℕ) : Type 0 where
@@ -81,7 +82,7 @@ of_priority nodes S q v = S v && (priority_at nodes v == q)
 
 -- the step below a greatest priority, for the player whom it favours and the other
 module _ (nodes : List Node) (fuel : ℕ) (again : Smaller nodes fuel) (S : ℕ → Bool) (sub : IsSubgame nodes S) (few : size S (length nodes) ≤ suc fuel)
-    (v : ℕ) (top : IsTop nodes S (length nodes) v) (player : Player) (favours : IsTrue (loses (other player) (priority_at nodes v)) → ⊥) where
+    (v : ℕ) (top : IsTop nodes S (length nodes) v) (player : Player) (favours : IsTrue (loses (opponent_of player) (priority_at nodes v)) → ⊥) where
   -- the places of the greatest priority
   abbrev tops : ℕ → Bool
   tops = of_priority nodes S (priority_at nodes v)
@@ -97,12 +98,12 @@ module _ (nodes : List Node) (fuel : ℕ) (again : Smaller nodes fuel) (S : ℕ 
   top_in_tops = and_from (S v) (priority_at nodes v == priority_at nodes v) top.here (eq-eqb _ _ refl)
 
   -- the attractor for them of the player whom it favours
-  drawn : Attractor nodes S tops (other player)
-  drawn = attractor nodes S tops (other player) sub.inside (λ u aim. (tops_parts u aim).0)
+  drawn : Attractor nodes S tops (opponent_of player)
+  drawn = attractor nodes S tops (opponent_of player) sub.inside (λ u aim. (tops_parts u aim).0)
 
   -- the split of what that leaves
   rest : Split nodes (minus S drawn.set)
-  rest = again (minus S drawn.set) (remaining nodes S tops (other player) drawn sub) (omega (arith, fewer nodes S tops (other player) drawn sub v top_in_tops))
+  rest = again (minus S drawn.set) (remaining nodes S tops (opponent_of player) drawn sub) (omega (arith, fewer nodes S tops (opponent_of player) drawn sub v top_in_tops))
 
   -- either the other player wins some of that, or none
   step_by : ((u : ℕ) × (u < length nodes) × (won_by player rest u ≡ true)) ⊎ ((u : ℕ) → u < length nodes → won_by player rest u ≡ false) → Split nodes S
@@ -112,12 +113,12 @@ module _ (nodes : List Node) (fuel : ℕ) (again : Smaller nodes fuel) (S : ℕ 
       (again (minus S back.set) (remaining nodes S (won_by player rest) player back sub)
       (omega (arith, fewer nodes S (won_by player rest) player back sub found.0 found.2)))
   step_by (inr none) =
-      sole_split nodes S tops sub (other player) (priority_at nodes v)
+      sole_split nodes S tops sub (opponent_of player) (priority_at nodes v)
       (λ u aim. omega (arith, (tops_parts u aim).1))
       (λ u here. top.most u (sub.inside u here) here)
       favours drawn rest (λ u left. alone u left (cases_player (rest.winner u) player))
     where
-      alone : (u : ℕ) → minus S drawn.set u ≡ true → (rest.winner u ≡ player) ⊎ (rest.winner u ≡ other player) → rest.winner u ≡ other player
+      alone : (u : ℕ) → minus S drawn.set u ≡ true → (rest.winner u ≡ player) ⊎ (rest.winner u ≡ opponent_of player) → rest.winner u ≡ opponent_of player
       alone u left (inr other_wins) = other_wins
       alone u left (inl wins) =
           let won : won_by player rest u ≡ true =
@@ -133,8 +134,8 @@ split_by : (nodes : List Node) (fuel : ℕ) → Smaller nodes fuel → (S : ℕ 
 split_by nodes fuel again S sub few (inr none) = empty_split nodes S sub none
 split_by nodes fuel again S sub few (inl found) =
     let favoured_one = favoured (priority_at nodes found.0) in
-    step nodes fuel again S sub few found.0 found.1 (other favoured_one.0)
-    (subst (λ p. IsTrue (loses p (priority_at nodes found.0)) → ⊥) (sym (other_twice favoured_one.0)) favoured_one.1)
+    step nodes fuel again S sub few found.0 found.1 (opponent_of favoured_one.0)
+    (subst (λ p. IsTrue (loses p (priority_at nodes found.0)) → ⊥) (sym (opponent_twice favoured_one.0)) favoured_one.1)
 
 -- a set without places has no greatest one
 split_none : (nodes : List Node) (S : ℕ → Bool) → IsSubgame nodes S → size S (length nodes) ≤ 0 → TopOrNone nodes S (length nodes) → Split nodes S
