@@ -4,7 +4,6 @@
 mod bounds;
 mod builder;
 mod checking;
-mod entering;
 mod game;
 mod identifiers;
 mod laws;
@@ -14,19 +13,16 @@ mod names;
 mod node_spec;
 mod part;
 mod player;
+mod predecessors;
 mod priority_counts;
 mod reaching;
-#[cfg(test)]
-mod readings;
 mod resolving;
-#[cfg(test)]
-mod samples;
 mod sorting;
 mod strategy;
 
 pub use bounds::bound;
 pub use builder::GameBuilder;
-pub use checking::check_strategy;
+pub use checking::{check_strategy, check_strategy_fast};
 pub use game::Game;
 pub use laws::{
     choices_are_entries, games_exist, games_have_no_fault, games_keep_limits, parts_are_games,

@@ -1,4 +1,5 @@
-use Rattle.omega_game.proofs.Choosing.{choice_chosen, chosen_choice}
+-- `choices_are_entries`: what a strategy chooses at a place is its choice there.
+use Rattle.omega_game.proofs.walks.Choosing.{choice_chosen, chosen_choice}
 use Rattle.omega_game.proofs.laws.choices_are_entries.Goals as goal
 
 pub returns : goal.returns

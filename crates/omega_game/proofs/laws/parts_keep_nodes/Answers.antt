@@ -1,4 +1,5 @@
-use Rattle.omega_game.proofs.Parts.{keeps_nodes}
+-- `parts_keep_nodes`: a part keeps the nodes that it has: their owners, their priorities and their edges.
+use Rattle.omega_game.proofs.parts.Kept.{keeps_nodes}
 use Rattle.omega_game.proofs.laws.parts_keep_nodes.Goals as goal
 
 pub returns : goal.returns
