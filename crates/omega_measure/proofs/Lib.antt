@@ -1,4 +1,4 @@
-pub mod Groups
+pub mod Falling
 pub mod Listed
 pub mod Raising
 pub mod RowWrites

@@ -1,7 +1,7 @@
 ghost use Rattle.std.specs.Prelude.{◌≡◌, ◌↔◌, ℕ, ◌<◌, ◌≤◌, ◌-◌, ◌^◌, length, filter, slice_index, IsTrue, IfOk, IsOkUnless, if◌then◌else◌};
 ghost use Rattle.omega_game.specs.Bound.{bearers};
 ghost use Rattle.omega_game.specs.Winning.{loses};
-ghost use Rattle.omega_measure.specs.Groups.{AreGroups, IsFalling, IsStrictlyFalling, count_from};
+ghost use Rattle.omega_measure.specs.layout.Falling.{AreCounts, IsFalling, IsStrictlyFalling, count_from};
 
 use omega_game::{Player, Refusal};
 use std::alloc::Global;
@@ -59,10 +59,10 @@ fn ends_in(numbers: &[u32], number: u32) -> bool
 }
 
 /// The numbers of a falling list, each once, and how often each stands in it.
-pub(crate) fn groups_of(alloc: Global, borne: &[u32]) -> Result<(Vec<u32>, Vec<u32>), Refusal>
+pub(crate) fn counts_of(alloc: Global, borne: &[u32]) -> Result<(Vec<u32>, Vec<u32>), Refusal>
     requires falling { IsFalling borne.now }
     requires few { length borne.now < 2 ^ 32 }
-    ensures groups { IfOk result (λ found. AreGroups borne.now found.0.items found.1.items) }
+    ensures counts { IfOk result (λ found. AreCounts borne.now found.0.items found.1.items) }
     ensures memory { IsOkUnless result Refusal.Memory }
 {
     let mut numbers = Vec::new(alloc);

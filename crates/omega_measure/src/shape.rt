@@ -4,12 +4,13 @@ ghost use Rattle.omega_game.specs.Game.{priorities};
 ghost use Rattle.omega_game.specs.Winning.{loses};
 ghost use Rattle.omega_lift.specs.Least.{limits_of};
 ghost use Rattle.omega_lift.specs.Measure.{entries_from};
-ghost use Rattle.omega_measure.specs.Groups.{IsStrictlyFalling, count_from};
+ghost use Rattle.omega_measure.specs.layout.Falling.{IsStrictlyFalling, count_from};
+ghost use Rattle.omega_measure.specs.Limits.{most_cells};
 ghost use Rattle.omega_measure.specs.Table.{IsPrepareRefusal, is_too_wide};
-ghost use Rattle.omega_measure.specs.Shape.{width_of};
+ghost use Rattle.omega_measure.specs.layout.Shape.{width_of};
 
 use crate::limits::MOST_CELLS;
-use crate::losing::{count_from, groups_of, is_losing, losing_falling};
+use crate::losing::{count_from, counts_of, is_losing, losing_falling};
 use omega_game::{Game, MOST_NODES, Player, Refusal, TaskFault};
 use std::alloc::Global;
 use std::marker::Model;
@@ -26,7 +27,7 @@ pub(crate) struct Shape {
 }
 
 impl Model for Shape {
-    ghost use Rattle.omega_measure.specs.Shape.{Borne, IsShape};
+    ghost use Rattle.omega_measure.specs.layout.Shape.{Borne, IsShape};
 
     ghost Value = { Borne };
 
@@ -68,7 +69,7 @@ impl Shape {
     /// How many entries a measure below top has.
     pub(crate) fn width(&self) -> usize
         ensures width { result ≡ width_of self.now.player self.now.priorities }
-        ensures narrow { length self.now.priorities * result ≤ MOST_CELLS }
+        ensures narrow { length self.now.priorities * result ≤ most_cells }
     {
         self.losing.len()
     }
@@ -133,7 +134,7 @@ fn classes_of(
     ensures memory { IsOkUnless result Refusal.Memory }
 {
     let borne = losing_falling(alloc, priorities, player)?;
-    groups_of(alloc, &borne)
+    counts_of(alloc, &borne)
 }
 
 /// For each place how many of the falling numbers are at least its priority.

@@ -1,4 +1,4 @@
-use Rattle.omega_measure.specs.Groups.{times_in}
+use Rattle.omega_measure.specs.layout.Falling.{times_in}
 use Rattle.std.proofs.Common.{ℕ, cond, eqb, length, ap, ◌∙◌, arith}
 use Rattle.std.proofs.lemmas.List.Sums.{length-filter, count_by-le-length}
 use Rattle.std.proofs.lemmas.List.Sorted.{sum_by-IsPermutation}

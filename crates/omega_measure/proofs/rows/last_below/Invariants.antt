@@ -1,4 +1,4 @@
-use Rattle.omega_measure.specs.Rows.{AreAtLimits}
+use Rattle.omega_measure.specs.layout.Rows.{AreAtLimits}
 use Rattle.omega_measure.proofs.rows.last_below.Given as goal
 
 abbrev pub invariant-loop-at : goal.invariant-loop-at

@@ -1,6 +1,6 @@
 use Rattle.std.proofs.Common.{◌≡◌, take}
 use Rattle.std.specs.Prelude.{map}
-use Rattle.omega_measure.specs.Groups.{count_from}
+use Rattle.omega_measure.specs.layout.Falling.{count_from}
 use Rattle.omega_measure.proofs.shape.kept_of.Given as goal
 
 abbrev pub invariant-loop-priority : goal.invariant-loop-priority

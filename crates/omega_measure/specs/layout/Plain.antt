@@ -1,6 +1,6 @@
 use Rattle.std.specs.Prelude.{ℕ, Bool, List, length}
-use Rattle.omega_measure.specs.Rows.{measures_in}
-use Rattle.omega_measure.specs.Shape.{Borne, width_of}
+use Rattle.omega_measure.specs.layout.Rows.{measures_in}
+use Rattle.omega_measure.specs.layout.Shape.{Borne, width_of}
 use Rattle.omega_measure.specs.Table.{Content}
 
 -- the content of a table that keeps a flag and a row for each place

@@ -2,9 +2,9 @@ use Rattle.std.specs.Prelude.{◌≡◌, ℕ, ◌*◌, ◌≤◌, List, length, 
 use Rattle.omega_game.specs.declared.player.Player.{Player}
 use Rattle.omega_game.specs.Bound.{losing_priorities}
 use Rattle.omega_lift.specs.Least.{limits_of}
-use Rattle.omega_measure.specs.Groups.{IsStrictlyFalling, count_from}
+use Rattle.omega_measure.specs.layout.Falling.{IsStrictlyFalling, count_from}
 use Rattle.omega_game.specs.declared.limits.TheConstants.{MOST_NODES}
-use Rattle.omega_measure.specs.declared.limits.TheConstants.{MOST_CELLS}
+use Rattle.omega_measure.specs.Limits.{most_cells}
 
 -- the player and the nodes' priorities, which decide what the measures are
 pub record Borne : Type 0 where
@@ -23,4 +23,4 @@ pub record IsShape (player : Player) (priorities losing limits kept : List ℕ) 
   pub kept_from : kept ≡ map (λ p. count_from p losing) priorities
   pub few : length priorities ≤ MOST_NODES
   pub slim : length losing ≤ length priorities
-  pub narrow : length priorities * length losing ≤ MOST_CELLS
+  pub narrow : length priorities * length losing ≤ most_cells

@@ -1,8 +1,8 @@
 use Rattle.std.proofs.Common.{◌-◌, get_or, arith, refl, sym, ◌∙◌}
 use Rattle.std.proofs.lemmas.Bool.{false≢true}
-use Rattle.omega_measure.proofs.Groups.{step_again, step_next, count_fits}
-use Rattle.omega_measure.proofs.losing.groups_of.Goals as goal
-use Rattle.omega_measure.proofs.losing.groups_of.Goals.{then-ends_in, else-ends_in+in_ok-push+in_ok-push-2}
+use Rattle.omega_measure.proofs.Falling.{step_again, step_next, count_fits}
+use Rattle.omega_measure.proofs.losing.counts_of.Goals as goal
+use Rattle.omega_measure.proofs.losing.counts_of.Goals.{then-ends_in, else-ends_in+in_ok-push+in_ok-push-2}
 
 pub overflow_add-index_mut : goal.overflow_add-index_mut
 overflow_add-index_mut c =

@@ -13,7 +13,7 @@ abbrev pub times_in : List ℕ → ℕ → ℕ
 times_in xs q = count_by (λ x. x == q) xs
 
 -- the numbers of a falling list, each once, and how often each stands in it
-pub record AreGroups (xs numbers times : List ℕ) : Type 0 where
+pub record AreCounts (xs numbers times : List ℕ) : Type 0 where
   pub falling : IsStrictlyFalling numbers
   pub count : length times ≡ length numbers
   pub few : length numbers ≤ length xs

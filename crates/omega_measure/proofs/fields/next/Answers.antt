@@ -1,7 +1,7 @@
 use Rattle.std.proofs.Common.{arith, refl}
 use Rattle.std.specs.Int.Count.{count_leading_zeros}
 use Rattle.omega_measure.proofs.Packing.{bits_of}
-use Rattle.omega_measure.proofs.cells.next.Goals as goal
+use Rattle.omega_measure.proofs.fields.next.Goals as goal
 
 pub returns-then-bits-before-clause-follows : goal.returns-then-bits-before-clause-follows
 returns-then-bits-before-clause-follows c =

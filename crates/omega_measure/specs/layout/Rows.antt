@@ -4,7 +4,7 @@ use Rattle.std.specs.declared.cmp.Ordering.{Ordering}
 use Rattle.omega_game.specs.declared.player.Player.{Player}
 use Rattle.omega_lift.specs.Least.{cleared_after, raised}
 use Rattle.omega_lift.specs.Measure.{Measure, IsMeasure, compare}
-use Rattle.omega_measure.specs.Shape.{width_of}
+use Rattle.omega_measure.specs.layout.Shape.{width_of}
 
 -- the row of a place, where rows of one width stand side by side
 abbrev pub row_of : {X : Type 0} → ℕ → List X → ℕ → List X
@@ -49,7 +49,7 @@ allowance_of strict kept limits (Some entries) = allowed strict kept limits entr
 
 -- rows as they were, but for that of v, which is now `row`
 pub record WritesRow {X : Type 0} (width : ℕ) (old new : List X) (v : ℕ) (row : List X) : Type 0 where
-  pub cells : length new ≡ length old
+  pub count : length new ≡ length old
   pub written : row_of width new v ≡ row
   pub others : (u : ℕ) → u ≢ v → u * width + width ≤ length old → row_of width new u ≡ row_of width old u
 
