@@ -1,3 +1,4 @@
+-- The choices of a table in which no lift is due are a strategy that wins.
 use Rattle.std.proofs.Common.{◌≡◌, ◌≢◌, ℕ, ◌<◌, ◌≤◌, Bool, true, false, IsTrue, IsSome, is_some, Option, None, Some, List, [], ◌∷◌, length, take, get_or, slice_get, Contains, Ordering, Greater, ◌⊎◌, inl, inr, refl, sym, ap, ◌∙◌, subst, arith}
 use Rattle.std.specs.Cmp.Lexicographic.{slice_cmp}
 use Rattle.std.specs.Ordering.{nat_cmp}

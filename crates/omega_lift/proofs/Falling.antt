@@ -1,3 +1,4 @@
+-- Losing priorities fall, and entries compared at one of them.
 use Rattle.std.proofs.Common.{◌≡◌, ◌≢◌, ℕ, zero, suc, ◌+◌, ◌<◌, ◌≤◌, max, eqb, leb, nat_lt, ◌&&◌, cond, Bool, true, false, IsTrue, List, [], ◌∷◌, length, get_or, take, map, fold, filter, count_by, Ordering, Less, Equal, Greater, ◌⊎◌, inl, inr, refl, sym, ap, ◌∙◌, subst, arith}
 use Rattle.std.specs.Cmp.Lexicographic.{slice_cmp}
 use Rattle.std.specs.Ordering.{nat_cmp, ordering_then}

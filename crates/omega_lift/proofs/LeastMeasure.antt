@@ -1,3 +1,4 @@
+-- The least sufficient measure is the allowance, and allowances exist, are one, and grow.
 use Rattle.std.proofs.Common.{◌≡◌, ◌≢◌, ℕ, ◌≤◌, None, Some, List, length, take, not, leb, cond, if◌then◌else◌, Bool, true, false, IsTrue, IsSome, is_gt, is_lt, Ordering, Less, Equal, Greater, ◌⊎◌, inl, inr, refl, sym, ap, ◌∙◌, subst, arith}
 use Rattle.std.specs.Cmp.{IsTotalOrder}
 use Rattle.std.specs.Cmp.Lexicographic.{slice_cmp}

@@ -1,3 +1,4 @@
+-- The table that a winning strategy gives, which no lifting run passes.
 use Rattle.std.proofs.Common.{◌≡◌, ◌≢◌, ℕ, ◌<◌, ◌≤◌, not, eqb, ◌&&◌, Bool, true, false, IsTrue, IsSome, is_gt, is_lt, Decides, Option, None, Some, List, [], ◌∷◌, ◌++◌, length, get_or, slice_get, take, set, map, Ordering, Less, Equal, Greater, ◌⊎◌, inl, inr, refl, sym, ap, ◌∙◌, subst, arith}
 use Rattle.std.specs.Cmp.Lexicographic.{slice_cmp}
 use Rattle.std.specs.Ordering.{nat_cmp}

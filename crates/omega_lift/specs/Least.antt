@@ -1,3 +1,4 @@
+-- The allowance towards a measure, by its entries.
 use Rattle.std.specs.Prelude.{ℕ, zero, suc, ◌-◌, ◌++◌, Option, Some, None, List, [], ◌∷◌, length, map, take, replicate, nat_lt, if◌then◌else◌}
 use Rattle.std.specs.Option.{option_map_or}
 use Rattle.omega_game.specs.declared.player.Player.{Player}

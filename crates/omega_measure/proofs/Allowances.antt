@@ -1,3 +1,4 @@
+-- The allowance by the entries that are kept, and when it exceeds a measure.
 use Rattle.std.proofs.Common.{◌≡◌, ℕ, Bool, true, false, cond, List, Some, None, Ordering, sym, refl, ap, ◌∙◌, subst, inl, inr}
 use Rattle.std.specs.Prelude.{◌↔◌, is_none, not, slice_index}
 use Rattle.std.specs.Ordering.{is_gt, is_lt}

@@ -1,3 +1,4 @@
+-- The lemmas of tables of measures.
 pub mod Falling
 pub mod Listed
 pub mod Raising

@@ -1,3 +1,4 @@
+-- What the calls of a table of words answer.
 use Rattle.std.proofs.Common.{◌≡◌, ◌≢◌, ℕ, zero, suc, ◌+◌, ◌-◌, ◌*◌, ◌/◌, ◌%◌, ◌^◌, ◌<◌, ◌≤◌, Bool, true, false, List, [], ◌∷◌, ◌++◌, None, Ordering, length, get_or, take, drop, replicate, sym, refl, ap, ◌∙◌, subst, arith, add-one, inl, inr}
 use Rattle.std.specs.Prelude.{◌↔◌, nat_le, slice_index}
 use Rattle.std.proofs.lemmas.Bool.{cases_eq}

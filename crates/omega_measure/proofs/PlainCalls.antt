@@ -1,3 +1,4 @@
+-- What the calls of a table of numbers answer.
 use Rattle.std.proofs.Common.{◌≡◌, ℕ, ◌<◌, Bool, true, false, cond, List, Some, None, Ordering, length, get_or, sym, refl, ap, ◌∙◌, subst, arith}
 use Rattle.std.specs.Prelude.{◌↔◌, slice_index}
 use Rattle.std.specs.declared.cmp.Ordering.TheVariants.{Greater}

@@ -1,9 +1,9 @@
 ghost use Rattle.std.specs.Prelude.{◌≡◌, ℕ, ◌+◌, ◌<◌, length};
 ghost use Rattle.omega_measure.specs.layout.Field.{last_field};
 
+use crate::due::is_short;
 use crate::field::Field;
 use crate::fields::fields_of;
-use crate::due::is_short;
 use crate::shape::Shape;
 use crate::table::MeasureTable;
 use crate::words::{compare_at, is_top_at, raise_at};

@@ -4,7 +4,7 @@ ghost use Rattle.omega_game.specs.Game.{priorities};
 ghost use Rattle.omega_game.specs.Winning.{loses};
 ghost use Rattle.omega_lift.specs.Least.{limits_of};
 ghost use Rattle.omega_lift.specs.Measure.{entries_from};
-ghost use Rattle.omega_measure.specs.layout.Falling.{IsStrictlyFalling, count_from};
+ghost use Rattle.omega_measure.specs.layout.Falling.{AreCountsFrom, IsStrictlyFalling, count_from};
 ghost use Rattle.omega_measure.specs.Limits.{most_cells};
 ghost use Rattle.omega_measure.specs.Table.{IsPrepareRefusal, is_too_wide};
 ghost use Rattle.omega_measure.specs.layout.Shape.{width_of};
@@ -23,6 +23,9 @@ pub(crate) struct Shape {
     priorities: Vec<u32>,
     losing: Vec<u32>,
     limits: Vec<u32>,
+    // How many entries are for priorities at least p, for each p below the number of places: comparing asks at each
+    // step of a scan, where a search would cost more than the comparison.
+    from: Vec<u32>,
     kept: Vec<u32>,
 }
 
@@ -33,7 +36,7 @@ impl Model for Shape {
 
     ghost view = { λ s. record { player = s.player; priorities = s.priorities.items } };
 
-    ghost invariant = { λ s. IsShape s.player s.priorities.items s.losing.items s.limits.items s.kept.items };
+    ghost invariant = { λ s. IsShape s.player s.priorities.items s.losing.items s.limits.items s.from.items s.kept.items };
 }
 
 impl Shape {
@@ -48,12 +51,14 @@ impl Shape {
         if priorities.len() * losing.len() > MOST_CELLS {
             return Err(Refusal::Task(TaskFault::TooWide));
         }
-        let kept = kept_of(alloc, &priorities, &losing)?;
+        let from = from_of(alloc, &losing, priorities.len() as u32)?;
+        let kept = kept_of(alloc, &priorities, &losing, &from)?;
         Ok(Shape {
             player,
             priorities,
             losing,
             limits,
+            from,
             kept,
         })
     }
@@ -94,7 +99,7 @@ impl Shape {
     pub(crate) fn kept_from(&self, p: u32) -> usize
         ensures { result ≡ entries_from self.now.player self.now.priorities p }
     {
-        count_from(&self.losing, p)
+        kept_from(&self.losing, &self.from, p)
     }
 
     /// Whether the priority of a place loses.
@@ -137,16 +142,48 @@ fn classes_of(
     counts_of(alloc, &borne)
 }
 
-/// For each place how many of the falling numbers are at least its priority.
-fn kept_of(alloc: Global, priorities: &[u32], losing: &[u32]) -> Result<Vec<u32>, Refusal>
+/// For each number below `size` how many of the falling numbers are at least it.
+fn from_of(alloc: Global, losing: &[u32], size: u32) -> Result<Vec<u32>, Refusal>
     requires falling { IsStrictlyFalling losing.now }
+    requires few { length losing.now ≤ MOST_NODES }
+    ensures from { IfOk result (λ from. AreCountsFrom losing.now from.items) }
+    ensures memory { IsOkUnless result Refusal.Memory }
+{
+    let mut from = Vec::with_capacity(alloc, size as usize)?;
+    for number in 0..size {
+        from.push(count_from(losing, number) as u32)?;
+    }
+    Ok(from)
+}
+
+/// How many of the falling numbers are at least p: looked up where p is small, else searched for.
+fn kept_from(losing: &[u32], from: &[u32], p: u32) -> usize
+    requires falling { IsStrictlyFalling losing.now }
+    requires from { AreCountsFrom losing.now from.now }
+    ensures { result ≡ count_from p losing.now }
+{
+    match from.get(p as usize) {
+        Some(count) => *count as usize,
+        None => count_from(losing, p),
+    }
+}
+
+/// For each place how many of the falling numbers are at least its priority.
+fn kept_of(
+    alloc: Global,
+    priorities: &[u32],
+    losing: &[u32],
+    from: &[u32],
+) -> Result<Vec<u32>, Refusal>
+    requires falling { IsStrictlyFalling losing.now }
+    requires from { AreCountsFrom losing.now from.now }
     requires few { length losing.now ≤ MOST_NODES }
     ensures kept { IfOk result (λ kept. kept.items ≡ map (λ p. count_from p losing.now) priorities.now) }
     ensures memory { IsOkUnless result Refusal.Memory }
 {
     let mut kept = Vec::with_capacity(alloc, priorities.len())?;
     for priority in priorities {
-        kept.push(count_from(losing, *priority) as u32)?;
+        kept.push(kept_from(losing, from, *priority) as u32)?;
     }
     Ok(kept)
 }

@@ -103,7 +103,14 @@ pub(crate) fn compare_at(words: &[u64], size: usize, field: Field, a: usize, b: 
 }
 
 /// The same for the row of a place.
-fn allow_at(words: &mut [u64], size: usize, fields: &[Field], kept: usize, strict: bool, place: usize)
+fn allow_at(
+    words: &mut [u64],
+    size: usize,
+    fields: &[Field],
+    kept: usize,
+    strict: bool,
+    place: usize,
+)
     requires row { place * size + size ≤ length words.old }
     requires fields { AreFields size fields.now }
     requires within { kept < length fields.now }

@@ -1,3 +1,4 @@
+-- Whether a measure does not suffice, from how it compares.
 use Rattle.std.specs.Prelude.{Bool, true, false, ◌&&◌, not}
 use Rattle.std.specs.declared.cmp.Ordering.{Ordering}
 use Rattle.std.specs.declared.cmp.Ordering.TheVariants.{Equal, Greater, Less}

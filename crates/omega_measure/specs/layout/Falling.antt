@@ -1,3 +1,4 @@
+-- Falling lists of numbers, and how often each stands in one.
 use Rattle.std.specs.Prelude.{◌≡◌, ℕ, ◌<◌, ◌≤◌, ◌+◌, ◌-◌, ◌==◌, nat_le, List, length, count_by, slice_index}
 
 -- no number is above the one before it
@@ -25,3 +26,7 @@ pub record AreCounts (xs numbers times : List ℕ) : Type 0 where
 -- how many numbers are at least p
 abbrev pub count_from : ℕ → List ℕ → ℕ
 count_from p numbers = count_by (λ q. nat_le p q) numbers
+
+-- for each number below some number, how many numbers are at least it
+abbrev pub AreCountsFrom : List ℕ → List ℕ → Type 0
+AreCountsFrom numbers from = (p : ℕ) → p < length from → slice_index from p ≡ count_from p numbers

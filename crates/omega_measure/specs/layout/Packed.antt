@@ -1,3 +1,4 @@
+-- The content of a table of words.
 use Rattle.std.specs.Prelude.{◌≡◌, ℕ, ◌*◌, ◌<◌, Bool, List, length, map}
 use Rattle.std.specs.List.{range_with_len}
 use Rattle.omega_lift.specs.Least.{limits_of}

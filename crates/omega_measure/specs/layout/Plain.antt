@@ -1,3 +1,4 @@
+-- The content of a table of numbers.
 use Rattle.std.specs.Prelude.{ℕ, Bool, List, length}
 use Rattle.omega_measure.specs.layout.Rows.{measures_in}
 use Rattle.omega_measure.specs.layout.Shape.{Borne, width_of}

@@ -1,3 +1,4 @@
+-- The field follows the other, in its word or the next.
 use Rattle.std.proofs.Common.{arith, refl}
 use Rattle.std.specs.Int.Count.{count_leading_zeros}
 use Rattle.omega_measure.proofs.Packing.{bits_of}

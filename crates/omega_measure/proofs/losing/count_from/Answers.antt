@@ -1,3 +1,4 @@
+-- The partition point is the count.
 use Rattle.std.proofs.Common.{leb, sym, rules}
 use Rattle.std.proofs.lemmas.List.Sorted.{IsPartitionPoint-from_clause}
 use Rattle.omega_measure.proofs.Falling.{IsPartitionedBy-falling, count_from-partition}

@@ -1,3 +1,4 @@
+-- One number more: the last again, or the next.
 use Rattle.std.proofs.Common.{◌-◌, get_or, arith, refl, sym, ◌∙◌}
 use Rattle.std.proofs.lemmas.Bool.{false≢true}
 use Rattle.omega_measure.proofs.Falling.{step_again, step_next, count_fits}

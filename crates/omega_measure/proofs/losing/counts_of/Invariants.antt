@@ -1,3 +1,4 @@
+-- So far the numbers are counted.
 use Rattle.std.proofs.Common.{take}
 use Rattle.omega_measure.specs.layout.Falling.{AreCounts}
 use Rattle.omega_measure.proofs.losing.counts_of.Given as goal

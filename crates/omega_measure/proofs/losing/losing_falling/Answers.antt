@@ -1,3 +1,4 @@
+-- Sorting keeps how often each priority stands in the list.
 use Rattle.omega_measure.specs.layout.Falling.{times_in}
 use Rattle.std.proofs.Common.{ℕ, cond, eqb, length, ap, ◌∙◌, arith}
 use Rattle.std.proofs.lemmas.List.Sums.{length-filter, count_by-le-length}

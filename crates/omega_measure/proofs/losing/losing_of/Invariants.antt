@@ -1,3 +1,4 @@
+-- So far the losing priorities are listed.
 use Rattle.std.proofs.Common.{◌≡◌, take}
 use Rattle.std.specs.Prelude.{filter}
 use Rattle.omega_game.specs.Winning.{loses}

@@ -1,3 +1,4 @@
+-- The last field is in the last word.
 use Rattle.std.proofs.Common.{◌+◌, ap}
 use Rattle.omega_measure.proofs.Packing.{last_field-at}
 use Rattle.omega_measure.proofs.packed.row_size.Goals as goal

@@ -1,3 +1,4 @@
+-- The entries passed are at their limits.
 use Rattle.omega_measure.specs.layout.Rows.{AreAtLimits}
 use Rattle.omega_measure.proofs.rows.last_below.Given as goal
 

@@ -1,3 +1,4 @@
+-- What is counted are the losing priorities and their limits.
 use Rattle.std.proofs.Common.{◌≡◌, ap, ◌∙◌}
 use Rattle.std.proofs.lemmas.Result.{IfOk-weaker}
 use Rattle.omega_game.specs.Bound.{losing_priorities}

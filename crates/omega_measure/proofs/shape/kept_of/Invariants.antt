@@ -1,3 +1,4 @@
+-- So far there is a count for each place.
 use Rattle.std.proofs.Common.{◌≡◌, take}
 use Rattle.std.specs.Prelude.{map}
 use Rattle.omega_measure.specs.layout.Falling.{count_from}

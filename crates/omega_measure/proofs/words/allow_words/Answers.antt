@@ -1,3 +1,4 @@
+-- The row raised or cleared at a field holds the allowance.
 use Rattle.std.proofs.Common.{length, arith}
 use Rattle.omega_measure.specs.declared.field.Field.{Field}
 use Rattle.omega_measure.proofs.PackedCalls.{cleared_allowance, cleared_packed, inside_by, raised_allowance, raised_fits, raised_packed}

@@ -1,3 +1,4 @@
+-- The mask leaves the bits of the field.
 use Rattle.std.proofs.Common.{◌/◌, ◌^◌, get_or, arith}
 use Rattle.omega_measure.proofs.Packing.{masked}
 use Rattle.omega_measure.proofs.words.digit.Goals as goal

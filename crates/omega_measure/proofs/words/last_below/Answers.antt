@@ -1,3 +1,4 @@
+-- One field more that is at its limit.
 use Rattle.std.proofs.Common.{◌-◌, suc, length, arith}
 use Rattle.omega_measure.proofs.PackedCalls.{full_more, inside_by}
 use Rattle.omega_measure.proofs.words.last_below.Goals as goal

@@ -1,3 +1,4 @@
+-- The fields passed are at their limits.
 use Rattle.std.proofs.Common.{suc}
 use Rattle.omega_measure.specs.layout.Field.{digits_in, limits_in}
 use Rattle.omega_measure.specs.layout.Rows.{AreAtLimits}

@@ -1,3 +1,4 @@
+-- The order of the front of the words is that of the measures.
 use Rattle.std.proofs.Common.{length, ap, sym, subst, ◌∙◌, arith}
 use Rattle.omega_measure.specs.layout.Field.{IsInside, front_order}
 use Rattle.omega_measure.specs.layout.Rows.{row_of}

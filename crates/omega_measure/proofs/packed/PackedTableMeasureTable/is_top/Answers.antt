@@ -1,3 +1,4 @@
+-- The flag says whether the measure is top.
 use Rattle.std.proofs.Common.{length, ap, arith}
 use Rattle.omega_measure.proofs.PackedCalls.{in_packed, packed_fits, packed_top_iff}
 use Rattle.omega_measure.proofs.packed.PackedTableMeasureTable.is_top.Goals as goal

@@ -1,3 +1,4 @@
+-- Rows of zeros are the measures of a new table.
 use Rattle.std.proofs.Common.{◌*◌, ◌+◌, replicate, ap, ◌∙◌}
 use Rattle.omega_measure.specs.layout.Field.{last_field}
 use Rattle.omega_measure.specs.Table.{zero_content}

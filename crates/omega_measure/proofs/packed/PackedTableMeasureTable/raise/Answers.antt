@@ -1,3 +1,4 @@
+-- The row that is written is the allowance.
 use Rattle.std.proofs.Common.{length, subst, ap, arith}
 use Rattle.std.proofs.lemmas.List.{with_items_is}
 use Rattle.omega_measure.specs.layout.Packed.{packed_content}
