@@ -6,7 +6,7 @@ use Rattle.std.proofs.lemmas.List.{get_or_default, get_or-map, length-map, lengt
 use Rattle.std.proofs.lemmas.List.Sums.{count_by-le-length}
 use Rattle.std.proofs.Math.Nat.{zero-div, zero-mod}
 use Rattle.omega_game.specs.Bound.{bearers, losing_priorities}
-use Rattle.omega_game.specs.Winning.{loses}
+use Rattle.omega_game.specs.Player.{loses}
 use Rattle.omega_lift.specs.Allowance.{measure_at}
 use Rattle.omega_lift.specs.Laws.{AllowancesAreLeastSufficient, AllowancesExceed}
 use Rattle.omega_lift.specs.Least.{limits_of}

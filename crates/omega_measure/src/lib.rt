@@ -4,6 +4,7 @@
 mod due;
 mod field;
 mod fields;
+mod kept;
 mod limits;
 mod losing;
 mod packed;

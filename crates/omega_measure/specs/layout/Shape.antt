@@ -4,7 +4,7 @@ use Rattle.omega_game.specs.declared.player.Player.{Player}
 use Rattle.omega_game.specs.Bound.{losing_priorities}
 use Rattle.omega_lift.specs.Least.{limits_of}
 use Rattle.omega_measure.specs.layout.Falling.{AreCountsFrom, IsStrictlyFalling, count_from}
-use Rattle.omega_game.specs.declared.limits.TheConstants.{MOST_NODES}
+use Rattle.omega_game.specs.Limits.{most_nodes}
 use Rattle.omega_measure.specs.Limits.{most_cells}
 
 -- the player and the nodes' priorities, which decide what the measures are
@@ -24,6 +24,6 @@ pub record IsShape (player : Player) (priorities losing limits from kept : List 
   pub limits_borne : limits ≡ limits_of player priorities
   pub from_small : AreCountsFrom losing from
   pub kept_from : kept ≡ map (λ p. count_from p losing) priorities
-  pub few : length priorities ≤ MOST_NODES
-  pub slim : length losing ≤ length priorities
+  pub few : length priorities ≤ most_nodes
+  pub slim : length losing ≤ most_cells
   pub narrow : length priorities * length losing ≤ most_cells

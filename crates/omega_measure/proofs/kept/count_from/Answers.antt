@@ -2,7 +2,7 @@
 use Rattle.std.proofs.Common.{leb, sym, rules}
 use Rattle.std.proofs.lemmas.List.Sorted.{IsPartitionPoint-from_clause}
 use Rattle.omega_measure.proofs.Falling.{IsPartitionedBy-falling, count_from-partition}
-use Rattle.omega_measure.proofs.losing.count_from.Goals as goal
+use Rattle.omega_measure.proofs.kept.count_from.Goals as goal
 
 pub returns : goal.returns
 returns c =
