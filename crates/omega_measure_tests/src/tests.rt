@@ -1,6 +1,6 @@
 ghost use Rattle.std.specs.Prelude.{◌≡◌, ◌<◌, length, IfOk};
 
-use crate::{MeasureTable, PackedTable, PlainTable};
+use omega_measure::{MeasureTable, PackedTable, PlainTable};
 use omega_game::{Game, GameBuilder, Player, Refusal, TaskFault};
 use std::alloc::Global;
 use std::cmp::Ordering;
