@@ -1,3 +1,4 @@
+-- The lemmas of lifting.
 pub mod Order
 pub mod Entries
 pub mod LeastMeasure
@@ -9,4 +10,4 @@ pub mod Choosing
 pub mod Falling
 pub mod Reaching
 pub mod Witness
-pub mod Apart
+pub mod Won
