@@ -12,6 +12,7 @@ use Rattle.omega_game.specs.Game.{Node, IsGame, edge_count, listed_times, no_nod
 use Rattle.omega_lift.specs.Measure.{Measure}
 use Rattle.omega_lift.specs.Run.{IsRun, zero_table}
 use Rattle.omega_lift.specs.Laws.{PlacesAreLiftedBoundedly}
+use Rattle.omega_solve.specs.Limits.{most_lifts}
 use Rattle.omega_solve.specs.Progress.{entering}
 use Rattle.omega_solve.proofs.Totals.{sum_by-indices, sum_by-range, sum_by-times, times_in, total, total_le, total_same, total_swap, total_times}
 
@@ -82,11 +83,11 @@ entering_bounded nodes player places new game bounded lifted =
     omega (arith, sum_by-times (entering nodes) n places inside, total_times p (entering nodes) n)
 
 -- and at most 2^63 within the limits
-pub entering_fits : (nodes : List Node) (places : List ℕ) → edge_count nodes ≤ 8388608 → length places ≤ 2 ^ 40
+pub entering_fits : (nodes : List Node) (places : List ℕ) → edge_count nodes ≤ 8388608 → length places ≤ most_lifts
     → sum_by (entering nodes) places ≤ 2 ^ 63
 entering_fits nodes places few short =
     omega (
       arith,
       sum_by-le (entering nodes) (edge_count nodes) places (λ k d _. entering_le nodes (get_or places k d)),
-      mul-le (length places) (edge_count nodes) (2 ^ 40) 8388608 short few,
+      mul-le (length places) (edge_count nodes) most_lifts 8388608 short few,
     )

@@ -36,7 +36,24 @@ call_done old state new made budget same_nodes same_player lifts within finished
       spent = λ goes_on. absurd (false≢true (sym goes_on));
     })
 
--- and so is one of a solver that is done
+-- a call that ends with a lift due used up the whole budget
+pub call_spent : (old new : State) (made budget : ℕ)
+    → new.nodes ≡ old.nodes → new.player ≡ old.player → LiftsWithin old made new → new.lifts ≡ old.lifts + made → made ≡ budget
+    → new.done ≡ false → IsUnfinished new → Runs old budget new
+call_spent old new made budget same_nodes same_player lifts counted used goes_on due = record {
+  same_nodes = same_nodes;
+  same_player = same_player;
+  lifted = record {
+    places = lifts.places;
+    lifted = lifts.lifted;
+    counted = lifts.counted;
+    within = omega (arith, lifts.within);
+  };
+  done = λ done. absurd (false≢true (sym goes_on ∙ done));
+  spent = λ _. (omega arith, due);
+}
+
+-- so is one of a solver that is done
 pub call_over : (state : State) (budget : ℕ) → state.done ≡ true → IsFinished state → Runs state budget state
 call_over state budget done finished = record {
   same_nodes = refl;
@@ -63,7 +80,7 @@ reached_for nodes other player rival places table same_nodes same_player lifted 
     (subst (λ (p : Player). IsRun nodes p (zero_table p (priorities nodes)) places table) (sym same_player) lifted)
 
 -- a call leads to a table that is reached
-call_reaches : (old new : State) (budget : ℕ) → IsReached old → Runs old budget new → IsReached new
+pub call_reaches : (old new : State) (budget : ℕ) → IsReached old → Runs old budget new → IsReached new
 call_reaches old new budget reached call = record {
   places = reached.places ++ call.lifted.places;
   lifted = reached_for old.nodes new.nodes old.player new.player _ new.table.measures call.same_nodes call.same_player

@@ -2,9 +2,10 @@ use Rattle.std.proofs.Common.{ℕ, ◌^◌, ◌-◌, ◌<◌, ◌≤◌, true, f
 use Rattle.std.specs.Option.{MatchOption}
 use Rattle.std.proofs.lemmas.Bool.{false≢true}
 use Rattle.std.proofs.lemmas.Option.{same_Some}
-use Rattle.omega_lift.specs.Laws.{PlacesAreLiftedBoundedly}
+use Rattle.omega_lift.specs.Laws.{PlacesAreLiftedBoundedly, RunsAreBounded}
+use Rattle.omega_solve.specs.Limits.{most_lifts}
 use Rattle.omega_solve.specs.Schedule.{IsIdle, IsPending}
-use Rattle.omega_solve.specs.Solver.{IsFinished, State, most_attempts}
+use Rattle.omega_solve.specs.Solver.{IsFinished, IsReached, State, attempt_bound, lift_bound}
 use Rattle.omega_solve.specs.Progress.{IsSolving}
 use Rattle.omega_solve.proofs.Attempts.{entering_bounded, entering_fits}
 use Rattle.omega_solve.proofs.Flags.{pending_inside, waits_none}
@@ -25,14 +26,23 @@ looked state (Some place) s waiting = omega (arith, pending_inside state.pending
 -- the takes fit their type
 pub takes_fit : (state : State) → IsSolving state → state.pending.taken < 2 ^ 64 - 1
 takes_fit state s =
-    let short : length s.places ≤ 2 ^ 40 = omega (arith, s.counted, s.few) in
+    let short : length s.places ≤ most_lifts = omega (arith, s.counted, s.few) in
     omega (arith, s.most, s.limits.few_nodes, entering_fits state.nodes s.places s.limits.few_edges short)
 
 -- and are bounded
-pub takes_bounded : (state : State) → PlacesAreLiftedBoundedly → IsSolving state → state.pending.taken ≤ most_attempts state
+pub takes_bounded : (state : State) → PlacesAreLiftedBoundedly → IsSolving state → state.pending.taken ≤ attempt_bound state
 takes_bounded state bounded s =
     omega (arith, s.most, entering_bounded state.nodes state.player s.places state.table.measures s.game bounded s.lifted)
 
 -- each place was taken where none is pending
 pub takes_each : (state : State) → IsSolving state → IsIdle state.pending → length state.nodes ≤ state.pending.taken
 takes_each state s idle = omega (arith, s.least, waits_none state.pending idle)
+
+-- the table of a solver is reached
+pub solving_reached : (state : State) → IsSolving state → IsReached state
+solving_reached state s = record { places = s.places; lifted = s.lifted; counted = s.counted }
+
+-- by at most as many lifts as the bound
+pub reached_bounded : (state : State) → RunsAreBounded → IsReached state → state.lifts ≤ lift_bound state
+reached_bounded state bounded reached =
+    omega (arith, bounded state.nodes state.player reached.places state.table.measures reached.lifted, reached.counted)

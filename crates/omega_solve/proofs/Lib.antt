@@ -16,3 +16,4 @@ mod Queueing
 mod Dealing
 mod Solved
 mod Parting
+mod Within

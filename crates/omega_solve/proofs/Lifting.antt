@@ -11,6 +11,7 @@ use Rattle.omega_lift.specs.Allowance.{IsAllowance, IsAllowanceOf, IsLiftValue, 
 use Rattle.omega_lift.specs.Run.{IsDue, IsRun, IsTable, Lifts, zero_table}
 use Rattle.omega_lift.specs.Laws.{AllowancesAreUnique, RunsKeepTables}
 use Rattle.omega_measure.specs.Table.{Content, Raises, with_measure}
+use Rattle.omega_solve.specs.Limits.{most_lifts}
 use Rattle.omega_solve.specs.Schedule.{IsPending, Pending, with_taken}
 use Rattle.omega_solve.specs.Solver.{LiftsWithin, State}
 use Rattle.omega_solve.specs.Successor.{IsDueTowards, IsTableOf}
@@ -126,7 +127,7 @@ raised state v w content unique table due raises =
 -- what a solver keeps holds after a lift, the take, and the waking of the predecessors
 pub solving_lifted : (state : State) (v w : ℕ) (content : Content) (pending : Pending)
     → AllowancesAreUnique → RunsKeepTables
-    → IsSolving state → IsDueTowards state.nodes state.player state.table.measures v w → IsPending state.pending v → state.lifts < 2 ^ 40
+    → IsSolving state → IsDueTowards state.nodes state.player state.table.measures v w → IsPending state.pending v → state.lifts < most_lifts
     → Raises state.table v w content
     → Wakes content.measures (predecessors_of state.nodes v) (length (predecessors_of state.nodes v)) (with_taken state.pending v) pending
     → IsSolving (record { nodes = state.nodes; player = state.player; table = content; pending = pending; lifts = state.lifts + 1; done = state.done })

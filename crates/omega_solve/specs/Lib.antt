@@ -7,6 +7,7 @@ pub use Rattle.omega_lift.specs.Run
 pub use Rattle.omega_lift.specs.Answer
 pub use Rattle.omega_lift.specs.Laws
 pub use Rattle.omega_measure.specs.Table
+pub mod Limits
 pub mod Schedule
 pub mod Sweep
 pub mod Worklist
@@ -15,4 +16,5 @@ pub mod Successor
 pub mod Wake
 pub mod Progress
 pub mod Headline
+pub mod Within
 pub mod Determinacy

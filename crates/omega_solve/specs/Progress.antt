@@ -1,8 +1,9 @@
-use Rattle.std.specs.Prelude.{◌≡◌, ℕ, ◌+◌, ◌^◌, ◌≤◌, Bool, true, Option, List, length, slice_set, sum_by}
+use Rattle.std.specs.Prelude.{◌≡◌, ℕ, ◌+◌, ◌≤◌, Bool, true, Option, List, length, slice_set, sum_by}
 use Rattle.omega_game.specs.Game.{Node, IsGame, IsWithinLimits, predecessors_of, priorities}
 use Rattle.omega_lift.specs.Measure.{Measure}
 use Rattle.omega_lift.specs.Answer.{AreChoices, won_in}
 use Rattle.omega_lift.specs.Run.{IsDue, IsRun, Lifts, zero_table}
+use Rattle.omega_solve.specs.Limits.{most_lifts}
 use Rattle.omega_solve.specs.Schedule.{IsIdle, IsPending, waits}
 use Rattle.omega_solve.specs.Solver.{State}
 use Rattle.omega_solve.specs.Successor.{IsTableOf}
@@ -20,7 +21,7 @@ pub record IsSolving (state : State) : Type 0 where
   pub places : List ℕ
   pub lifted : IsRun state.nodes state.player (zero_table state.player (priorities state.nodes)) places state.table.measures
   pub counted : length places ≡ state.lifts
-  pub few : state.lifts ≤ 2 ^ 40
+  pub few : state.lifts ≤ most_lifts
   pub entries : length state.pending.flags ≡ length state.nodes
   pub due : (v : ℕ) → IsDue state.nodes state.player state.table.measures v → IsPending state.pending v
   pub most : state.pending.taken + waits state.pending ≤ length state.nodes + sum_by (entering state.nodes) places

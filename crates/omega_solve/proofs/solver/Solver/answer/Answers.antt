@@ -31,12 +31,3 @@ returns-clause-exact g c =
     (subst (λ (choices : List (Option ℕ)). IsExact state.nodes state.player c.self.inside.won.items choices) (sym c.deref-2.ensures.value)
     (exact state c.self.inside.won.items c.self.inside.choice.items c.choices_are_a_strategy.ensures c.choices_win.ensures
     c.regions_stay_below_top.ensures kept done))
-
-pub returns-clause-strategy : goal.returns-clause-strategy
-returns-clause-strategy g c = (returns-clause-exact g c).strategy
-
-pub returns-clause-wins : goal.returns-clause-wins
-returns-clause-wins g c v at = (returns-clause-exact g c).wins v (((returns-clause-exact g c).exactly v).0 at)
-
-pub returns-clause-exactly : goal.returns-clause-exactly
-returns-clause-exactly g c = (returns-clause-exact g c).exactly
