@@ -1,3 +1,4 @@
+-- What is promised of all runs of a solver, however the budget is dealt out to them.
 use Rattle.std.specs.Prelude.{◌≡◌, ◌↔◌, ℕ, ◌+◌, ◌≤◌, Bool, true, false, Option, Some, List, [], ◌∷◌, length, slice_get, sum}
 use Rattle.omega_game.specs.declared.player.Player.{Player}
 use Rattle.omega_game.specs.Game.{Node, IsGame, owner_at, priorities}
@@ -32,7 +33,7 @@ pub record IsExact (nodes : List Node) (player : Player) (won : List Bool) (choi
 
 -- a solver for the game and the player, once these budgets were dealt out: the lifts are those of a lifting run from the
 -- all-zero table, and at most the bound; budgets that together reach the bound suffice; and a solver that is done has an exact answer
-pub record Solves (nodes : List Node) (player : Player) (budgets : List ℕ) (solver : State) : Type 0 where
+pub record IsBoundedAndExact (nodes : List Node) (player : Player) (budgets : List ℕ) (solver : State) : Type 0 where
   pub same_nodes : solver.nodes ≡ nodes
   pub same_player : solver.player ≡ player
   pub reached : IsReached solver
@@ -48,4 +49,4 @@ pub record Solves (nodes : List Node) (player : Player) (budgets : List ℕ) (so
 abbrev pub Headline : Type 0
 Headline =
     (nodes : List Node) (player : Player) (budgets : List ℕ) (solver : State)
-    → IsGame nodes → DealsOut (start_of nodes player) budgets solver → Solves nodes player budgets solver
+    → IsGame nodes → DealsOut (start_of nodes player) budgets solver → IsBoundedAndExact nodes player budgets solver

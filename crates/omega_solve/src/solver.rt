@@ -34,7 +34,7 @@ pub struct Solver<'g, T: MeasureTable, S: Schedule> {
 
 impl<'g, T: MeasureTable, S: Schedule> Model for Solver<'g, T, S> {
     ghost use Rattle.omega_solve.specs.Solver.{State, state_of};
-    ghost use Rattle.omega_solve.specs.Progress.{IsSolver};
+    ghost use Rattle.omega_solve.specs.solving.Progress.{IsSolver};
 
     ghost Value = { State };
 
@@ -49,8 +49,8 @@ impl<'g, T: MeasureTable, S: Schedule> Solver<'g, T, S> {
     ghost use Rattle.omega_solve.specs.declared.outcome.Outcome.TheVariants.{Done, Spent};
     ghost use Rattle.omega_solve.specs.Headline.{IsExact, Runs};
     ghost use Rattle.omega_solve.specs.Schedule.{IsIdle, IsPending, with_taken};
-    ghost use Rattle.omega_solve.specs.Successor.{IsDueTowards};
-    ghost use Rattle.omega_solve.specs.Progress.{IsLifted};
+    ghost use Rattle.omega_solve.specs.solving.Successor.{IsDueTowards};
+    ghost use Rattle.omega_solve.specs.solving.Progress.{IsLifted};
     ghost use Rattle.omega_solve.specs.Solver.{IsFinished, IsReached, attempt_bound, lift_bound};
 
     /// A solver with every measure 0 and all places pending. 50 where the table would be too wide, or 60.

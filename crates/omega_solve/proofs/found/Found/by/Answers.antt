@@ -1,6 +1,7 @@
+-- A solver that is done found an exact answer within the budget.
 use Rattle.std.proofs.Common.{refl}
 use Rattle.omega_solve.specs.Solver.{State}
-use Rattle.omega_solve.proofs.Within.{found_by}
+use Rattle.omega_solve.proofs.runs.Within.{found_by}
 use Rattle.omega_solve.proofs.found.Found.by.Goals as goal
 
 pub returns-clause-found : goal.returns-clause-found

@@ -1,3 +1,4 @@
+-- The schedule keeps its places.
 use Rattle.std.proofs.Common.{◌≡◌, length}
 use Rattle.omega_solve.proofs.schedule.tests.follow.Given as goal
 

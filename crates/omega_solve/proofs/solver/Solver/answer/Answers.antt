@@ -1,10 +1,11 @@
+-- The buffers of a solver that is done hold an exact answer.
 use Rattle.std.proofs.Common.{◌≡◌, ◌∙◌, List, Bool, Option, ℕ, ap, subst, sym, true}
 use Rattle.omega_lift.specs.Laws.{ChoicesAreAStrategy, ChoicesWin, RegionsStayBelowTop}
 use Rattle.omega_solve.specs.Headline.{IsExact}
 use Rattle.omega_solve.specs.Solver.{State}
-use Rattle.omega_solve.specs.Progress.{IsSolver}
-use Rattle.omega_solve.proofs.Exactness.{answer_exact}
-use Rattle.omega_solve.proofs.Finishing.{finished_idle}
+use Rattle.omega_solve.specs.solving.Progress.{IsSolver}
+use Rattle.omega_solve.proofs.answers.Exactness.{answer_exact}
+use Rattle.omega_solve.proofs.lifting.Finishing.{finished_idle}
 use Rattle.omega_solve.proofs.solver.Solver.answer.Goals as goal
 
 -- the buffers of a solver that is done hold an exact answer

@@ -1,16 +1,17 @@
+-- A lift is one towards the successor given, and keeps what a solver keeps.
 use Rattle.std.proofs.Common.{◌+◌, ◌<◌, ◌∙◌, ap, arith, length, subst, sym}
 use Rattle.omega_solve.specs.Solver.{State, state_of}
-use Rattle.omega_solve.specs.Progress.{IsLifted}
+use Rattle.omega_solve.specs.solving.Progress.{IsLifted}
 use Rattle.omega_game.specs.Game.{predecessors_of}
 use Rattle.omega_solve.specs.Limits.{most_lifts}
 use Rattle.omega_solve.specs.Schedule.{IsPending, Pending}
-use Rattle.omega_solve.specs.Wake.{Wakes}
-use Rattle.omega_solve.specs.Successor.{IsDueTowards}
-use Rattle.omega_solve.proofs.Due.{allowance_in, table_entries}
-use Rattle.omega_solve.proofs.Edges.{edge_leaves}
-use Rattle.omega_solve.proofs.Finishing.{takes_fit}
-use Rattle.omega_solve.proofs.Lifting.{one_lifted, solving_lifted}
-use Rattle.omega_solve.proofs.Starting.{answered_open}
+use Rattle.omega_solve.specs.solving.Wake.{Wakes}
+use Rattle.omega_solve.specs.solving.Successor.{IsDueTowards}
+use Rattle.omega_solve.proofs.lifting.Due.{allowance_in, table_entries}
+use Rattle.omega_solve.proofs.lifting.Edges.{edge_leaves}
+use Rattle.omega_solve.proofs.lifting.Finishing.{takes_fit}
+use Rattle.omega_solve.proofs.lifting.Lifting.{one_lifted, solving_lifted}
+use Rattle.omega_solve.proofs.lifting.Starting.{answered_open}
 use Rattle.omega_solve.proofs.solver.Solver.lift.Goals as goal
 
 pub raise-requires-clause-towards : goal.raise-requires-clause-towards
