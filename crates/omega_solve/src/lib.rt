@@ -11,8 +11,6 @@ mod schedule;
 mod solver;
 mod successor;
 mod sweep;
-#[cfg(test)]
-mod tests;
 mod wake;
 mod worklist;
 

@@ -19,7 +19,8 @@ use std::alloc::Global;
 use std::marker::Model;
 
 /// A solver of a game for one player by lifting small progress measures (Jurdziński 2000), over any table of measures
-/// and any schedule of places. No call but `prepare` takes memory.
+/// and any schedule of places. Only `prepare` answers that memory was refused: table, schedule and buffers are made there.
+/// That no later call asks for memory is seen by runs in which it is refused, and not by contracts.
 #[derive(Drop)]
 pub struct Solver<'g, T: MeasureTable, S: Schedule> {
     game: &'g Game,
@@ -46,7 +47,7 @@ impl<'g, T: MeasureTable, S: Schedule> Model for Solver<'g, T, S> {
 impl<'g, T: MeasureTable, S: Schedule> Solver<'g, T, S> {
     ghost use Rattle.omega_lift.specs.Answer.{AreChoices, won_in};
     ghost use Rattle.omega_lift.specs.Run.{IsDue};
-    ghost use Rattle.omega_solve.specs.declared.outcome.Outcome.TheVariants.{Done, Spent};
+    ghost use Rattle.omega_solve.specs.declared.outcome.Outcome.TheVariants.{Done};
     ghost use Rattle.omega_solve.specs.Headline.{IsExact, Runs};
     ghost use Rattle.omega_solve.specs.Schedule.{IsIdle, IsPending, with_taken};
     ghost use Rattle.omega_solve.specs.solving.Successor.{IsDueTowards};

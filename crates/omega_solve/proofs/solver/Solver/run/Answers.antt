@@ -1,5 +1,5 @@
 -- A run goes on lift by lift, and ends with none due or with its budget used up.
-use Rattle.std.proofs.Common.{◌≡◌, ◌∙◌, ap, arith, refl, subst, sym, true}
+use Rattle.std.proofs.Common.{◌≡◌, ◌∙◌, ap, arith, subst, sym, true}
 use Rattle.omega_solve.specs.Solver.{State}
 use Rattle.omega_solve.specs.solving.Progress.{IsSolver}
 use Rattle.omega_solve.proofs.lifting.Finishing.{finished_idle, reached_bounded, solving_reached}
