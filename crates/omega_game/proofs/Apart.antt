@@ -3,7 +3,8 @@ use Rattle.std.proofs.Common.{◌≡◌, ℕ, ◌+◌, ◌-◌, ◌<◌, List, l
 use Rattle.omega_game.specs.declared.player.Player.{Player}
 use Rattle.omega_game.specs.declared.player.Player.TheVariants.{Zero, One}
 use Rattle.omega_game.specs.Game.{Node, IsGame, HasEdge, owner_at}
-use Rattle.omega_game.specs.Winning.{IsStrategy, Leaves, Wins, InRegion, loses, end_of, greatest_on}
+use Rattle.omega_game.specs.Winning.{IsStrategy, Leaves, Wins, InRegion, end_of, greatest_on}
+use Rattle.omega_game.specs.Player.{loses}
 use Rattle.omega_game.proofs.Following.{reached, trail, end-trail, longer_trail, reached-add, reached_below, walk_of_trail, choice_at, some_left}
 use Rattle.omega_game.proofs.Pigeonhole.{Repeats, repeats}
 use Rattle.omega_game.proofs.Players.{loses_for_one}

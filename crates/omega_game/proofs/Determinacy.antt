@@ -5,7 +5,8 @@ use Rattle.std.proofs.lemmas.Option.{cond_some}
 use Rattle.omega_game.specs.declared.player.Player.{Player}
 use Rattle.omega_game.specs.declared.player.Player.TheVariants.{Zero, One}
 use Rattle.omega_game.specs.Game.{Node, IsGame, HasEdge, owner_at, successors_at}
-use Rattle.omega_game.specs.Winning.{IsStrategy, Leaves, IsWalk, Wins, InRegion, loses, end_of, greatest_on}
+use Rattle.omega_game.specs.Winning.{IsStrategy, Leaves, IsWalk, Wins, InRegion, end_of, greatest_on}
+use Rattle.omega_game.specs.Player.{loses}
 use Rattle.omega_game.proofs.Apart.{apart}
 use Rattle.omega_game.proofs.Choices.{entries_of, length_entries, picked, picks}
 use Rattle.omega_game.proofs.Following.{first_listed}

@@ -21,7 +21,6 @@ pub mod Split
 pub mod Zielonka
 pub mod Determinacy
 pub mod BuilderLemmas
-pub mod ClassesLemmas
 pub mod CountingLemmas
 pub mod EnteringLemmas
 pub mod FaultLemmas
@@ -33,6 +32,8 @@ pub mod RefusalLemmas
 pub mod ResolvingLemmas
 pub mod SortingLemmas
 pub mod Products
+pub mod Counts
+pub mod Borne
 pub mod Factors
 pub mod PartGames
 pub mod Specifying

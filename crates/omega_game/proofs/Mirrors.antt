@@ -3,7 +3,8 @@ use Rattle.std.proofs.Common.{◌≡◌, ℕ, ◌<◌, List, [], ◌∷◌, leng
 use Rattle.std.proofs.lemmas.List.{length-map}
 use Rattle.omega_game.specs.declared.player.Player.{Player}
 use Rattle.omega_game.specs.Game.{Node, priority_at}
-use Rattle.omega_game.specs.Winning.{Leaves, IsWalk, Wins, loses, end_of, greatest_on}
+use Rattle.omega_game.specs.Winning.{Leaves, IsWalk, Wins, end_of, greatest_on}
+use Rattle.omega_game.specs.Player.{loses}
 
 -- each edge that the first strategy leaves possible at a node of the set has an image that the second leaves possible
 pub record IsMirror (nodes : List Node) (player : Player) (choices : List (Option ℕ))

@@ -3,7 +3,7 @@ use Rattle.std.proofs.Common.{◌≡◌, ℕ, ◌%◌, ◌⊎◌, inl, inr, Bool
 use Rattle.std.proofs.lemmas.Bool.{cases_eq}
 use Rattle.omega_game.specs.declared.player.Player.{Player}
 use Rattle.omega_game.specs.declared.player.Player.TheVariants.{Zero, One}
-use Rattle.omega_game.specs.Winning.{loses}
+use Rattle.omega_game.specs.Player.{loses}
 
 -- the other player
 abbrev pub other : Player → Player

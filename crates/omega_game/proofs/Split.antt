@@ -3,7 +3,8 @@ use Rattle.std.proofs.Common.{◌≡◌, ℕ, ◌<◌, ◌≤◌, ◌⊎◌, inl
 use Rattle.std.proofs.lemmas.Bool.{and_from, and_parts, cases_Bool, false≢true}
 use Rattle.omega_game.specs.declared.player.Player.{Player}
 use Rattle.omega_game.specs.Game.{Node, HasEdge, owner_at, priority_at, successors_at}
-use Rattle.omega_game.specs.Winning.{loses, end_of, greatest_on}
+use Rattle.omega_game.specs.Winning.{end_of, greatest_on}
+use Rattle.omega_game.specs.Player.{loses}
 use Rattle.omega_game.proofs.Attractor.{Attractor}
 use Rattle.omega_game.proofs.Places.{minus, minus_parts, minus_from, minus_out, size, size_lt}
 use Rattle.omega_game.proofs.Players.{other, other_twice, cases_player, is_player, is_player-true, is_player-same}

@@ -4,7 +4,7 @@ use Rattle.std.proofs.lemmas.Bool.{and_from, and_parts, cases_Bool, cases_lt, fa
 use Rattle.omega_game.specs.declared.player.Player.{Player}
 use Rattle.omega_game.specs.declared.player.Player.TheVariants.{Zero}
 use Rattle.omega_game.specs.Game.{Node, priority_at}
-use Rattle.omega_game.specs.Winning.{loses}
+use Rattle.omega_game.specs.Player.{loses}
 use Rattle.omega_game.proofs.Attractor.{Attractor, attractor}
 use Rattle.omega_game.proofs.Places.{minus, size, size_lt}
 use Rattle.omega_game.proofs.Players.{other, other_twice, cases_player, is_player, is_player-same, favoured}

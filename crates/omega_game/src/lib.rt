@@ -4,18 +4,17 @@
 mod bounds;
 mod builder;
 mod checking;
-mod classes;
 mod entering;
 mod game;
 mod identifiers;
 mod laws;
 mod limits;
 mod lists;
-mod losing;
 mod names;
 mod node_spec;
 mod part;
 mod player;
+mod priority_counts;
 mod reaching;
 #[cfg(test)]
 mod readings;
@@ -33,8 +32,9 @@ pub use laws::{
     games_are_determined, games_exist, games_have_no_fault, games_keep_limits, parts_are_games,
     regions_are_apart, regions_are_won_at_once, regions_cover, regions_of_parts, winning_is_kept,
 };
-pub use limits::{MOST_EDGES, MOST_NODES, MOST_NUMBER};
+pub use limits::{MOST_NODES, MOST_SUCCESSORS, game_limits_are_stated};
 pub use node_spec::NodeSpec;
-pub use omega_text::{GameFault, Refusal, Seq, TaskFault};
+pub use omega_text::{GameFault, MOST_NUMBER, Refusal, Seq, TaskFault};
 pub use player::Player;
+pub use priority_counts::PriorityCount;
 pub use strategy::Strategy;

@@ -1,9 +1,10 @@
 //! Tables of small progress measures (Jurdziński 2000), one measure for each node of a game.
 #![tactic(auto)]
 
-mod cell;
-mod cells;
 mod due;
+mod field;
+mod fields;
+mod kept;
 mod limits;
 mod losing;
 mod packed;
@@ -15,7 +16,7 @@ mod table;
 mod tests;
 mod words;
 
-pub use limits::MOST_CELLS;
+pub use limits::{MOST_CELLS, measure_limits_are_stated};
 pub use omega_game::{Game, Player, Refusal, TaskFault};
 pub use packed::PackedTable;
 pub use plain::PlainTable;

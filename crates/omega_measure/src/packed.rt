@@ -1,9 +1,9 @@
 ghost use Rattle.std.specs.Prelude.{◌≡◌, ℕ, ◌+◌, ◌<◌, length};
-ghost use Rattle.omega_measure.specs.Cell.{last_cell};
+ghost use Rattle.omega_measure.specs.layout.Field.{last_field};
 
-use crate::cell::Cell;
-use crate::cells::cells_of;
 use crate::due::is_short;
+use crate::field::Field;
+use crate::fields::fields_of;
 use crate::shape::Shape;
 use crate::table::MeasureTable;
 use crate::words::{compare_at, is_top_at, raise_at};
@@ -18,7 +18,7 @@ use std::marker::Model;
 #[derive(Drop)]
 pub struct PackedTable {
     shape: Shape,
-    cells: Vec<Cell>,
+    fields: Vec<Field>,
     size: usize,
     words: Vec<u64>,
 }
@@ -28,11 +28,11 @@ impl Model for PackedTable {
 
     ghost Value = { Content };
 
-    ghost use Rattle.omega_measure.specs.Packed.{ArePackedRows, packed_content};
+    ghost use Rattle.omega_measure.specs.layout.Packed.{ArePackedRows, packed_content};
 
-    ghost view = { λ s. packed_content s.shape s.cells.items s.size s.words.items };
+    ghost view = { λ s. packed_content s.shape s.fields.items s.size s.words.items };
 
-    ghost invariant = { λ s. ArePackedRows s.shape s.cells.items s.size s.words.items };
+    ghost invariant = { λ s. ArePackedRows s.shape s.fields.items s.size s.words.items };
 }
 
 impl MeasureTable for PackedTable {
@@ -40,12 +40,12 @@ impl MeasureTable for PackedTable {
 
     fn prepare(alloc: Global, game: &Game, player: Player) -> Result<PackedTable, Refusal> {
         let shape = Shape::prepare(alloc, game, player)?;
-        let cells = cells_of(alloc, shape.limits())?;
-        let size = row_size(&cells);
+        let fields = fields_of(alloc, shape.limits())?;
+        let size = row_size(&fields);
         let words = vec![in alloc; 0u64; shape.len() * size]?;
         Ok(PackedTable {
             shape,
-            cells,
+            fields,
             size,
             words,
         })
@@ -53,20 +53,20 @@ impl MeasureTable for PackedTable {
 
     #[inline(always)]
     fn is_top(&self, place: u32) -> bool {
-        is_top_at(&self.words, self.size, &self.cells, place as usize)
+        is_top_at(&self.words, self.size, &self.fields, place as usize)
     }
 
     #[inline(always)]
     fn compare(&self, a: u32, b: u32, p: u32) -> Ordering {
-        let cell = self.cells[self.shape.kept_from(p)];
-        compare_at(&self.words, self.size, cell, a as usize, b as usize)
+        let field = self.fields[self.shape.kept_from(p)];
+        compare_at(&self.words, self.size, field, a as usize, b as usize)
     }
 
     #[inline(always)]
     fn due(&self, v: u32, w: u32) -> bool {
-        let cell = self.cells[self.shape.kept(v)];
-        let order = compare_at(&self.words, self.size, cell, v as usize, w as usize);
-        let top = is_top_at(&self.words, self.size, &self.cells, v as usize);
+        let field = self.fields[self.shape.kept(v)];
+        let order = compare_at(&self.words, self.size, field, v as usize, w as usize);
+        let top = is_top_at(&self.words, self.size, &self.fields, v as usize);
         allowances_are_least_sufficient();
         allowances_exceed();
         is_short(order, top, self.shape.is_strict(v))
@@ -81,7 +81,7 @@ impl MeasureTable for PackedTable {
         raise_at(
             &mut self.words,
             size,
-            &self.cells,
+            &self.fields,
             kept,
             strict,
             v as usize,
@@ -91,11 +91,11 @@ impl MeasureTable for PackedTable {
 }
 
 /// How many words a row has.
-fn row_size(cells: &[Cell]) -> usize
-    requires { 0 < length cells.now }
-    ensures { result ≡ (last_cell cells.now).word + 1 }
+fn row_size(fields: &[Field]) -> usize
+    requires { 0 < length fields.now }
+    ensures { result ≡ (last_field fields.now).word + 1 }
 {
-    cells[cells.len() - 1].word as usize + 1
+    fields[fields.len() - 1].word as usize + 1
 }
 
 #[cfg(test)]

@@ -1,5 +1,4 @@
-use omega_game::{Game, Player, Refusal, TaskFault, bound};
-use omega_pg::read_game;
+use omega_game::{Game, GameBuilder, Player, Refusal, TaskFault, bound};
 use omega_solve::{
     Found, MOST_LIFTS, MeasureTable, Outcome, PackedTable, PlainTable, Schedule, Solver, Sweep,
     Worklist,
@@ -8,27 +7,43 @@ use std::alloc::Global;
 use std::process::Abort;
 use std::test::Fail;
 
-/// A game text and a player; the bound, the number of lifts (none where it depends on the schedule) and the most attempts;
-/// and the answer: for each place `-` where the player does not win, the place chosen, or `.` where there is no choice.
-type Row<'a> = (&'a [u8], Player, u128, Option<u64>, u64, &'a [u8]);
+/// The identifier of a node, its priority and owner, and its successors, of which there is a first.
+type Node<'a> = (u32, u32, Player, u32, &'a [u32]);
 
-const ONE_EVEN_NODE: &[u8] = b"0 0 0 0;";
+const ONE_EVEN_NODE: &[Node<'static>] = &[(0, 0, Player::Zero, 0, &[])];
 
-const ONE_ODD_NODE: &[u8] = b"0 1 0 0;";
+const ONE_ODD_NODE: &[Node<'static>] = &[(0, 1, Player::Zero, 0, &[])];
 
-const TWO_NODES: &[u8] = b"0 1 0 1; 1 2 1 0;";
+const TWO_NODES: &[Node<'static>] = &[(0, 1, Player::Zero, 1, &[]), (1, 2, Player::One, 0, &[])];
 
 /// Node 0 has a better and a worse successor.
-const A_CHOICE: &[u8] = b"0 0 0 1,2; 1 1 1 0; 2 2 1 0;";
+const A_CHOICE: &[Node<'static>] = &[
+    (0, 0, Player::Zero, 1, &[2]),
+    (1, 1, Player::One, 0, &[]),
+    (2, 2, Player::One, 0, &[]),
+];
 
-const A_GAP: &[u8] = b"parity 9; 9 3 1 4; 4 2 0 9,4 \"a\";";
+/// The node that comes first is at place 1.
+const A_GAP: &[Node<'static>] = &[(9, 3, Player::One, 4, &[]), (4, 2, Player::Zero, 9, &[4])];
 
 /// For player 0, node 0 is lifted to (0, 1), (1, 0) and (1, 1), and node 1 to (1, 0).
-const A_CARRY: &[u8] = b"0 1 0 0,1; 1 3 0 2; 2 4 0 2;";
+const A_CARRY: &[Node<'static>] = &[
+    (0, 1, Player::Zero, 0, &[1]),
+    (1, 3, Player::Zero, 2, &[]),
+    (2, 4, Player::Zero, 2, &[]),
+];
 
 /// For player 0 the measure of node 1 is above that of node 2, but the allowances of node 0 towards them are equal, since
 /// its priority is above that of node 1.
-const EQUAL_ALLOWANCES: &[u8] = b"0 2 0 1,2; 1 1 0 0; 2 2 1 0;";
+const EQUAL_ALLOWANCES: &[Node<'static>] = &[
+    (0, 2, Player::Zero, 1, &[2]),
+    (1, 1, Player::Zero, 0, &[]),
+    (2, 2, Player::One, 0, &[]),
+];
+
+/// A game and a player; the bound, the number of lifts (none where it depends on the schedule) and the most attempts; and
+/// the answer: for each place `-` where the player does not win, the place chosen, or `.` where there is no choice.
+type Row<'a> = (&'a [Node<'a>], Player, u128, Option<u64>, u64, &'a [u8]);
 
 const ROWS: [Row<'static>; 14] = [
     (ONE_EVEN_NODE, Player::Zero, 1, Some(0), 2, b"0"),
@@ -46,6 +61,17 @@ const ROWS: [Row<'static>; 14] = [
     (EQUAL_ALLOWANCES, Player::Zero, 6, Some(1), 11, b"10."),
     (EQUAL_ALLOWANCES, Player::One, 9, None, 15, b"---"),
 ];
+
+fn game_of(alloc: Global, nodes: &[Node<'_>]) -> Result<Game, Refusal> {
+    let mut builder = GameBuilder::new(alloc);
+    for (identifier, priority, owner, first, others) in nodes {
+        builder.add_node(*identifier, *priority, *owner, *first)?;
+        for other in *others {
+            builder.add_successor(*other)?;
+        }
+    }
+    builder.finish()
+}
 
 /// The byte that stands for an answer at a place.
 fn byte_of(won: bool, choice: Option<u32>) -> u8 {
@@ -150,8 +176,8 @@ fn solves<T: MeasureTable, S: Schedule, R: Abort>(
     alloc: Global,
     row: &Row<'_>,
 ) -> Result<(), Refusal> {
-    let (text, player, most, ..) = *row;
-    let game = read_game(alloc, text)?;
+    let (nodes, player, most, ..) = *row;
+    let game = game_of(alloc, nodes)?;
     assert_eq!(rt; bound(&game, player), Some(most));
     let needed = whole::<T, S, R>(rt, alloc, &game, row)?;
     for budget in 0..=needed {

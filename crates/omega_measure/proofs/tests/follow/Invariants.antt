@@ -1,3 +1,4 @@
+-- The table keeps its places.
 use Rattle.std.proofs.Common.{◌≡◌, length}
 use Rattle.omega_measure.proofs.tests.follow.Given as goal
 

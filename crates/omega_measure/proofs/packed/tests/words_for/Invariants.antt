@@ -1,3 +1,4 @@
+-- The builder has a node.
 use Rattle.std.proofs.Common.{◌<◌, length}
 use Rattle.omega_measure.proofs.packed.tests.words_for.Given as goal
 
