@@ -10,6 +10,7 @@ use Rattle.std.proofs.lemmas.List.Sums.{count_by-le-length, sum_by-cons, sum_by-
 use Rattle.omega_game.specs.declared.player.Player.{Player}
 use Rattle.omega_game.specs.Bound.{product_of}
 use Rattle.omega_game.specs.Game.{Node, IsGame, edge_count, listed_times, no_node, priorities, successors_at}
+use Rattle.omega_game.specs.Limits.{most_successors}
 use Rattle.omega_lift.specs.Measure.{Measure}
 use Rattle.omega_lift.specs.Run.{IsRun, zero_table}
 use Rattle.omega_lift.specs.Laws.{PlacesAreLiftedBoundedly}
@@ -83,12 +84,12 @@ in_degrees_bounded nodes player places new game bounded lifted =
     let most : p * total (in_degree nodes) n ≡ edge_count nodes * p = ap (λ m. p * m) all ∙ mul_comm p (edge_count nodes) in
     omega (arith, sum_by-times (in_degree nodes) n places inside, total_times p (in_degree nodes) n)
 
--- and at most 2^63 within the limits
-pub in_degrees_fits : (nodes : List Node) (places : List ℕ) → edge_count nodes ≤ 8388608 → length places ≤ most_lifts
-    → sum_by (in_degree nodes) places ≤ 2 ^ 63
+-- and within the limits at most the most successors of a game for each of the most lifts
+pub in_degrees_fits : (nodes : List Node) (places : List ℕ) → edge_count nodes ≤ most_successors → length places ≤ most_lifts
+    → sum_by (in_degree nodes) places ≤ most_lifts * most_successors
 in_degrees_fits nodes places few short =
     omega (
       arith,
       sum_by-le (in_degree nodes) (edge_count nodes) places (λ k d _. in_degree_le nodes (get_or places k d)),
-      mul-le (length places) (edge_count nodes) most_lifts 8388608 short few,
+      mul-le (length places) (edge_count nodes) most_lifts most_successors short few,
     )
