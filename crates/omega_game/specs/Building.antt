@@ -10,7 +10,6 @@ use Rattle.omega_text.specs.Cases.{never, or_game, or_memory}
 use Rattle.omega_text.specs.declared.refusal.game.GameFault.{GameFault}
 use Rattle.omega_text.specs.declared.refusal.game.GameFault.TheVariants.{DuplicateNode, UndefinedSuccessor, HeaderTooSmall, TooManyEdges, TooManyNodes}
 use Rattle.omega_game.specs.Game.{Node, IsGame, IsNameByte, node_at}
-use Rattle.omega_game.specs.Layout.{Columns, AreEven, specs_of}
 
 -- a specification that callers may give: numbers that a text can hold, a successor, and a name of the allowed bytes
 pub record IsWellFormed (spec : NodeSpec) : Type 0 where
@@ -82,12 +81,3 @@ with_successor successor spec = record spec { successors = spec.successors ++ su
 -- the specification with the name
 abbrev pub with_name : List ℕ → NodeSpec → NodeSpec
 with_name name spec = record spec { name = Some name }
-
--- the identifiers of specifications
-abbrev pub ids_of : List NodeSpec → List ℕ
-ids_of specs = map (λ spec. spec.id) specs
-
--- what a builder keeps: even columns of well-formed specifications
-pub record AreCollected (columns : Columns) : Type 0 where
-  pub even : AreEven columns
-  pub well_formed : All IsWellFormed (specs_of columns)

@@ -1,12 +1,12 @@
 ghost use Rattle.std.specs.Prelude.{◌≡◌, ℕ, ◌<◌, length, vec_len, map, option_map, position, ◌==◌, All, IfOk, IfErr, OnOk, None};
 
 use crate::builder::GameBuilder;
-use crate::entering::entering;
 use crate::identifiers::{identifier_at, place_among};
 use crate::lists::Lists;
 use crate::names::name_at;
 use crate::node_spec::NodeSpec;
 use crate::player::Player;
+use crate::predecessors::predecessors_of;
 use crate::priority_counts::{PriorityCount, counts_of};
 use indexmap::IndexSet;
 use omega_text::Refusal;
@@ -31,7 +31,7 @@ pub struct Game {
 impl Model for Game {
     ghost use Rattle.std.specs.Prelude.{List};
     ghost use Rattle.omega_game.specs.Game.{Node};
-    ghost use Rattle.omega_game.specs.Layout.{columns_of, nodes_of, IsLaidOut};
+    ghost use Rattle.omega_game.specs.layout.Columns.{columns_of, nodes_of, IsLaidOut};
 
     ghost Value = { List Node };
 
@@ -44,7 +44,7 @@ impl Game {
     ghost use Rattle.omega_game.specs.Building.{IsBuildRefusal, IsGameOf, IsWellFormed, fault_of};
     ghost use Rattle.omega_game.specs.Game.{IsGame, IsWithinLimits, edge_count, identifiers, node_at, owner_at, predecessors_of, priorities, priority_at, successors_at};
     ghost use Rattle.omega_game.specs.Bound.{priority_counts};
-    ghost use Rattle.omega_game.specs.Layout.{columns_of, nodes_of, AreEven};
+    ghost use Rattle.omega_game.specs.layout.Columns.{columns_of, nodes_of, AreEven};
 
     /// The game of the specifications, which may come in any order. Refused with the first that applies of
     /// `DuplicateNode`, `UndefinedSuccessor`, `TooManyNodes` and `TooManyEdges`, or with `Memory` where a request for
@@ -74,7 +74,7 @@ impl Game {
         requires limits { IsWithinLimits (nodes_of (columns_of listed.keys priorities.items owners.items successors quoted)) }
         ensures { IfOk result (λ game. game ≡ nodes_of (columns_of listed.keys priorities.items owners.items successors quoted)) }
     {
-        let predecessors = entering(alloc, &successors)?;
+        let predecessors = predecessors_of(alloc, &successors)?;
         let priority_counts = counts_of(alloc, priorities.as_slice())?;
         Ok(Game {
             listed,
@@ -174,6 +174,3 @@ impl Game {
         self.priority_counts.as_slice()
     }
 }
-
-#[cfg(test)]
-mod tests;

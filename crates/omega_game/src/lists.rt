@@ -1,7 +1,8 @@
 ghost use Rattle.std.specs.Prelude.{◌≡◌, ℕ, ◌<◌, ◌≤◌, ◌+◌, ◌-◌, ◌^◌, [], ◌∷◌, ◌++◌, length, map, take, vec_len, sum_by, slice_index_or, slice_set, IfOk, OnOk, OnErr};
 ghost use Rattle.std.specs.List.{list_all};
-ghost use Rattle.omega_game.specs.Layout.{list_at, lists_of, identifiers_of, AreStarts};
-ghost use Rattle.omega_game.specs.Resolving.{is_defined, resolved_in};
+ghost use Rattle.omega_game.specs.layout.Lists.{list_at, lists_of, AreStarts};
+ghost use Rattle.omega_game.specs.layout.Columns.{identifiers_of};
+ghost use Rattle.omega_game.specs.layout.Resolving.{is_defined, resolved_in};
 ghost use Rattle.omega_text.specs.Limits.{most_number};
 
 use crate::resolving::resolve;
@@ -17,9 +18,8 @@ pub(crate) struct Lists<T> {
 }
 
 impl<T> Model for Lists<T> {
-    ghost use Rattle.std.specs.Prelude.{List};
-    ghost use Rattle.omega_game.specs.Layout.{lists_of, AreStarts};
-    ghost use Rattle.std.specs.Prelude.{length};
+    ghost use Rattle.std.specs.Prelude.{List, length};
+    ghost use Rattle.omega_game.specs.layout.Lists.{lists_of, AreStarts};
 
     ghost Value = { List (List T) };
 

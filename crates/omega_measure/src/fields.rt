@@ -40,6 +40,8 @@ fn next(before: Field, limit: u32) -> Field
     requires word { before.word < 2 ^ 32 - 1 }
     ensures follows { FollowsField before limit result }
     ensures word { result.word ≤ before.word + 1 }
+    ensures room { result.bits ≤ before.shift → (result.word ≡ before.word) × (result.shift + result.bits ≡ before.shift) }
+    ensures full { before.shift < result.bits → (result.word ≡ before.word + 1) × (result.shift + result.bits ≡ 64) }
 {
     let bits = 32 - limit.leading_zeros();
     if bits <= before.shift {

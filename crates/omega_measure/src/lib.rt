@@ -12,8 +12,6 @@ mod plain;
 mod rows;
 mod shape;
 mod table;
-#[cfg(test)]
-mod tests;
 mod words;
 
 pub use limits::{MOST_CELLS, measure_limits_are_stated};

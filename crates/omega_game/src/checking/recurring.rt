@@ -1,6 +1,7 @@
 //! The plain test: whether a place that is reached bears a losing priority and recurs.
 ghost use Rattle.std.specs.Prelude.{◌≡◌, ◌↔◌, ℕ, ◌<◌, length, IfOk, IsTrue};
-ghost use Rattle.omega_game.specs.Checking.{LeadsInside, NoneRecurs, Recurs};
+ghost use Rattle.omega_game.specs.checking.Reaching.{LeadsInside};
+ghost use Rattle.omega_game.specs.checking.Recurring.{NoneRecurs, Recurs};
 
 use crate::game::Game;
 use crate::player::Player;

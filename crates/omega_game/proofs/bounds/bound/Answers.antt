@@ -1,9 +1,10 @@
+-- `bound`: the most lifts of a run for the player (Jurdziński 2000): the number of nodes times the product, over the priorities that are borne and lose for the player, of one more than the number of nodes that bear it.
 use Rattle.std.proofs.Common.{◌≡◌, ◌≤◌, ◌*◌, ◌^◌, ℕ, map, MatchOption, ap, ap₂, sym, subst, ◌∙◌}
 use Rattle.std.proofs.lemmas.List.{length-map}
 use Rattle.omega_game.specs.Bound.{bound_of, product}
-use Rattle.omega_game.specs.Factors.{factor_of}
+use Rattle.omega_game.specs.priorities.Factors.{factor_of}
 use Rattle.omega_game.specs.Game.{priorities}
-use Rattle.omega_game.proofs.Factors.{product_by_counts}
+use Rattle.omega_game.proofs.priorities.Factors.{product_by_counts}
 use Rattle.omega_game.proofs.bounds.bound.Goals as goal
 
 pub returns : goal.returns

@@ -1,10 +1,11 @@
+-- `multiplied`: the number times the factors of the priorities counted, where that is a `u128`.
 use Rattle.std.proofs.Common.{◌≡◌, ◌*◌, ◌^◌, ◌+◌, map, drop, get_or, ap, sym, ◌∙◌, arith, inl, inr}
 use Rattle.std.proofs.lemmas.Bool.{cases_lt}
 use Rattle.omega_game.specs.declared.priority_counts.PriorityCount.{PriorityCount}
 use Rattle.omega_game.specs.Bound.{product}
-use Rattle.omega_game.specs.Factors.{factor_of}
-use Rattle.omega_game.proofs.Factors.{factor_lost, factor_won, factor_positive}
-use Rattle.omega_game.proofs.Products.{product_more, product_reached}
+use Rattle.omega_game.specs.priorities.Factors.{factor_of}
+use Rattle.omega_game.proofs.priorities.Factors.{factor_lost, factor_won, factor_positive}
+use Rattle.omega_game.proofs.priorities.Products.{product_more, product_reached}
 use Rattle.omega_game.proofs.bounds.multiplied.Goals as goal
 use Rattle.omega_game.proofs.bounds.multiplied.Goals.{then-loses+in_ok-multiple, else-loses}
 
