@@ -16,8 +16,8 @@ pub data Symbol : Type 0 where
   name : List ℕ → Symbol
 
 -- a text without the quote at either end
-abbrev pub unquoted : List ℕ → List ℕ
-unquoted text = take (length text - 2) (drop 1 text)
+abbrev pub between_quotes : List ℕ → List ℕ
+between_quotes text = take (length text - 2) (drop 1 text)
 
 -- the symbol of a token of this kind, value and text
 abbrev pub symbol : Kind → ℕ → List ℕ → Symbol
@@ -26,7 +26,7 @@ symbol Parity value text = parity
 symbol ParitySol value text = paritysol
 symbol Semicolon value text = semicolon
 symbol Comma value text = comma
-symbol Name value text = name (unquoted text)
+symbol Name value text = name (between_quotes text)
 
 -- the symbols of tokens
 abbrev pub symbols_of : List Lexeme → List Symbol

@@ -4,7 +4,7 @@ use Rattle.std.specs.Prelude.{◌≡◌, ℕ, ◌<◌, ◌≤◌, ◌⊎◌, Lis
 use Rattle.omega_text.specs.Cut.{IsCut}
 use Rattle.omega_text.specs.Fault.{IsFault}
 use Rattle.omega_text.specs.Lexeme.{Lexeme}
-use Rattle.omega_text.specs.declared.limits.TheConstants.{MOST_TEXT}
+use Rattle.omega_text.specs.Limits.{most_text}
 use Rattle.omega_text.specs.declared.refusal.text.TextFault.{TextFault}
 use Rattle.omega_text.specs.declared.refusal.text.TextFault.TheVariants.{Lex, Number, Syntax, TooLong}
 use Rattle.omega_pg.specs.Symbols.{Symbol, symbols_of}
@@ -42,7 +42,7 @@ pub record IsMisplaced {Raw : Type 0} (Grammar : List Symbol → Raw → Type 0)
 
 -- the fault of bytes that are no text of the grammar: the length first, then tokens, then syntax
 abbrev pub IsTextFault : {Raw : Type 0} → (List Symbol → Raw → Type 0) → List ℕ → TextFault → Type 0
-IsTextFault Grammar source (Lex at) = (length source ≤ MOST_TEXT) × IsFault source (Lex at)
-IsTextFault Grammar source (Number at) = (length source ≤ MOST_TEXT) × IsFault source (Number at)
-IsTextFault Grammar source (Syntax at) = (length source ≤ MOST_TEXT) × IsMisplaced Grammar source at
-IsTextFault Grammar source TooLong = MOST_TEXT < length source
+IsTextFault Grammar source (Lex at) = (length source ≤ most_text) × IsFault source (Lex at)
+IsTextFault Grammar source (Number at) = (length source ≤ most_text) × IsFault source (Number at)
+IsTextFault Grammar source (Syntax at) = (length source ≤ most_text) × IsMisplaced Grammar source at
+IsTextFault Grammar source TooLong = most_text < length source

@@ -1,5 +1,5 @@
 ghost use Rattle.std.specs.Prelude.{[], IfErr, IfOk};
-ghost use Rattle.omega_pg.specs.Reading.{IsRead, IsTokenRefusal};
+ghost use Rattle.omega_pg.specs.reader.Reading.{IsRead, IsTokenRefusal};
 
 use omega_game::Refusal;
 use omega_text::{TextFault, Token, next_token};
@@ -7,7 +7,7 @@ use omega_text::{TextFault, Token, next_token};
 /// What takes the tokens of a text one by one, as long as some text of its grammar goes on so.
 pub(crate) trait TokenReader: Drop {
     ghost use Rattle.std.specs.Prelude.{List, IsOkUnless};
-    ghost use Rattle.omega_pg.specs.Reading.{TakesOrRefuses};
+    ghost use Rattle.omega_pg.specs.reader.Reading.{TakesOrRefuses};
     ghost use Rattle.omega_pg.specs.Symbols.{Symbol, symbol};
     ghost use Rattle.omega_text.specs.Forms.{Spells};
 

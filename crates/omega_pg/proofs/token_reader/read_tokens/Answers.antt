@@ -1,5 +1,6 @@
+-- `read_tokens`: one token more is read, or the text ends.
 use Rattle.std.proofs.Common.{ap, ◌∙◌, not}
-use Rattle.omega_pg.proofs.Tokens.{read_past, read_refused, read_taken}
+use Rattle.omega_pg.proofs.reader.Tokens.{read_past, read_refused, read_taken}
 use Rattle.omega_pg.proofs.token_reader.read_tokens.Goals as goal
 use Rattle.omega_pg.proofs.token_reader.read_tokens.Goals.{else-is_none-via-then-is_none+in_ok-take+else-not-branch, else-is_none-via-else-is_none}
 

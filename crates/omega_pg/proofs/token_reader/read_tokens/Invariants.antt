@@ -1,5 +1,6 @@
+-- `read_tokens`: the text is read up to this place, and its tokens are taken or the first wrong one is noted.
 use Rattle.std.proofs.Common.{◌≤◌, ◌-◌, length}
-use Rattle.omega_pg.specs.Reading.{IsReadTo}
+use Rattle.omega_pg.specs.reader.Reading.{IsReadTo}
 use Rattle.omega_pg.proofs.token_reader.read_tokens.Given as goal
 
 abbrev pub invariant-loop-reader : goal.invariant-loop-reader

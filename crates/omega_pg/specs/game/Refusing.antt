@@ -1,0 +1,45 @@
+-- Which refusal a game text meets, and their order: 4, then 1 or 2 at the least place, then 3, then the least of 10 to 14.
+use Rattle.std.specs.Prelude.{◌≡◌, ℕ, ◌≤◌, Bool, true, false, ◌⊎◌, Option, Some, None, List, length, nat_lt, if◌then◌else◌}
+use Rattle.std.specs.List.{list_any}
+use Rattle.omega_text.specs.Cases.{never, or_game, or_text}
+use Rattle.omega_text.specs.Limits.{most_text}
+use Rattle.omega_text.specs.declared.refusal.Refusal.{Refusal}
+use Rattle.omega_text.specs.declared.refusal.Refusal.TheVariants.{Memory}
+use Rattle.omega_text.specs.declared.refusal.game.GameFault.{GameFault}
+use Rattle.omega_text.specs.declared.refusal.game.GameFault.TheVariants.{DuplicateNode, HeaderTooSmall, UndefinedSuccessor}
+use Rattle.omega_game.specs.Building.{fault_of, has_duplicate, has_undefined}
+use Rattle.omega_game.specs.declared.node_spec.NodeSpec.{NodeSpec}
+use Rattle.omega_pg.specs.Syntax.{IsTextFault, Writes}
+use Rattle.omega_pg.specs.game.Grammar.{RawGame, SpellsGame}
+
+-- the number of a header is below some identifier
+abbrev pub is_header_small : Option ℕ → List NodeSpec → Bool
+is_header_small None specs = false
+is_header_small (Some number) specs = list_any (λ spec. nat_lt number spec.id) specs
+
+-- the fault of specifications behind a header that is too small or not, or none: that of the header comes behind 10 and 11, and before 13 and 14
+abbrev pub fault_with : Bool → List NodeSpec → Option GameFault
+fault_with false specs = fault_of specs
+fault_with true specs =
+    if has_duplicate specs then Some DuplicateNode else
+    if has_undefined specs then Some UndefinedSuccessor else
+    Some HeaderTooSmall
+
+-- the fault of what is written, or none
+abbrev pub fault_in : RawGame → Option GameFault
+fault_in raw = fault_with (is_header_small raw.header raw.specs) raw.specs
+
+-- the bytes are a text of the grammar, and what is written makes no game
+pub record IsGameFault (source : List ℕ) (fault : GameFault) : Type 0 where
+  pub short : length source ≤ most_text
+  pub raw : RawGame
+  pub writes : Writes SpellsGame source raw
+  pub fault_there : fault_in raw ≡ Some fault
+
+-- the refusal of a game text
+abbrev pub IsRefusal : List ℕ → Refusal → Type 0
+IsRefusal source = or_text (IsTextFault SpellsGame source) (or_game (IsGameFault source) never)
+
+-- what a call that reads may answer in place of a game: memory, or the refusal of the text
+abbrev pub IsReadRefusal : List ℕ → Refusal → Type 0
+IsReadRefusal source refusal = (refusal ≡ Memory) ⊎ IsRefusal source refusal

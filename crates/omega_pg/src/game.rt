@@ -1,0 +1,7 @@
+//! The text of a game: read, written, and what holds of every one.
+
+pub(crate) mod laws;
+mod reader;
+pub(crate) mod reading;
+mod stage;
+pub(crate) mod writing;
