@@ -12,6 +12,3 @@ pub use omega_game::{Game, GameFault, Player, Refusal, Seq, Strategy, TaskFault}
 pub use solution::Solution;
 pub use solution::reading::read_solution;
 pub use solution::writing::write_solution;
-
-#[cfg(test)]
-mod tests;

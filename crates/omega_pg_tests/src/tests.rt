@@ -1,7 +1,9 @@
 mod solutions;
 
-use super::*;
-use omega_text::TextFault;
+use omega_pg::{
+    GameFault, Player, Refusal, TaskFault, read_game, read_solution, write_game, write_solution,
+};
+use omega_text::{MOST_TEXT, TextFault};
 use std::alloc::Global;
 use std::test::*;
 
@@ -92,14 +94,11 @@ fn refused_game_texts(rt: HostRuntime) {
 }
 
 #[test]
-fn long_game_texts(rt: HostRuntime) -> Result<(), Fail> {
-    let long = vec![in rt.alloc(); b'$'; 16_777_217]?;
-    assert_eq!(rt;
-        refusal(rt.alloc(), &long),
-        Some(Refusal::Text(TextFault::TooLong))
-    );
-    let signs = vec![in rt.alloc(); b';'; 1_000_000]?;
-    assert_eq!(rt; refusal(rt.alloc(), &signs), Some(syntax(0)));
+fn texts_above_the_limit(rt: HostRuntime) -> Result<(), Fail> {
+    let long = vec![in rt.alloc(); b'$'; MOST_TEXT + 1]?;
+    let too_long = Refusal::Text(TextFault::TooLong);
+    assert_eq!(rt; refusal(rt.alloc(), &long), Some(too_long));
+    assert_eq!(rt; solutions::refusal(rt.alloc(), &long), Some(too_long));
     Ok(())
 }
 

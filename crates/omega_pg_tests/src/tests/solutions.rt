@@ -1,10 +1,13 @@
-use super::*;
+use super::{lex, number, solved, syntax};
+use omega_pg::{Player, Refusal, TaskFault, read_game, read_solution};
+use std::alloc::Global;
+use std::test::*;
 
 /// Two nodes, whose identifiers have gaps: 4 of player 0, and 9 of player 1.
 const GAME: &[u8] = b"9 3 1 4; 4 2 0 9,4;";
 
 /// The refusal of a text of a solution of that game, or none if it is read.
-fn solution_refusal(alloc: Global, text: &[u8]) -> Option<Refusal> {
+pub(super) fn refusal(alloc: Global, text: &[u8]) -> Option<Refusal> {
     match solved(alloc, GAME, text) {
         Ok(_found) => None,
         Err(refusal) => Some(refusal),
@@ -80,7 +83,7 @@ fn bad_solutions(rt: HostRuntime) {
     ];
     for (reason, text) in rows {
         let bad = Refusal::Task(TaskFault::BadSolution);
-        assert_eq!(rt; solution_refusal(rt.alloc(), text), Some(bad), "{reason}");
+        assert_eq!(rt; refusal(rt.alloc(), text), Some(bad), "{reason}");
     }
 }
 
@@ -102,7 +105,7 @@ fn places_of_syntax_faults(rt: HostRuntime) {
         (b"paritysol 9; 4 0 9 9 1 4;".as_slice(), 19),
     ];
     for (text, at) in rows {
-        assert_eq!(rt; solution_refusal(rt.alloc(), text), Some(syntax(at)));
+        assert_eq!(rt; refusal(rt.alloc(), text), Some(syntax(at)));
     }
 }
 
@@ -118,7 +121,7 @@ fn faults_of_tokens(rt: HostRuntime) {
         (b"paritysol 9; 4 2 9; 01".as_slice(), number(20)),
     ];
     for (text, want) in rows {
-        assert_eq!(rt; solution_refusal(rt.alloc(), text), Some(want));
+        assert_eq!(rt; refusal(rt.alloc(), text), Some(want));
     }
 }
 
@@ -133,23 +136,10 @@ fn fronts_of_a_solution_text(rt: HostRuntime) {
             _ => syntax(length),
         };
         assert_eq!(rt;
-            solution_refusal(rt.alloc(), &text[..length]),
+            refusal(rt.alloc(), &text[..length]),
             Some(want),
             "at {length}"
         );
     }
-    assert_eq!(rt; solution_refusal(rt.alloc(), text), None);
-}
-
-#[test]
-fn long_solution_texts(rt: HostRuntime) -> Result<(), Fail> {
-    let long = vec![in rt.alloc(); b'$'; 16_777_217]?;
-    let too_long = Refusal::Text(TextFault::TooLong);
-    assert_eq!(rt; solution_refusal(rt.alloc(), &long), Some(too_long));
-    let white = vec![in rt.alloc(); b' '; 16_777_216]?;
-    assert_eq!(rt;
-        solution_refusal(rt.alloc(), &white),
-        Some(syntax(16_777_216))
-    );
-    Ok(())
+    assert_eq!(rt; refusal(rt.alloc(), text), None);
 }
