@@ -7,6 +7,7 @@ use Rattle.std.specs.List.Sorted.{IsPermutation}
 use Rattle.std.proofs.lemmas.List.Sorted.{IsPermutation-map, All-permutation}
 use Rattle.std.proofs.lemmas.List.Elements.{All-set, All-push}
 use Rattle.std.proofs.lemmas.List.FromFn.{length-range_with_len, get_or-range_with_len, length-map-range_with_len, get_or-map-range_with_len}
+use Rattle.omega_text.specs.Limits.{most_number}
 use Rattle.omega_game.specs.declared.player.Player.{Player}
 use Rattle.omega_game.specs.declared.player.Player.TheVariants.{Zero}
 use Rattle.omega_game.specs.declared.node_spec.NodeSpec.{NodeSpec}
@@ -202,11 +203,11 @@ AreCollected-push ids ranks owners lists quoted id rank owner list kept well = r
 }
 
 -- a specification with a successor more is well formed
-IsWellFormed-with_successor : (successor : ℕ) → successor ≤ 2147483647 → (spec : NodeSpec) → IsWellFormed spec → IsWellFormed (with_successor successor spec)
+IsWellFormed-with_successor : (successor : ℕ) → successor ≤ most_number → (spec : NodeSpec) → IsWellFormed spec → IsWellFormed (with_successor successor spec)
 IsWellFormed-with_successor successor h spec well = record {
   id = well.id;
   priority = well.priority;
-  successors = All-push (λ x. x ≤ 2147483647) spec.successors successor well.successors h;
+  successors = All-push (λ x. x ≤ most_number) spec.successors successor well.successors h;
   continued = omega (arith, length_push spec.successors successor);
   name = well.name;
 }
@@ -216,7 +217,7 @@ IsWellFormed-with_name : (name : List ℕ) → All IsNameByte name → (spec : N
 IsWellFormed-with_name name h spec well = record { id = well.id; priority = well.priority; successors = well.successors; continued = well.continued; name = h }
 
 -- what a builder keeps, with a successor more of the last specification
-pub AreCollected-successor : (ids ranks : List ℕ) (owners : List Player) (lists quoted : List (List ℕ)) (successor : ℕ) → successor ≤ 2147483647
+pub AreCollected-successor : (ids ranks : List ℕ) (owners : List Player) (lists quoted : List (List ℕ)) (successor : ℕ) → successor ≤ most_number
     → AreCollected (collected ids ranks owners lists quoted) → 0 < length ids
     → AreCollected (collected ids ranks owners (set lists (length lists - 1) (get_or lists (length lists - 1) [] ++ successor ∷ [])) quoted)
 AreCollected-successor ids ranks owners lists quoted successor h kept some = record {

@@ -3,7 +3,7 @@ use Rattle.std.proofs.Common.{◌≡◌, ◌==◌, ℕ, ◌<◌, ◌≤◌, Bool
 use Rattle.std.proofs.lemmas.List.{get_or-map, length-map}
 use Rattle.std.proofs.lemmas.List.Elements.{All-contains}
 use Rattle.std.proofs.lemmas.List.Sorted.{Contains-permutation, IsPermutation-sym, length_permutation, sum_by-IsPermutation}
-use Rattle.omega_game.specs.declared.limits.TheConstants.{MOST_NODES, MOST_EDGES}
+use Rattle.omega_game.specs.Limits.{most_nodes, most_successors}
 use Rattle.omega_game.specs.declared.node_spec.NodeSpec.{NodeSpec}
 use Rattle.omega_text.specs.declared.refusal.game.GameFault.{GameFault}
 use Rattle.omega_text.specs.declared.refusal.game.GameFault.TheVariants.{DuplicateNode, UndefinedSuccessor, TooManyEdges, TooManyNodes}
@@ -42,7 +42,7 @@ all_fail false false false false none = record { first = refl; second = refl; th
 
 -- the fault of specifications is such a refusal
 fault_is : (specs : List NodeSpec) → fault_of specs ≡
-    first_fault (has_duplicate specs) (has_undefined specs) (nat_lt MOST_NODES (length specs)) (nat_lt MOST_EDGES (listed_successors specs))
+    first_fault (has_duplicate specs) (has_undefined specs) (nat_lt most_nodes (length specs)) (nat_lt most_successors (listed_successors specs))
 unfolding first_fault
 fault_is specs = refl
 
@@ -50,8 +50,8 @@ fault_is specs = refl
 pub record IsFaultless (specs : List NodeSpec) : Type 0 where
   pub no_duplicate : has_duplicate specs ≡ false
   pub no_undefined : has_undefined specs ≡ false
-  pub few_nodes : length specs ≤ MOST_NODES
-  pub few_edges : listed_successors specs ≤ MOST_EDGES
+  pub few_nodes : length specs ≤ most_nodes
+  pub few_edges : listed_successors specs ≤ most_successors
 
 -- from the refusal
 pub faultless_from_none : (specs : List NodeSpec) → fault_of specs ≡ None → IsFaultless specs
@@ -60,8 +60,8 @@ faultless_from_none specs none =
     record {
       no_duplicate = tests.first;
       no_undefined = tests.second;
-      few_nodes = ltb-false MOST_NODES (length specs) tests.third;
-      few_edges = ltb-false MOST_EDGES (listed_successors specs) tests.fourth;
+      few_nodes = ltb-false most_nodes (length specs) tests.third;
+      few_edges = ltb-false most_successors (listed_successors specs) tests.fourth;
     }
 
 module _ (specs : List NodeSpec) (nodes : List Node) (given : IsGameOf specs nodes) where
@@ -121,8 +121,8 @@ module _ (specs : List NodeSpec) (nodes : List Node) (given : IsGameOf specs nod
   pub without_fault : IsWithinLimits nodes → fault_of specs ≡ None
   without_fault limits =
       fault_is specs ∙ no_fault _ _ _ _ no_duplicate no_undefined
-      (le-ltb MOST_NODES (length specs) (omega (arith, limits.few_nodes, length_permutation specs ordered given.rearranged, length-map nodes (specified nodes))))
-      (le-ltb MOST_EDGES (listed_successors specs) (omega (arith, limits.few_edges, listed_kept)))
+      (le-ltb most_nodes (length specs) (omega (arith, limits.few_nodes, length_permutation specs ordered given.rearranged, length-map nodes (specified nodes))))
+      (le-ltb most_successors (listed_successors specs) (omega (arith, limits.few_edges, listed_kept)))
 
   -- the specification of each node is given
   node_given : (v : ℕ) (d : Node) → v < length nodes → Contains specs (specified nodes (get_or nodes v d))

@@ -6,6 +6,7 @@ use Rattle.std.proofs.lemmas.Bool.{cases_lt, and_parts, eqb-true}
 use Rattle.std.proofs.lemmas.List.{same_lists, get_or-map, length-map, get_or_default, get_or_past}
 use Rattle.std.proofs.lemmas.List.Quantifiers.{position-Some}
 use Rattle.std.proofs.lemmas.List.Sorted.{IsPermutation-refl}
+use Rattle.omega_game.specs.Limits.{most_nodes, most_successors}
 use Rattle.omega_game.specs.declared.player.Player.{Player}
 use Rattle.omega_game.specs.declared.node_spec.NodeSpec.{NodeSpec}
 use Rattle.omega_game.specs.Game.{Node, no_node, IsGame, IsWithinLimits, IsWritable, HasEdge, node_at, successors_at}
@@ -133,7 +134,7 @@ IsGameOf-columns ids ranks owners lists quoted places kept are some rises = reco
 
 -- the limits of the game
 pub limits_of_columns : (ids ranks : List ℕ) (owners : List Player) (lists quoted places : List (List ℕ)) → AreCollected (collected ids ranks owners lists quoted) → AreResolved ids lists places
-    → length ids ≤ 1048576 → sum_by (λ list. length list) places ≤ 8388608 → IsWithinLimits (nodes_of (collected ids ranks owners places quoted))
+    → length ids ≤ most_nodes → sum_by (λ list. length list) places ≤ most_successors → IsWithinLimits (nodes_of (collected ids ranks owners places quoted))
 unfolding node_in spec_in
 limits_of_columns ids ranks owners lists quoted places kept are few_nodes few_edges = record {
   few_nodes = omega (arith, length-nodes_of after);

@@ -8,7 +8,7 @@ use Rattle.std.proofs.lemmas.List.Kept.{AllPairs-from_increasing}
 use Rattle.std.proofs.lemmas.List.Sums.{passes_at_first, fails_before_first}
 use Rattle.std.specs.List.{list_any, position_or_len}
 use Rattle.std.specs.List.Sorted.{IsStrictlyIncreasing}
-use Rattle.omega_game.specs.Part.{new_place}
+use Rattle.omega_game.specs.Part.{StandsAt, new_place}
 
 module _ {X : Type 0} where
   -- the head
@@ -62,17 +62,11 @@ same_map f g (x ∷ xs) (y ∷ ys) apart same =
     ap₂ ◌∷◌ (apart x y (Contains-here x xs) (Contains-here y ys) (cc))
     (same_map f g xs ys (λ a b first second. apart a b (Contains-there x a xs first) (Contains-there y b ys second)) (cc))
 
--- where a number of a list stands first
-pub record IsPlaceOf (xs : List ℕ) (u : ℕ) : Type 0 where
-  pub found : position (λ x. x == u) xs ≡ Some (new_place xs u)
-  pub below : new_place xs u < length xs
-  pub holds : slice_index xs (new_place xs u) ≡ u
-
 -- a number that a list contains stands somewhere first
-pub place_of_contained : (xs : List ℕ) (u : ℕ) → Contains xs u → IsPlaceOf xs u
+pub place_of_contained : (xs : List ℕ) (u : ℕ) → Contains xs u → StandsAt xs u (new_place xs u)
 place_of_contained xs u contained = go (cases_lt (position_or_len (λ x. x == u) xs) (length xs))
   where
-    go : (position_or_len (λ x. x == u) xs < length xs) ⊎ (length xs ≤ position_or_len (λ x. x == u) xs) → IsPlaceOf xs u
+    go : (position_or_len (λ x. x == u) xs < length xs) ⊎ (length xs ≤ position_or_len (λ x. x == u) xs) → StandsAt xs u (new_place xs u)
     go (inl below) =
         let found : position (λ x. x == u) xs ≡ Some (position_or_len (λ x. x == u) xs) = cond-true _ _ _ (lt-ltb _ _ below) in
         let is : new_place xs u ≡ position_or_len (λ x. x == u) xs = ap (λ place. unwrap_or place 0) found in

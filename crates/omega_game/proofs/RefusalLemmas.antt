@@ -7,6 +7,8 @@ use Rattle.std.proofs.Common.{inl, inr}
 use Rattle.std.proofs.lemmas.List.{length-map}
 use Rattle.std.proofs.lemmas.List.Sums.{sum_by-cons}
 use Rattle.omega_text.specs.declared.refusal.game.GameFault.TheVariants.{DuplicateNode, UndefinedSuccessor, TooManyEdges, TooManyNodes}
+use Rattle.omega_text.specs.Limits.{most_number}
+use Rattle.omega_game.specs.Limits.{most_nodes, most_successors}
 use Rattle.omega_game.specs.declared.player.Player.{Player}
 use Rattle.omega_game.specs.declared.node_spec.NodeSpec.{NodeSpec}
 use Rattle.omega_game.specs.Building.{AreCollected, fault_of, has_duplicate, has_undefined, ids_of, listed_successors}
@@ -32,17 +34,17 @@ sum_by-places ids lists places placed =
 -- the parts of the refusal of specifications whose identifiers rise
 pub record KnowsFault (specs : List NodeSpec) (ids : List ℕ) (lists : List (List ℕ)) : Type 0 where
   pub undefined : list_all (λ list. list_all (is_defined ids) list) lists ≡ false → fault_of specs ≡ Some UndefinedSuccessor
-  pub nodes : list_all (λ list. list_all (is_defined ids) list) lists ≡ true → 1048576 < length ids → fault_of specs ≡ Some TooManyNodes
-  pub edges : list_all (λ list. list_all (is_defined ids) list) lists ≡ true → length ids ≤ 1048576 → 8388608 < sum_by (λ list. length list) lists → fault_of specs ≡ Some TooManyEdges
-  pub none : list_all (λ list. list_all (is_defined ids) list) lists ≡ true → length ids ≤ 1048576 → sum_by (λ list. length list) lists ≤ 8388608 → fault_of specs ≡ None
+  pub nodes : list_all (λ list. list_all (is_defined ids) list) lists ≡ true → most_nodes < length ids → fault_of specs ≡ Some TooManyNodes
+  pub edges : list_all (λ list. list_all (is_defined ids) list) lists ≡ true → length ids ≤ most_nodes → most_successors < sum_by (λ list. length list) lists → fault_of specs ≡ Some TooManyEdges
+  pub none : list_all (λ list. list_all (is_defined ids) list) lists ≡ true → length ids ≤ most_nodes → sum_by (λ list. length list) lists ≤ most_successors → fault_of specs ≡ None
 
 -- the refusal of specifications whose identifiers rise
 pub knows_fault : (columns : Columns) (specs : List NodeSpec) → specs_of columns ≡ specs → AreEven columns → IsStrictlyIncreasing columns.identifiers → KnowsFault specs columns.identifiers columns.successors
 knows_fault columns specs is even rises = record {
   undefined = λ missing. rw (once, undefined_is, missing) refl;
-  nodes = λ all many. rw (once, undefined_is, all, count, lt-ltb 1048576 (length columns.identifiers) many) refl;
-  edges = λ all few many. rw (once, undefined_is, all, count, le-ltb 1048576 (length columns.identifiers) few, edge_sum, lt-ltb 8388608 (sum_by (λ list. length list) columns.successors) many) refl;
-  none = λ all few few_edges. rw (once, undefined_is, all, count, le-ltb 1048576 (length columns.identifiers) few, edge_sum, le-ltb 8388608 (sum_by (λ list. length list) columns.successors) few_edges) refl;
+  nodes = λ all many. rw (once, undefined_is, all, count, lt-ltb most_nodes (length columns.identifiers) many) refl;
+  edges = λ all few many. rw (once, undefined_is, all, count, le-ltb most_nodes (length columns.identifiers) few, edge_sum, lt-ltb most_successors (sum_by (λ list. length list) columns.successors) many) refl;
+  none = λ all few few_edges. rw (once, undefined_is, all, count, le-ltb most_nodes (length columns.identifiers) few, edge_sum, le-ltb most_successors (sum_by (λ list. length list) columns.successors) few_edges) refl;
 }
   where
     ids_are : ids_of specs ≡ columns.identifiers
@@ -69,7 +71,7 @@ duplicate_refused specs none twice = rw twice refl
 
 -- identifiers within the greatest number that rise are few
 pub few_listed : (columns : Columns) (listed : List ℕ) → AreCollected columns → IsStrictlyIncreasing columns.identifiers → 0 < length columns.identifiers
-    → identifiers_of (length columns.identifiers) listed ≡ columns.identifiers → length listed ≤ 2147483648
+    → identifiers_of (length columns.identifiers) listed ≡ columns.identifiers → length listed ≤ most_number + 1
 unfolding spec_in
 few_listed columns listed kept rises some are = elim (cases_lt 0 (length listed)) [
   | inl l ↦ let size : length listed ≡ length columns.identifiers = sym (length-listed (length columns.identifiers) listed l) ∙ ap length are in
@@ -77,8 +79,8 @@ few_listed columns listed kept rises some are = elim (cases_lt 0 (length listed)
       let great : get_or columns.identifiers 0 0 + last ≤ get_or columns.identifiers (0 + last) 0 = rises_by columns.identifiers rises 0 last (omega arith) in
       let at : 0 + last ≡ last = omega arith in
       let above : last ≤ get_or columns.identifiers last 0 = subst (λ (m : ℕ). last ≤ get_or columns.identifiers m 0) at (omega arith) in
-      let bound : get_or columns.identifiers last 0 ≤ 2147483647 =
-      subst (λ (spec : NodeSpec). spec.id ≤ 2147483647) (get_or-specs_of columns last (spec_in columns 0) (omega arith)) (kept.well_formed last (spec_in columns 0) (omega (arith, length-specs_of columns))).id in
+      let bound : get_or columns.identifiers last 0 ≤ most_number =
+      subst (λ (spec : NodeSpec). spec.id ≤ most_number) (get_or-specs_of columns last (spec_in columns 0) (omega arith)) (kept.well_formed last (spec_in columns 0) (omega (arith, length-specs_of columns))).id in
       omega arith
   | inr l ↦ omega arith
 ]

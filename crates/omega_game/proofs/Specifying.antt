@@ -4,6 +4,7 @@ use Rattle.std.proofs.lemmas.List.{take_more, map-append, append-nil}
 use Rattle.std.proofs.lemmas.List.Elements.{Contains-get_or, filter-append}
 use Rattle.std.proofs.lemmas.List.FromFn.{map-range_with_len_more}
 use Rattle.std.specs.List.{range_with_len}
+use Rattle.omega_text.specs.Limits.{most_number}
 use Rattle.omega_game.specs.declared.node_spec.NodeSpec.{NodeSpec}
 use Rattle.omega_game.specs.Game.{Node, IsGame, IsWithinLimits, IsNameByte, node_at, no_node, successors_at}
 use Rattle.omega_game.specs.Building.{specified, with_last, with_name, with_successor}
@@ -40,7 +41,7 @@ no_name_added nodes node specs is = ap (λ (other : Option (List ℕ)). specs ++
 
 -- a node listed as a successor has an identifier within the limits
 pub successor_within : (nodes : List Node) (v : ℕ) (i : ℕ) → IsGame nodes → IsWithinLimits nodes → i < length (successors_at nodes v)
-    → (get_or (successors_at nodes v) i 0 < length nodes) × ((node_at nodes (get_or (successors_at nodes v) i 0)).identifier ≤ 2147483647)
+    → (get_or (successors_at nodes v) i 0 < length nodes) × ((node_at nodes (get_or (successors_at nodes v) i 0)).identifier ≤ most_number)
 successor_within nodes v i game limits within =
     let node : get_or (successors_at nodes v) i 0 < length nodes = game.closed v (get_or (successors_at nodes v) i 0) (Contains-get_or (successors_at nodes v) i 0 within) in
     (node, (limits.writable (get_or (successors_at nodes v) i 0) no_node node).identifier)

@@ -1,10 +1,11 @@
-use Rattle.std.specs.Prelude.{◌≡◌, ◌≢◌, ℕ, ◌+◌, ◌<◌, ◌≤◌, Option, Some, None, List, [], ◌∷◌, length, map, All, AllPairs, Contains, slice_index_or, slice_range}
+-- How a game lies in memory: nodes as columns, and lists that lie one behind the other.
+use Rattle.std.specs.Prelude.{◌≡◌, ℕ, ◌+◌, ◌<◌, ◌≤◌, Option, Some, None, List, [], ◌∷◌, length, map, slice_index_or, slice_range}
 use Rattle.std.specs.List.{range_with_len}
 use Rattle.omega_game.specs.declared.player.Player.{Player}
 use Rattle.omega_game.specs.declared.player.Player.TheVariants.{Zero}
 use Rattle.omega_game.specs.declared.node_spec.NodeSpec.{NodeSpec}
-use Rattle.omega_game.specs.declared.classes.Class.{Class}
-use Rattle.omega_game.specs.Bound.{bearers}
+use Rattle.omega_game.specs.declared.priority_counts.PriorityCount.{PriorityCount}
+use Rattle.omega_game.specs.Bound.{priority_counts}
 use Rattle.omega_game.specs.Game.{Node, IsGame, IsWithinLimits, predecessors_of}
 
 -- list i of those that lie one behind the other: from its start to the start of the next one, or to the end
@@ -84,19 +85,13 @@ columns_of listed ranks owners lists quoted = record {
   quoted = quoted;
 }
 
--- each priority that is borne, once, with the number of nodes that bear it
-pub record AreClasses (ranks : List ℕ) (classes : List Class) : Type 0 where
-  pub counted : All (λ class. (class.bearers ≡ bearers ranks class.priority) × (0 < class.bearers)) classes
-  pub apart : AllPairs (λ class other. class.priority ≢ other.priority) classes
-  pub borne : (q : ℕ) → Contains ranks q → Contains (map (λ class. class.priority) classes) q
-
--- what a game keeps: even columns of a game within the limits, with its predecessors and the classes of its priorities
-pub record IsLaidOut (columns : Columns) (entering : List (List ℕ)) (classes : List Class) : Type 0 where
+-- what a game keeps: even columns of a game within the limits, with its predecessors and its priorities counted
+pub record IsLaidOut (columns : Columns) (entering : List (List ℕ)) (counts : List PriorityCount) : Type 0 where
   pub even : AreEven columns
   pub game : IsGame (nodes_of columns)
   pub limits : IsWithinLimits (nodes_of columns)
   pub entering_all : entering ≡ map (predecessors_of (nodes_of columns)) (range_with_len 0 (length columns.identifiers))
-  pub classified : AreClasses columns.priorities classes
+  pub counted : counts ≡ priority_counts columns.priorities
 
 -- the columns of specifications: the identifiers, priorities, owners, successors and quoted names
 abbrev pub collected : List ℕ → List ℕ → List Player → List (List ℕ) → List (List ℕ) → Columns

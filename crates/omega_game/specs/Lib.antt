@@ -1,7 +1,11 @@
+pub use Rattle.omega_text.specs.Cases
 pub use Rattle.omega_text.specs.Refusal
+pub mod Limits
+pub mod Player
 pub mod Game
 pub mod Winning
 pub mod Bound
+pub mod Counting
 pub mod Factors
 pub mod Part
 pub mod Checking

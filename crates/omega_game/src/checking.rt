@@ -56,8 +56,7 @@ fn wins_from(
     requires strategy { IsStrategy game.now player choices.now }
     ensures wins { IfOk result (λ answer. IsTrue answer ↔ All (λ place. Wins game.now player choices.now place) places.now) }
 {
-    // For its clauses alone: each successor is a place, and each priority is within the limits.
-    let _count = game.len();
+    game.keeps_limits();
     let marks = reached_from(alloc, game, choices, u32::MAX, places)?;
     let answer = decide(alloc, game, player, choices, &marks)?;
     Ok(answer)

@@ -14,8 +14,7 @@ pub(crate) fn edges_left<'a>(game: &'a Game, choices: &'a [Option<u32>], place: 
     ensures left { result.now ≡ left_at game.now choices.now place }
     ensures inside { All (λ left. left < length game.now) result.now }
 {
-    // For its clause alone: each successor is a place.
-    let _count = game.len();
+    game.keeps_limits();
     match choices.get(place as usize) {
         Some(Some(chosen)) => slice::from_ref(chosen),
         _ => game.successors(place),

@@ -2,6 +2,7 @@
 ghost use Rattle.std.specs.Prelude.{◌<◌, ◌≤◌, length, All, IfOk, IfSome, IsTrue};
 ghost use Rattle.omega_game.specs.Building.{IsWellFormed};
 ghost use Rattle.omega_game.specs.Game.{IsNameByte};
+ghost use Rattle.omega_text.specs.Limits.{most_number};
 
 use crate::Player::{One, Zero};
 use crate::{Game, GameBuilder, MOST_NUMBER, NodeSpec, Player, Refusal, Seq};
@@ -93,7 +94,7 @@ fn spec_of(alloc: Global, row: Row) -> Result<NodeSpec, Refusal>
 /// Whether these are numbers that a text can hold, at least one.
 fn are_numbers(numbers: &[u32]) -> bool
     ensures some { IsTrue result → 0 < length numbers.now }
-    ensures numbers { IsTrue result → All (λ number. number ≤ MOST_NUMBER) numbers.now }
+    ensures numbers { IsTrue result → All (λ number. number ≤ most_number) numbers.now }
 {
     !numbers.is_empty() && numbers.iter().all(|number| *number <= MOST_NUMBER)
 }

@@ -8,7 +8,6 @@ use crate::checking::nesting::{Finding, search_nested};
 use crate::checking::ordering::shows_none;
 use crate::checking::recurring::{none_recurs, recurs};
 use crate::game::Game;
-use crate::losing::is_losing;
 use crate::player::Player;
 use crate::reaching::edges_left;
 use std::alloc::{AllocError, Global};
@@ -59,7 +58,7 @@ fn loses_at(
     if place as usize >= game.len() || !marks[place as usize] {
         return Ok(false);
     }
-    if !is_losing(player, game.priority(place)) {
+    if !player.loses(game.priority(place)) {
         return Ok(false);
     }
     let answer = recurs(alloc, game, choices, place)?;

@@ -4,7 +4,6 @@ ghost use Rattle.std.specs.Prelude.{◌≡◌, ℕ, ◌<◌, ◌≤◌, length, 
 ghost use Rattle.omega_game.specs.Checking.{mark_at, LeadsInside, AreClosed, AreEnds, IsInOrder, NoneRecurs, StandsInOrder};
 
 use crate::game::Game;
-use crate::losing::is_losing;
 use crate::player::Player;
 use crate::reaching::edges_left;
 use std::alloc::{AllocError, Global};
@@ -172,5 +171,5 @@ fn is_in_order(
     if number < back {
         return true;
     }
-    !is_losing(player, game.priority(next)) && number < ends[back]
+    !player.loses(game.priority(next)) && number < ends[back]
 }

@@ -10,4 +10,4 @@ returns-in-Some-Some-clause-inside c =
 
 pub returns-in_default-clause-inside : goal.returns-in_default-clause-inside
 returns-in_default-clause-inside c =
-    left_inside c.args.game.now [] c.args.place c.successors.result.now (nothing_chosen c.args.game.now c.len-count.ensures.game) c.successors.ensures
+    left_inside c.args.game.now [] c.args.place c.successors.result.now (nothing_chosen c.args.game.now c.keeps_limits.ensures.game) c.successors.ensures

@@ -1,6 +1,6 @@
 use Rattle.std.proofs.Common.{ℕ, ◌<◌, IsTrue}
 use Rattle.omega_game.specs.Game.{priority_at}
-use Rattle.omega_game.specs.Winning.{loses}
+use Rattle.omega_game.specs.Player.{loses}
 use Rattle.omega_game.specs.Checking.{mark_at, Recurs}
 use Rattle.omega_game.proofs.checking.recurring.none_recurs.Given as goal
 
