@@ -4,6 +4,7 @@ pub mod Changes
 pub mod Decided
 pub mod Grammar
 pub mod Listed
+pub mod Players
 pub mod RoundTrip
 pub mod Shown
 pub mod Spelled

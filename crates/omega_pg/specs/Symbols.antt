@@ -31,8 +31,3 @@ symbol Name value text = name (between_quotes text)
 -- the symbols of tokens
 abbrev pub symbols_of : List Lexeme → List Symbol
 symbols_of lexemes = map (λ lexeme. symbol lexeme.kind lexeme.value lexeme.text) lexemes
-
--- the number that stands for a player
-abbrev pub player_number : Player → ℕ
-player_number Zero = 0
-player_number One = 1

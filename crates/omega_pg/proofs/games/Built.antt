@@ -9,14 +9,14 @@ use Rattle.std.specs.List.{list_any}
 use Rattle.std.proofs.lemmas.Bool.{ltb-false, or_parts}
 use Rattle.std.proofs.lemmas.List.Elements.{All-cons, All-nil}
 use Rattle.omega_text.specs.declared.refusal.game.GameFault.{GameFault}
-use Rattle.omega_game.specs.Building.{IsGameOf, has_duplicate, has_undefined}
+use Rattle.omega_game.specs.Building.{IsGameOf, has_duplicate, has_undefined, fault_with}
 use Rattle.omega_game.specs.Game.{IsWithinLimits, Node}
 use Rattle.omega_game.specs.declared.node_spec.NodeSpec.{NodeSpec}
 use Rattle.omega_pg.specs.game.reader.Automaton.{IsReached, State}
 use Rattle.omega_pg.specs.game.reader.Built.{IsBuiltRefusal}
 use Rattle.omega_pg.specs.game.Grammar.{SpellsGame}
 use Rattle.omega_pg.specs.reader.Reading.{IsRead}
-use Rattle.omega_pg.specs.game.Refusing.{IsReadRefusal, fault_with, is_header_small}
+use Rattle.omega_pg.specs.game.Refusing.{IsReadRefusal, is_header_small}
 use Rattle.omega_pg.specs.Symbols.{symbols_of}
 use Rattle.omega_pg.specs.Syntax.{Writes}
 use Rattle.omega_pg.specs.game.Text.{Covers, IsGameText}

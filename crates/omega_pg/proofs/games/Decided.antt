@@ -5,12 +5,12 @@ use Rattle.omega_text.specs.Laws.{CutOrFault}
 use Rattle.omega_text.specs.Limits.{most_text}
 use Rattle.omega_text.specs.declared.refusal.Refusal.{Refusal}
 use Rattle.omega_text.specs.declared.refusal.Refusal.TheVariants.{Game, Text}
-use Rattle.omega_game.specs.Building.{IsWellFormed, fault_of}
+use Rattle.omega_game.specs.Building.{IsWellFormed, fault_of, fault_with}
 use Rattle.omega_game.specs.Game.{Node}
 use Rattle.omega_game.specs.Laws.{GamesExist, GamesKeepLimits}
 use Rattle.omega_pg.specs.game.Grammar.{RawGame, SpellsGame, header_symbols, node_symbols}
 use Rattle.omega_pg.specs.game.Laws.{TextsAreReadOrRefused}
-use Rattle.omega_pg.specs.game.Refusing.{IsRefusal, fault_in, fault_with, is_header_small}
+use Rattle.omega_pg.specs.game.Refusing.{IsRefusal, fault_in, is_header_small}
 use Rattle.omega_pg.specs.Symbols.{symbols_of}
 use Rattle.omega_pg.specs.Syntax.{Writes}
 use Rattle.omega_pg.specs.game.Text.{IsGameText}

@@ -7,10 +7,10 @@ use Rattle.std.proofs.lemmas.List.Elements.{All-from_get_or, All-map}
 use Rattle.std.proofs.lemmas.List.Sorted.{IsPermutation-refl}
 use Rattle.omega_text.specs.Laws.{EndsAreGaps, NamesAreLongest, NumbersAreLongest, SignsAreLongest, TokensFollow, WordsAreLongest}
 use Rattle.omega_game.specs.Building.{IsWellFormed, specified}
-use Rattle.omega_game.specs.Game.{IsGame, IsWithinLimits, Node, identifiers, no_node, node_at, successors_at}
+use Rattle.omega_game.specs.Game.{IsGame, IsWithinLimits, Node, identifiers, no_node, node_at, successors_at, greatest_identifier, identifier_at}
 use Rattle.omega_text.specs.Limits.{most_number}
 use Rattle.omega_game.specs.declared.node_spec.NodeSpec.{NodeSpec}
-use Rattle.omega_pg.specs.game.Canonical.{canonical, greatest_identifier, identifier_at}
+use Rattle.omega_pg.specs.game.Canonical.{canonical}
 use Rattle.omega_pg.specs.game.Laws.{CanonicalTextsAreRead}
 use Rattle.omega_pg.proofs.games.Written.{text_written}
 use Rattle.omega_pg.proofs.games.Listed.{successors_are_places}

@@ -13,7 +13,8 @@ use Rattle.omega_game.specs.declared.player.Player.TheVariants.{One, Zero}
 use Rattle.omega_pg.specs.game.reader.Automaton.{State, after_comma, after_name, after_number, after_semicolon, after_word, begun, is_above, player_of, step, to_stage}
 use Rattle.omega_pg.specs.game.Grammar.{header_symbols, name_symbols, node_symbols, successor_symbols}
 use Rattle.omega_pg.specs.game.Refusing.{is_header_small}
-use Rattle.omega_pg.specs.Symbols.{Symbol, comma, name, number, parity, paritysol, player_number, semicolon}
+use Rattle.omega_pg.specs.Symbols.{Symbol, comma, name, number, parity, paritysol, semicolon}
+use Rattle.omega_game.specs.Player.{player_number}
 use Rattle.omega_pg.specs.declared.game.stage.Stage.{Stage}
 use Rattle.omega_pg.specs.declared.game.stage.Stage.TheVariants.{Comma, Ended, Headed, Identifier, Listed, Named, Number, Owner, Priority, Start, Word}
 use Rattle.omega_pg.proofs.games.Changes.{with_last_push}

@@ -8,7 +8,8 @@ use Rattle.omega_game.specs.declared.player.Player.{Player}
 use Rattle.omega_game.specs.declared.player.Player.TheVariants.{One, Zero}
 use Rattle.omega_pg.specs.game.reader.Automaton.{State, begun, initial, is_above, run}
 use Rattle.omega_pg.specs.game.Grammar.{RawGame, SpellsGame, header_symbols, name_symbols, node_symbols, successor_symbols}
-use Rattle.omega_pg.specs.Symbols.{Symbol, comma, number, player_number, semicolon}
+use Rattle.omega_pg.specs.Symbols.{Symbol, comma, number, semicolon}
+use Rattle.omega_game.specs.Player.{player_number}
 use Rattle.omega_pg.specs.declared.game.stage.Stage.{Stage}
 use Rattle.omega_pg.specs.declared.game.stage.Stage.TheVariants.{Ended, Identifier, Listed, Owner, Priority}
 use Rattle.omega_pg.proofs.games.Changes.{with_last_push}

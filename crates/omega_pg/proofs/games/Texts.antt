@@ -6,19 +6,19 @@ use Rattle.std.proofs.lemmas.List.Elements.{All-head, All-tail}
 use Rattle.omega_text.specs.Laws.{CutsAreOne, CutsHaveNoFault, FaultsAreOne}
 use Rattle.omega_text.specs.declared.refusal.Refusal.TheVariants.{Automaton, Game, Io, Memory, Task, Text}
 use Rattle.omega_text.specs.declared.refusal.game.GameFault.{GameFault}
-use Rattle.omega_game.specs.Building.{IsGameOf, fault_of}
-use Rattle.omega_game.specs.Laws.{GamesAreDetermined, GamesHaveNoFault}
+use Rattle.omega_game.specs.Building.{IsGameOf, fault_of, fault_with}
+use Rattle.omega_game.specs.Laws.{GamesHaveNoFault, SpecificationsHaveOneGame}
 use Rattle.omega_game.specs.declared.node_spec.NodeSpec.{NodeSpec}
 use Rattle.omega_pg.specs.game.Grammar.{RawGame, SpellsGame}
 use Rattle.omega_pg.specs.game.Laws.{GamesAreNotRefused, GamesOfTextsAreOne, RefusalsAreOne}
-use Rattle.omega_pg.specs.game.Refusing.{fault_in, fault_with, is_header_small}
+use Rattle.omega_pg.specs.game.Refusing.{fault_in, is_header_small}
 use Rattle.omega_pg.specs.game.Text.{Covers}
 use Rattle.omega_pg.proofs.reader.Deciding.{Writes-one}
 use Rattle.omega_pg.proofs.reader.Faults.{IsTextFault-apart, IsTextFault-one}
 use Rattle.omega_pg.proofs.games.Grammar.{decides_games}
 
 -- a text stands for at most one game
-pub games_one : CutsAreOne → GamesAreDetermined → GamesOfTextsAreOne
+pub games_one : CutsAreOne → SpecificationsHaveOneGame → GamesOfTextsAreOne
 games_one cuts determined source one other a b =
     determined b.raw.specs one other
     (subst (λ (raw : RawGame). IsGameOf raw.specs one) (Writes-one decides_games cuts source a.raw b.raw a.writes b.writes) a.rearranged) b.rearranged

@@ -13,7 +13,8 @@ use Rattle.omega_game.specs.declared.player.Player.{Player}
 use Rattle.omega_game.specs.declared.player.Player.TheVariants.{One, Zero}
 use Rattle.omega_pg.specs.game.Canonical.{header_line, listed, listed_behind, name_part, node_line}
 use Rattle.omega_pg.specs.game.Grammar.{header_symbols, name_symbols, node_symbols, successor_symbols}
-use Rattle.omega_pg.specs.Symbols.{Symbol, comma, number, player_number, semicolon}
+use Rattle.omega_pg.specs.Symbols.{Symbol, comma, number, semicolon}
+use Rattle.omega_game.specs.Player.{player_number}
 use Rattle.omega_pg.proofs.reader.Pieces.{EndsNumber, IsWritten, comma_written, end_written, name_written, number_written, parity_written, semicolon_written}
 
 -- a space is white

@@ -10,16 +10,15 @@ use Rattle.std.proofs.lemmas.List.Kept.{AllPairs-from_increasing}
 use Rattle.std.proofs.lemmas.Simd.{map-map}
 use Rattle.omega_text.specs.Laws.{CutsAreOne, CutsHaveNoFault, FaultsAreOne}
 use Rattle.omega_text.specs.declared.refusal.Refusal.TheVariants.{Automaton, Game, Io, Memory, Task, Text}
-use Rattle.omega_game.specs.Game.{IsGame, Node, identifiers, no_node, owner_at, successors_at}
+use Rattle.omega_game.specs.Game.{IsGame, Node, identifiers, no_node, owner_at, successors_at, identifier_at}
 use Rattle.omega_game.specs.declared.player.Player.{Player}
 use Rattle.omega_game.specs.declared.player.Player.TheVariants.{One, Zero}
 use Rattle.omega_pg.specs.solution.BadSolution.{IsNoSolution, IsWrongSuccessor}
-use Rattle.omega_pg.specs.game.Canonical.{identifier_at}
-use Rattle.omega_pg.specs.solution.Grammar.{Line, RawSolution, no_line}
-use Rattle.omega_pg.specs.solution.Solution.{IsSolution, choice_at, choices_of, winner_at}
+use Rattle.omega_pg.specs.solution.Grammar.{Line, RawSolution, no_line, SpellsSolution}
+use Rattle.omega_pg.specs.solution.Solution.{IsSolution, choices_of, winner_at}
+use Rattle.omega_game.specs.Winning.{choice_at}
 use Rattle.omega_pg.specs.solution.Text.{line_at, raw_solution}
 use Rattle.omega_pg.specs.solution.Laws.{ReasonsAreExact, SolutionRefusalsAreOne, SolutionsAreNotRefused, SolutionsOfTextsAreOne}
-use Rattle.omega_pg.specs.solution.Grammar.{SpellsSolution}
 use Rattle.omega_pg.specs.declared.solution.Solution.{Solution}
 use Rattle.omega_pg.proofs.reader.Deciding.{Writes-one}
 use Rattle.omega_pg.proofs.reader.Faults.{IsTextFault-apart, IsTextFault-one}

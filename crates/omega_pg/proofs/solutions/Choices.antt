@@ -1,15 +1,13 @@
 -- Choices and lines of solutions.
 use Rattle.std.proofs.Common.{◌≡◌, ℕ, zero, suc, ◌+◌, ◌<◌, Option, Some, None, IfSome, List, [], ◌∷◌, ◌++◌, length, map, refl, ap, sym, ◌∙◌, arith}
 use Rattle.std.specs.Prelude.{codes, decimal}
-use Rattle.omega_pg.specs.game.Canonical.{greatest_identifier}
+use Rattle.omega_game.specs.Game.{greatest_identifier, IsGame, Node}
 use Rattle.std.specs.List.{flat_map, range_with_len}
 use Rattle.std.proofs.lemmas.List.{flat_map_more}
 use Rattle.std.proofs.lemmas.List.FromFn.{map-range_with_len_more}
-use Rattle.omega_game.specs.Game.{IsGame, Node}
-use Rattle.omega_game.specs.Winning.{Chooses, IsStrategy}
+use Rattle.omega_game.specs.Winning.{Chooses, IsStrategy, choice_at}
 use Rattle.omega_game.specs.declared.player.Player.{Player}
 use Rattle.omega_pg.specs.solution.Grammar.{Line}
-use Rattle.omega_pg.specs.solution.Solution.{choice_at}
 use Rattle.omega_pg.specs.solution.Canonical.{solution_line}
 
 -- a choice that stands at a place is chosen there

@@ -9,19 +9,16 @@ use Rattle.omega_text.specs.Limits.{most_text}
 use Rattle.omega_text.specs.declared.refusal.Refusal.{Refusal}
 use Rattle.omega_text.specs.declared.refusal.Refusal.TheVariants.{Task, Text}
 use Rattle.omega_text.specs.declared.refusal.task.TaskFault.TheVariants.{BadSolution}
-use Rattle.omega_game.specs.Game.{Node, owner_at, successors_at}
+use Rattle.omega_game.specs.Game.{Node, owner_at, successors_at, greatest_identifier, identifier_at}
 use Rattle.omega_game.specs.declared.player.Player.{Player}
 use Rattle.omega_game.specs.declared.player.Player.TheVariants.{One, Zero}
 use Rattle.omega_pg.specs.solution.BadSolution.{IsNoSolution, IsWrongSuccessor}
-use Rattle.omega_pg.specs.game.Canonical.{greatest_identifier, identifier_at}
-use Rattle.omega_pg.specs.solution.Grammar.{Line, RawSolution, no_line}
+use Rattle.omega_pg.specs.solution.Grammar.{Line, RawSolution, no_line, SpellsSolution}
 use Rattle.omega_pg.specs.solution.Solution.{IsSolution}
-use Rattle.omega_pg.specs.solution.Text.{raw_solution}
+use Rattle.omega_pg.specs.solution.Text.{raw_solution, IsSolutionText}
 use Rattle.omega_pg.specs.solution.Laws.{SolutionTextsAreReadOrRefused}
 use Rattle.omega_pg.specs.solution.reader.Lines.{AreJudged, IsWrongLine, Says}
-use Rattle.omega_pg.specs.solution.Grammar.{SpellsSolution}
 use Rattle.omega_pg.specs.solution.Refusing.{IsSolutionRefusal}
-use Rattle.omega_pg.specs.solution.Text.{IsSolutionText}
 use Rattle.omega_pg.specs.Syntax.{Writes}
 use Rattle.omega_pg.specs.declared.solution.Solution.{Solution}
 use Rattle.omega_pg.proofs.reader.Deciding.{written_or_faulty}

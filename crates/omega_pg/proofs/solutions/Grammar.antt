@@ -6,10 +6,10 @@ use Rattle.std.proofs.lemmas.List.Concat.{flat_map-append}
 use Rattle.omega_game.specs.declared.player.Player.{Player}
 use Rattle.omega_game.specs.declared.player.Player.TheVariants.{One, Zero}
 use Rattle.omega_pg.specs.game.reader.Automaton.{player_of}
-use Rattle.omega_pg.specs.solution.Grammar.{Line, RawSolution}
+use Rattle.omega_pg.specs.solution.Grammar.{Line, RawSolution, SpellsSolution, line_symbols}
 use Rattle.omega_pg.specs.solution.reader.Automaton.{State, after_number, after_semicolon, after_word, initial, run, step, to_stage}
-use Rattle.omega_pg.specs.solution.Grammar.{SpellsSolution, line_symbols}
-use Rattle.omega_pg.specs.Symbols.{Symbol, comma, name, number, parity, paritysol, player_number, semicolon}
+use Rattle.omega_pg.specs.Symbols.{Symbol, comma, name, number, parity, paritysol, semicolon}
+use Rattle.omega_game.specs.Player.{player_number}
 use Rattle.omega_pg.specs.declared.solution.stage.Stage.{Stage}
 use Rattle.omega_pg.specs.declared.solution.stage.Stage.TheVariants.{Chosen, Ended, Identifier, Number, Start, Winner, Word}
 use Rattle.omega_pg.proofs.reader.Deciding.{Completes, Decides, Reads}

@@ -5,14 +5,13 @@ use Rattle.std.specs.List.{range_with_len}
 use Rattle.std.proofs.lemmas.Bool.{cases_lt}
 use Rattle.std.proofs.lemmas.List.{get_or-map, length-map}
 use Rattle.std.proofs.lemmas.List.FromFn.{fill_by_all}
-use Rattle.omega_game.specs.Game.{HasEdge, Node, no_node, owner_at}
-use Rattle.omega_game.specs.Winning.{Chooses}
+use Rattle.omega_game.specs.Game.{HasEdge, Node, no_node, owner_at, greatest_identifier, identifier_at}
+use Rattle.omega_game.specs.Winning.{Chooses, choice_at}
 use Rattle.omega_game.specs.declared.player.Player.{Player}
 use Rattle.omega_game.specs.declared.player.Player.TheVariants.{One, Zero}
 use Rattle.omega_pg.specs.solution.BadSolution.{IsNoSolution}
-use Rattle.omega_pg.specs.game.Canonical.{greatest_identifier, identifier_at}
 use Rattle.omega_pg.specs.solution.Grammar.{Line, RawSolution, no_line}
-use Rattle.omega_pg.specs.solution.Solution.{IsSolution, choice_at, choices_of}
+use Rattle.omega_pg.specs.solution.Solution.{IsSolution, choices_of}
 use Rattle.omega_pg.specs.solution.Text.{line_at, raw_solution}
 use Rattle.omega_pg.specs.solution.reader.Lines.{AreJudged, AreSaid, IsKept, entry_of}
 use Rattle.omega_pg.specs.declared.solution.Solution.{Solution}

@@ -5,15 +5,7 @@ use Rattle.omega_text.specs.Forms.{quoted}
 use Rattle.omega_game.specs.Building.{specified}
 use Rattle.omega_game.specs.Game.{Node, node_at}
 use Rattle.omega_game.specs.declared.node_spec.NodeSpec.{NodeSpec}
-use Rattle.omega_pg.specs.Symbols.{player_number}
-
--- the identifier of the node at a place
-abbrev pub identifier_at : List Node → ℕ → ℕ
-identifier_at nodes v = (node_at nodes v).identifier
-
--- the greatest identifier of a game, which its last node has
-abbrev pub greatest_identifier : List Node → ℕ
-greatest_identifier nodes = identifier_at nodes (length nodes - 1)
+use Rattle.omega_game.specs.Player.{player_number}
 
 -- `parity`, a space, the number, `;` and a line feed
 abbrev pub header_line : ℕ → List ℕ

@@ -2,7 +2,8 @@
 use Rattle.std.specs.Prelude.{◌≡◌, ℕ, ◌<◌, Option, Some, None, List, [], ◌∷◌, ◌++◌, length, All}
 use Rattle.std.specs.List.{flat_map}
 use Rattle.omega_game.specs.declared.node_spec.NodeSpec.{NodeSpec}
-use Rattle.omega_pg.specs.Symbols.{Symbol, comma, name, number, parity, player_number, semicolon}
+use Rattle.omega_pg.specs.Symbols.{Symbol, comma, name, number, parity, semicolon}
+use Rattle.omega_game.specs.Player.{player_number}
 
 -- a game text as it is written: the number of its header or none, and its specifications in their order
 pub record RawGame : Type 0 where

@@ -17,14 +17,6 @@ abbrev pub is_header_small : Option ℕ → List NodeSpec → Bool
 is_header_small None specs = false
 is_header_small (Some number) specs = list_any (λ spec. nat_lt number spec.id) specs
 
--- the fault of specifications behind a header that is too small or not, or none: that of the header comes behind 10 and 11, and before 13 and 14
-abbrev pub fault_with : Bool → List NodeSpec → Option GameFault
-fault_with false specs = fault_of specs
-fault_with true specs =
-    if has_duplicate specs then Some DuplicateNode else
-    if has_undefined specs then Some UndefinedSuccessor else
-    Some HeaderTooSmall
-
 -- the fault of what is written, or none
 abbrev pub fault_in : RawGame → Option GameFault
 fault_in raw = fault_with (is_header_small raw.header raw.specs) raw.specs

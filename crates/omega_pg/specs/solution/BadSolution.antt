@@ -1,8 +1,7 @@
 -- Why what a solution text says is no solution of the game: the reasons of refusal 53.
 use Rattle.std.specs.Prelude.{◌≡◌, ◌≢◌, ℕ, ◌<◌, ◌⊎◌, Option, Some, None, List, length, map, All, slice_index_or}
-use Rattle.omega_game.specs.Game.{Node, identifiers, owner_at, successors_at}
+use Rattle.omega_game.specs.Game.{Node, identifiers, owner_at, successors_at, greatest_identifier, identifier_at}
 use Rattle.omega_game.specs.declared.player.Player.{Player}
-use Rattle.omega_pg.specs.game.Canonical.{greatest_identifier, identifier_at}
 use Rattle.omega_pg.specs.solution.Grammar.{Line, RawSolution, no_line}
 
 -- the header's number is not the game's greatest identifier

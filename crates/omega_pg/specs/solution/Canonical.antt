@@ -2,7 +2,7 @@
 use Rattle.std.specs.Prelude.{ℕ, Option, Some, None, List, [], ◌++◌, codes, decimal}
 use Rattle.std.specs.List.{flat_map}
 use Rattle.omega_game.specs.Game.{Node}
-use Rattle.omega_pg.specs.Symbols.{player_number}
+use Rattle.omega_game.specs.Player.{player_number}
 use Rattle.omega_pg.specs.solution.Grammar.{Line, RawSolution}
 use Rattle.omega_pg.specs.solution.Text.{raw_solution}
 use Rattle.omega_pg.specs.declared.solution.Solution.{Solution}

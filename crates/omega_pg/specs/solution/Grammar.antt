@@ -3,7 +3,8 @@ use Rattle.std.specs.Prelude.{◌≡◌, ℕ, Option, Some, None, List, [], ◌�
 use Rattle.std.specs.List.{flat_map}
 use Rattle.omega_game.specs.declared.player.Player.{Player}
 use Rattle.omega_game.specs.declared.player.Player.TheVariants.{Zero}
-use Rattle.omega_pg.specs.Symbols.{Symbol, number, paritysol, player_number, semicolon}
+use Rattle.omega_pg.specs.Symbols.{Symbol, number, paritysol, semicolon}
+use Rattle.omega_game.specs.Player.{player_number}
 
 -- what a text says of a node: its identifier, its winner, and the identifier of a successor or none
 pub record Line : Type 0 where

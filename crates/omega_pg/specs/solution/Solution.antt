@@ -11,10 +11,6 @@ abbrev pub choices_of : Solution → Player → List (Option ℕ)
 choices_of solution Zero = solution.zero.choice
 choices_of solution One = solution.one.choice
 
--- the choice at a place, or none
-abbrev pub choice_at : List (Option ℕ) → ℕ → Option ℕ
-choice_at choices v = slice_index_or choices v None
-
 -- the winner at a place
 abbrev pub winner_at : Solution → ℕ → Player
 winner_at solution v = slice_index_or solution.winners v Zero

@@ -2,11 +2,11 @@
 use Rattle.std.specs.Prelude.{ℕ, ◌≤◌, List, length, map, option_map}
 use Rattle.std.specs.List.{range_with_len}
 use Rattle.omega_text.specs.Limits.{most_text}
-use Rattle.omega_game.specs.Game.{Node, node_at, owner_at}
+use Rattle.omega_game.specs.Game.{Node, node_at, owner_at, greatest_identifier}
 use Rattle.omega_pg.specs.Syntax.{Writes}
-use Rattle.omega_pg.specs.game.Canonical.{greatest_identifier}
 use Rattle.omega_pg.specs.solution.Grammar.{Line, RawSolution, SpellsSolution}
-use Rattle.omega_pg.specs.solution.Solution.{IsSolution, choice_at, choices_of, winner_at}
+use Rattle.omega_pg.specs.solution.Solution.{IsSolution, choices_of, winner_at}
+use Rattle.omega_game.specs.Winning.{choice_at}
 use Rattle.omega_pg.specs.declared.solution.Solution.{Solution}
 
 -- the line of the node at a place: the choice of its owner stands there by its identifier

@@ -2,7 +2,7 @@
 
 ghost use Rattle.omega_pg.specs.game.Laws.{CanonicalTextsAreRead, GamesAreNotRefused, GamesOfTextsAreOne, RefusalsAreOne, SyntaxFaultsAreFirst, TextsAreReadOrRefused};
 
-use omega_game::{games_are_determined, games_exist, games_have_no_fault, games_keep_limits};
+use omega_game::{specifications_have_one_game, games_exist, games_have_no_fault, games_keep_limits};
 use omega_text::{
     cut_or_fault, cuts_are_one, cuts_have_no_fault, ends_are_gaps, faults_are_one,
     names_are_longest, numbers_are_longest, signs_are_longest, tokens_follow, words_are_longest,
@@ -13,7 +13,7 @@ pub fn games_of_texts_are_one()
     ensures { GamesOfTextsAreOne }
 {
     cuts_are_one();
-    games_are_determined();
+    specifications_have_one_game();
 }
 
 /// A text has at most one refusal.

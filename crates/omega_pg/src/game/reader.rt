@@ -39,7 +39,7 @@ impl Reader {
     }
 
     /// Takes a number, unless no text goes on so.
-    #[tactic(auto, using(crate::proofs::games::Changes::length_with_last))]
+    #[tactic(auto, using(crate::proofs::games::Changes::length_with_last, crate::proofs::games::Players::player_found, crate::proofs::games::Players::no_player_found))]
     pub(crate) fn take_number(&mut self, number: u32) -> Result<bool, Refusal>
         requires ready { IsReady (state_of self.old) }
         requires number { number ≤ most_number }
@@ -60,10 +60,8 @@ impl Reader {
                 };
             }
             Stage::Priority { id, priority } => {
-                let owner = match number {
-                    0 => Player::Zero,
-                    1 => Player::One,
-                    _ => return Ok(false),
+                let Some(owner) = Player::of_number(number) else {
+                    return Ok(false);
                 };
                 self.stage = Stage::Owner {
                     id,

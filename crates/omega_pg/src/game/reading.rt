@@ -1,8 +1,8 @@
 ghost use Rattle.std.specs.Prelude.{◌≡◌, ◌<◌, length, None, IfOk, IfErr};
-ghost use Rattle.omega_game.specs.Building.{IsGameOf};
+ghost use Rattle.omega_game.specs.Building.{IsGameOf, fault_with};
 ghost use Rattle.omega_game.specs.Game.{IsWithinLimits};
 ghost use Rattle.omega_pg.specs.game.reader.Built.{IsBuiltRefusal};
-ghost use Rattle.omega_pg.specs.game.Refusing.{IsReadRefusal, fault_with};
+ghost use Rattle.omega_pg.specs.game.Refusing.{IsReadRefusal};
 ghost use Rattle.omega_pg.specs.game.Text.{IsGameText};
 
 use crate::game::reader::Reader;

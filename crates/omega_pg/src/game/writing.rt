@@ -1,10 +1,9 @@
 ghost use Rattle.std.specs.Prelude.{◌≡◌, ◌<◌, ◌++◌, All, IfOk, IsOkUnless, OnOk, codes, decimal, length, map, option_map};
 ghost use Rattle.omega_game.specs.Building.{specified};
-ghost use Rattle.omega_game.specs.Game.{IsGame, node_at};
-ghost use Rattle.omega_pg.specs.game.Canonical.{canonical, header_line, identifier_at, listed, listed_behind, name_part, node_line};
-ghost use Rattle.omega_pg.specs.Symbols.{player_number};
+ghost use Rattle.omega_game.specs.Game.{IsGame, node_at, identifier_at};
+ghost use Rattle.omega_pg.specs.game.Canonical.{canonical, header_line, listed, listed_behind, name_part, node_line};
 
-use omega_game::{Game, Player, Refusal};
+use omega_game::{Game, Refusal};
 use omega_text::write_number;
 use std::alloc::Global;
 
@@ -45,7 +44,7 @@ fn write_node(game: &Game, place: u32, out: &mut Vec<u8>) -> Result<(), Refusal>
 {
     write_part(game.id(place), out)?;
     write_part(game.priority(place), out)?;
-    write_part(number_of(game.owner(place)), out)?;
+    write_part(game.owner(place).number(), out)?;
     write_listed(game, game.successors(place), out)?;
     write_name(game.name(place), out)?;
     out.extend_from_slice(b";\n")?;
@@ -60,16 +59,6 @@ pub(crate) fn write_part(number: u32, out: &mut Vec<u8>) -> Result<(), Refusal>
     write_number(u128::from(number), out)?;
     out.push(b' ')?;
     Ok(())
-}
-
-/// The number that stands for a player.
-pub(crate) fn number_of(player: Player) -> u32
-    ensures { result ≡ player_number player }
-{
-    match player {
-        Player::Zero => 0,
-        Player::One => 1,
-    }
 }
 
 /// Appends the identifiers of nodes at places, with a comma between each two.

@@ -1,5 +1,5 @@
 ghost use Rattle.std.specs.Prelude.{◌≡◌, ◌<◌, ◌^◌, ◌≢◌, ◌↔◌, ℕ, [], ◌∷◌, ◌++◌, true, All, Contains, IfNone, IfSome, IsOkUnless, IsTrue, OnOk, length};
-ghost use Rattle.omega_pg.specs.game.Canonical.{identifier_at};
+ghost use Rattle.omega_game.specs.Game.{identifier_at};
 ghost use Rattle.omega_pg.specs.solution.reader.Lines.{IsWrongLine, Says};
 
 use crate::solution::Solution;

@@ -110,23 +110,16 @@ impl TokenReader for Reader<'_> {
 }
 
 /// Where a number leads.
+#[tactic(auto, using(crate::proofs::games::Players::player_found, crate::proofs::games::Players::no_player_found))]
 fn after_number(stage: Stage, number: u32) -> Option<Stage>
     ensures { result ≡ stage_after_number stage number }
 {
     match stage {
         Stage::Word => Some(Stage::Number { greatest: number }),
         Stage::Ended => Some(Stage::Identifier { id: number }),
-        Stage::Identifier { id } => match number {
-            0 => Some(Stage::Winner {
-                id,
-                winner: Player::Zero,
-            }),
-            1 => Some(Stage::Winner {
-                id,
-                winner: Player::One,
-            }),
-            _ => None,
-        },
+        Stage::Identifier { id } => {
+            Player::of_number(number).map(|winner| Stage::Winner { id, winner })
+        }
         Stage::Winner { id, winner } => Some(Stage::Chosen {
             id,
             winner,

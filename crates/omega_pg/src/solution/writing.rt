@@ -1,11 +1,11 @@
 ghost use Rattle.std.specs.Prelude.{◌≡◌, ◌<◌, ◌++◌, IfOk, IfSome, IsOkUnless, OnOk, length, option_map};
-ghost use Rattle.omega_game.specs.Game.{IsGame};
-ghost use Rattle.omega_pg.specs.game.Canonical.{identifier_at};
-ghost use Rattle.omega_pg.specs.solution.Solution.{IsSolution, choice_at, choices_of, winner_at};
+ghost use Rattle.omega_game.specs.Game.{IsGame, identifier_at};
+ghost use Rattle.omega_pg.specs.solution.Solution.{IsSolution, choices_of, winner_at};
+ghost use Rattle.omega_game.specs.Winning.{choice_at};
 ghost use Rattle.omega_pg.specs.solution.Text.{line_at};
 ghost use Rattle.omega_pg.specs.solution.Canonical.{choice_part, solution_line, solution_text};
 
-use crate::game::writing::{number_of, write_part};
+use crate::game::writing::write_part;
 use crate::solution::Solution;
 use omega_game::{Game, Player, Refusal};
 use omega_text::write_number;
@@ -46,7 +46,7 @@ fn write_line(
 {
     write_part(game.id(place), out)?;
     let winner = solution.winners.as_slice()[place as usize];
-    write_number(u128::from(number_of(winner)), out)?;
+    write_number(u128::from(winner.number()), out)?;
     write_choice(game, choice_of(solution, game.owner(place), place), out)?;
     out.extend_from_slice(b";\n")?;
     Ok(())

@@ -1,10 +1,9 @@
 -- What lines say of a game, and how they are judged one by one.
 use Rattle.std.specs.Prelude.{◌≡◌, ◌≢◌, ◌↔◌, ℕ, ◌<◌, ◌≤◌, ◌⊎◌, Bool, true, false, Option, None, IfSome, IsSome, List, length, option_map, slice_index_or, Result, Ok, Err}
-use Rattle.omega_game.specs.Game.{HasEdge, Node, owner_at}
+use Rattle.omega_game.specs.Game.{HasEdge, Node, owner_at, identifier_at}
 use Rattle.omega_game.specs.declared.player.Player.{Player}
 use Rattle.omega_game.specs.declared.player.Player.TheVariants.{One, Zero}
 use Rattle.omega_pg.specs.solution.BadSolution.{IsNoSolution, IsWrongSuccessor}
-use Rattle.omega_pg.specs.game.Canonical.{identifier_at}
 use Rattle.omega_text.specs.declared.refusal.Refusal.{Refusal}
 use Rattle.omega_text.specs.declared.refusal.Refusal.TheVariants.{Task}
 use Rattle.omega_text.specs.declared.refusal.task.TaskFault.TheVariants.{BadSolution}

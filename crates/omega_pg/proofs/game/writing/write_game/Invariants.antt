@@ -2,7 +2,8 @@
 use Rattle.std.proofs.Common.{◌≡◌, ◌++◌, map, take}
 use Rattle.std.specs.List.{flat_map}
 use Rattle.omega_game.specs.Building.{specified}
-use Rattle.omega_pg.specs.game.Canonical.{greatest_identifier, header_line, node_line}
+use Rattle.omega_pg.specs.game.Canonical.{header_line, node_line}
+use Rattle.omega_game.specs.Game.{greatest_identifier}
 use Rattle.omega_pg.proofs.game.writing.write_game.Given as goal
 
 abbrev pub invariant-loop-place : goal.invariant-loop-place

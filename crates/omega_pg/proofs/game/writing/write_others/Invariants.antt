@@ -1,6 +1,7 @@
 -- `write_others`: the identifiers before this one are written.
 use Rattle.std.proofs.Common.{◌≡◌, ◌++◌, map, take}
-use Rattle.omega_pg.specs.game.Canonical.{identifier_at, listed_behind}
+use Rattle.omega_pg.specs.game.Canonical.{listed_behind}
+use Rattle.omega_game.specs.Game.{identifier_at}
 use Rattle.omega_pg.proofs.game.writing.write_others.Given as goal
 
 abbrev pub invariant-loop-place : goal.invariant-loop-place
