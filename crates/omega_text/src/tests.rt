@@ -1,4 +1,4 @@
-use crate::{Cursor, Kind, Seq, TextFault, next_token, pg_tokens, write_number};
+use crate::{Cursor, PgKind, Seq, TextFault, next_pg_token, pg_tokens, write_number};
 use std::alloc::Global;
 use std::test::Fail;
 
@@ -10,23 +10,23 @@ fn answer(alloc: Global, text: &str) -> Result<usize, (u32, Option<usize>)> {
     }
 }
 
-const TOKENS: [(Kind, &str, u32, usize, usize); 16] = [
-    (Kind::Parity, "parity", 0, 0, 6),
-    (Kind::Number, "9", 9, 7, 8),
-    (Kind::Semicolon, ";", 0, 8, 9),
-    (Kind::Number, "9", 9, 10, 11),
-    (Kind::Number, "3", 3, 12, 13),
-    (Kind::Number, "1", 1, 14, 15),
-    (Kind::Number, "4", 4, 16, 17),
-    (Kind::Semicolon, ";", 0, 17, 18),
-    (Kind::Number, "4", 4, 19, 20),
-    (Kind::Number, "2", 2, 21, 22),
-    (Kind::Number, "0", 0, 23, 24),
-    (Kind::Number, "9", 9, 25, 26),
-    (Kind::Comma, ",", 0, 26, 27),
-    (Kind::Number, "4", 4, 27, 28),
-    (Kind::Name, "\"a\"", 0, 29, 32),
-    (Kind::Semicolon, ";", 0, 32, 33),
+const TOKENS: [(PgKind, &str, u32, usize, usize); 16] = [
+    (PgKind::Parity, "parity", 0, 0, 6),
+    (PgKind::Number, "9", 9, 7, 8),
+    (PgKind::Semicolon, ";", 0, 8, 9),
+    (PgKind::Number, "9", 9, 10, 11),
+    (PgKind::Number, "3", 3, 12, 13),
+    (PgKind::Number, "1", 1, 14, 15),
+    (PgKind::Number, "4", 4, 16, 17),
+    (PgKind::Semicolon, ";", 0, 17, 18),
+    (PgKind::Number, "4", 4, 19, 20),
+    (PgKind::Number, "2", 2, 21, 22),
+    (PgKind::Number, "0", 0, 23, 24),
+    (PgKind::Number, "9", 9, 25, 26),
+    (PgKind::Comma, ",", 0, 26, 27),
+    (PgKind::Number, "4", 4, 27, 28),
+    (PgKind::Name, "\"a\"", 0, 29, 32),
+    (PgKind::Semicolon, ";", 0, 32, 33),
 ];
 
 #[test]
@@ -103,12 +103,15 @@ fn wrong_texts_are_refused(rt: HostRuntime) {
 #[test]
 fn tokens_come_one_at_a_time(rt: HostRuntime) -> Result<(), Fail> {
     let text = b" 7;x".as_slice();
-    let number = next_token(text, 0)?.ok_or("a number")?;
+    let number = next_pg_token(text, 0)?.ok_or("a number")?;
     assert_eq!(rt; number.value, 7);
-    let sign = next_token(text, 2)?.ok_or("a sign")?;
-    assert_eq!(rt; sign.kind, Kind::Semicolon);
-    assert_eq!(rt; next_token(text, 4)?.is_none(), true);
-    assert_eq!(rt; next_token(text, 3).err(), Some(TextFault::Lex { at: 3 }));
+    let sign = next_pg_token(text, 2)?.ok_or("a sign")?;
+    assert_eq!(rt; sign.kind, PgKind::Semicolon);
+    assert_eq!(rt; next_pg_token(text, 4)?.is_none(), true);
+    assert_eq!(rt;
+        next_pg_token(text, 3).err(),
+        Some(TextFault::Lex { at: 3 })
+    );
     Ok(())
 }
 
@@ -121,7 +124,7 @@ fn a_cursor_goes_over_tokens(rt: HostRuntime) -> Result<(), Fail> {
     assert_eq!(rt; cursor.look().ok_or("a number")?.value, 5);
     assert_eq!(rt; cursor.take().ok_or("a number")?.value, 5);
     assert_eq!(rt; cursor.place(), 2);
-    assert_eq!(rt; cursor.take().ok_or("a sign")?.kind, Kind::Semicolon);
+    assert_eq!(rt; cursor.take().ok_or("a sign")?.kind, PgKind::Semicolon);
     assert_eq!(rt; cursor.look().is_none(), true);
     assert_eq!(rt; cursor.take().is_none(), true);
     assert_eq!(rt; cursor.place(), 5);
