@@ -1,8 +1,4 @@
--- Lemmas of grammars and of what reads them.
+-- Lemmas of grammars, of what reads them, and of what is written.
 pub mod Deciding
-pub mod Faults
-pub mod Fronts
 pub mod Pieces
-pub mod Places
 pub mod Runs
-pub mod Tokens

@@ -1,6 +1,5 @@
 -- What contracts of game texts and solution texts cite.
 pub mod Symbols
-pub mod Syntax
 pub mod game
 pub mod reader
 pub mod solution

@@ -1,3 +1,2 @@
 -- What only readers keep and promise, whatever they read.
-pub mod Reading
 pub mod Run

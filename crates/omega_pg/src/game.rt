@@ -4,4 +4,5 @@ pub(crate) mod laws;
 mod reader;
 pub(crate) mod reading;
 mod stage;
+mod syntax;
 pub(crate) mod writing;

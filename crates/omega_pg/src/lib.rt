@@ -4,7 +4,6 @@
 mod game;
 pub mod laws;
 mod solution;
-mod token_reader;
 
 pub use game::reading::read_game;
 pub use game::writing::write_game;

@@ -5,6 +5,7 @@ mod lines;
 mod reader;
 pub(crate) mod reading;
 mod stage;
+mod syntax;
 pub(crate) mod writing;
 
 use omega_game::{Player, Seq, Strategy};

@@ -1,26 +1,25 @@
 -- Each text stands for a game or has a refusal.
 use Rattle.std.proofs.Common.{◌≡◌, ℕ, ◌≤◌, ◌⊎◌, inl, inr, false, Some, None, List, length, refl, subst, All}
 use Rattle.std.specs.List.{AllByRecursion, flat_map}
-use Rattle.omega_text.specs.Laws.{CutOrFault}
 use Rattle.omega_text.specs.Limits.{most_text}
 use Rattle.omega_text.specs.declared.refusal.Refusal.{Refusal}
 use Rattle.omega_text.specs.declared.refusal.Refusal.TheVariants.{Game, Text}
 use Rattle.omega_game.specs.Building.{IsWellFormed, fault_of, fault_with}
 use Rattle.omega_game.specs.Game.{Node}
 use Rattle.omega_game.specs.Laws.{GamesExist, GamesKeepLimits}
-use Rattle.omega_pg.specs.game.Grammar.{RawGame, SpellsGame, header_symbols, node_symbols}
+use Rattle.omega_pg.specs.game.Grammar.{RawGame, header_symbols, node_symbols, game_syntax}
 use Rattle.omega_pg.specs.game.Laws.{TextsAreReadOrRefused}
 use Rattle.omega_pg.specs.game.Refusing.{IsRefusal, fault_in, is_header_small}
 use Rattle.omega_pg.specs.Symbols.{symbols_of}
-use Rattle.omega_pg.specs.Syntax.{Writes}
+use Rattle.omega_text.specs.Syntax.{IsDecided, IsTextOf, TextsAreReadOrFaulty}
 use Rattle.omega_pg.specs.game.Text.{IsGameText}
 use Rattle.omega_pg.proofs.games.Built.{Covers-from_test, header_fits}
-use Rattle.omega_pg.proofs.reader.Deciding.{written_or_faulty}
+use Rattle.omega_pg.proofs.reader.Deciding.{decided_from_run}
 use Rattle.omega_pg.proofs.games.Grammar.{decides_games}
 use Rattle.omega_pg.proofs.games.WellFormed.{IsSound, sound_back, sound_symbols, specs_well_formed}
 
 -- what is written within the limit is read or refused
-decided_raw : GamesExist → GamesKeepLimits → (source : List ℕ) (raw : RawGame) → length source ≤ most_text → Writes SpellsGame source raw
+decided_raw : GamesExist → GamesKeepLimits → (source : List ℕ) (raw : RawGame) → length source ≤ most_text → IsTextOf game_syntax source raw
     → ((game : List Node) × IsGameText source game) ⊎ ((refusal : Refusal) × IsRefusal source refusal)
 decided_raw exist keep source raw short writes =
     elim (fault_in raw)
@@ -48,10 +47,10 @@ decided_raw exist keep source raw short writes =
     refl
 
 -- each text is read or refused
-pub texts_decided : CutOrFault → GamesExist → GamesKeepLimits → TextsAreReadOrRefused
-texts_decided cut_or exist keep source =
-    elim (written_or_faulty decides_games cut_or source)
+pub texts_decided : (IsDecided game_syntax → TextsAreReadOrFaulty game_syntax) → GamesExist → GamesKeepLimits → TextsAreReadOrRefused
+texts_decided read_or exist keep source =
+    elim (read_or (decided_from_run decides_games) source)
     as (λ _. ((game : List Node) × IsGameText source game) ⊎ ((refusal : Refusal) × IsRefusal source refusal)) [
-      | inl written ↦ decided_raw exist keep source written.raw written.short written.writes
+      | inl text ↦ decided_raw exist keep source text.1.0 text.0 text.1.1
       | inr faulty ↦ inr (Text faulty.0, faulty.1)
     ]

@@ -3,15 +3,18 @@ use Rattle.std.proofs.Common.{◌≡◌, ℕ, ◌⊎◌, inl, inr, Bool, true, f
 use Rattle.omega_game.specs.declared.node_spec.NodeSpec.{NodeSpec}
 use Rattle.omega_text.specs.declared.refusal.Refusal.{Refusal}
 use Rattle.omega_pg.specs.game.reader.Automaton.{IsReached, State, Takes, initial, run, step}
-use Rattle.omega_pg.specs.game.Grammar.{RawGame, SpellsGame}
-use Rattle.omega_pg.specs.reader.Reading.{TakesOrRefuses}
+use Rattle.omega_pg.specs.game.Grammar.{RawGame, SpellsGame, game_syntax}
+use Rattle.omega_text.specs.Reading.{IsWholeOrUnfinished, TakesOrRefuses}
 use Rattle.omega_pg.specs.game.Refusing.{is_header_small}
-use Rattle.omega_pg.specs.Symbols.{Symbol, number, semicolon}
-use Rattle.omega_pg.specs.Syntax.{Begins}
+use Rattle.omega_pg.specs.Symbols.{Symbol, number, semicolon, symbol_of, symbols_of}
+use Rattle.omega_text.specs.Syntax.{TokensBegin, TokensComplete}
+use Rattle.omega_text.specs.Lexeme.{Lexeme}
+use Rattle.omega_text.specs.declared.pg.kind.PgKind.{PgKind}
+use Rattle.std.specs.Prelude.{◌↔◌, IsTrue}
 use Rattle.omega_pg.specs.declared.game.stage.Stage.{Stage}
 use Rattle.omega_pg.specs.declared.game.stage.Stage.TheVariants.{Comma, Ended, Headed, Identifier, Listed, Named, Number, Owner, Priority, Start, Word}
-use Rattle.omega_pg.proofs.reader.Deciding.{Completes, Decides, Reads, refused_from_run}
-use Rattle.omega_pg.proofs.reader.Runs.{run_by_push, run_by_shown}
+use Rattle.omega_pg.proofs.reader.Deciding.{Completes, Decides, Reads, refused_from_run, run_taken, unfinished_from_run}
+use Rattle.omega_pg.proofs.reader.Runs.{run_by_shown}
 use Rattle.omega_pg.proofs.games.Shown.{Shows, ShowsAt, spelled, step_shown}
 use Rattle.omega_pg.proofs.games.Spelled.{at, run_text}
 
@@ -93,16 +96,24 @@ decides_games = record {
   ends = λ state. ended_or_open state.stage;
 }
 
--- a symbol that is taken leads on, and one that is refused ends what begins a text
-taken_reached : (taken : Bool) (state next : State) (symbol : Symbol) (symbols : List Symbol) → Takes taken (step state symbol) next → IsReached symbols state
-    → TakesOrRefuses taken (Begins SpellsGame) (λ all. IsReached all next) symbols symbol
-taken_reached true state next symbol symbols takes reached = (run_by_push step initial state symbols symbol reached.0 ∙ takes.0, takes.1)
-taken_reached false state next symbol symbols takes reached = refused_from_run decides_games symbols symbol state reached.0 takes
+-- a token that is taken leads on, and one that is refused ends what begins a text
+taken_reached : (taken : Bool) (state next : State) (lexemes : List (Lexeme PgKind)) (lexeme : Lexeme PgKind) → Takes taken (step state (symbol_of lexeme)) next
+    → IsReached (symbols_of lexemes) state
+    → TakesOrRefuses taken (TokensBegin game_syntax) (λ all. IsReached (symbols_of all) next) lexemes lexeme
+taken_reached true state next lexemes lexeme takes reached = (run_taken decides_games lexemes lexeme state reached.0 ∙ takes.0, takes.1)
+taken_reached false state next lexemes lexeme takes reached = refused_from_run decides_games lexemes lexeme state reached.0 takes
 
 -- the same of a call
-pub taken_reached_all : (Self : Type 0) (result : Result Bool Refusal) (state next : State) (symbol : Symbol)
-    → IfOk result (λ taken. Takes taken (step state symbol) next)
-    → IfOk result (λ taken. (start : Self) (symbols : List Symbol) → IsReached symbols state
-    → TakesOrRefuses taken (Begins SpellsGame) (λ all. IsReached all next) symbols symbol)
-taken_reached_all Self (Ok taken) state next symbol takes = λ start symbols reached. taken_reached taken state next symbol symbols takes reached
-taken_reached_all Self (Err refusal) state next symbol takes = tt
+pub taken_reached_all : (Self : Type 0) (result : Result Bool Refusal) (state next : State) (lexeme : Lexeme PgKind)
+    → IfOk result (λ taken. Takes taken (step state (symbol_of lexeme)) next)
+    → IfOk result (λ taken. (start : Self) (lexemes : List (Lexeme PgKind)) → IsReached (symbols_of lexemes) state
+    → TakesOrRefuses taken (TokensBegin game_syntax) (λ all. IsReached (symbols_of all) next) lexemes lexeme)
+taken_reached_all Self (Ok taken) state next lexeme takes = λ start lexemes reached. taken_reached taken state next lexemes lexeme takes reached
+taken_reached_all Self (Err refusal) state next lexeme takes = tt
+
+-- tokens that lead behind a node are a text, and others are unfinished
+pub judged_end : (done : Bool) (state : State) (lexemes : List (Lexeme PgKind)) → IsTrue done ↔ (state.stage ≡ Ended) → IsReached (symbols_of lexemes) state
+    → IsWholeOrUnfinished done (TokensBegin game_syntax) (TokensComplete game_syntax) lexemes
+judged_end true state lexemes ended reached = (raw_of state, SpellsGame-from_run (symbols_of lexemes) state reached.0 (ended.0 refl))
+judged_end false state lexemes ended reached =
+    unfinished_from_run decides_games lexemes state reached.0 (λ e. (let clash : false ≡ true = ended.1 e in cc))

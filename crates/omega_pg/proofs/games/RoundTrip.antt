@@ -5,7 +5,7 @@ use Rattle.std.specs.List.Sorted.{IsStrictlyIncreasing}
 use Rattle.std.proofs.lemmas.List.{get_or-map, length-map}
 use Rattle.std.proofs.lemmas.List.Elements.{All-from_get_or, All-map}
 use Rattle.std.proofs.lemmas.List.Sorted.{IsPermutation-refl}
-use Rattle.omega_text.specs.Laws.{EndsAreGaps, NamesAreLongest, NumbersAreLongest, SignsAreLongest, TokensFollow, WordsAreLongest}
+use Rattle.omega_text.specs.pg.Laws.{EndsAreGaps, NamesAreLongest, NumbersAreLongest, SignsAreLongest, TokensFollow, WordsAreLongest}
 use Rattle.omega_game.specs.Building.{IsWellFormed, specified}
 use Rattle.omega_game.specs.Game.{IsGame, IsWithinLimits, Node, identifiers, no_node, node_at, successors_at, greatest_identifier, identifier_at}
 use Rattle.omega_text.specs.Limits.{most_number}

@@ -1,15 +1,14 @@
 -- What a state shows: the symbols that lead to it.
 use Rattle.std.proofs.Common.{◌≡◌, ℕ, ◌<◌, nat_lt, length-append, Bool, append-nil, Option, Some, None, List, [], ◌∷◌, ◌++◌, length, refl, ap, sym, ◌∙◌, subst, append_assoc, arith, All, IfSome, ◌||◌}
 use Rattle.std.proofs.Math.Bool.{or-false}
-use Rattle.std.proofs.lemmas.Bool.{cond_both, eqb-true}
-use Rattle.std.specs.Prelude.{option_map, ◌==◌, if◌then◌else◌}
+use Rattle.std.specs.Prelude.{option_map}
 use Rattle.std.specs.List.{flat_map, list_any}
 use Rattle.std.proofs.lemmas.List.Concat.{flat_map-append}
 use Rattle.std.proofs.lemmas.List.Elements.{All-push, All-nil}
 use Rattle.std.proofs.lemmas.List.Folds.{list_any-append}
 use Rattle.omega_game.specs.Building.{with_last, with_name, with_successor}
 use Rattle.omega_game.specs.declared.node_spec.NodeSpec.{NodeSpec}
-use Rattle.omega_game.specs.declared.player.Player.TheVariants.{One, Zero}
+use Rattle.omega_pg.proofs.games.Players.{player_of-number}
 use Rattle.omega_pg.specs.game.reader.Automaton.{State, after_comma, after_name, after_number, after_semicolon, after_word, begun, is_above, player_of, step, to_stage}
 use Rattle.omega_pg.specs.game.Grammar.{header_symbols, name_symbols, node_symbols, successor_symbols}
 use Rattle.omega_pg.specs.game.Refusing.{is_header_small}
@@ -88,13 +87,6 @@ successor_symbols-push : (successors : List ℕ) (id : ℕ) → 0 < length succe
     → successor_symbols (successors ++ id ∷ []) ≡ successor_symbols successors ++ comma ∷ number id ∷ []
 successor_symbols-push [] id h = absurd (omega (arith, h))
 successor_symbols-push (first ∷ others) id h = ap (λ list. number first ∷ list) (flat_map-append (λ id. comma ∷ number id ∷ []) others (id ∷ []))
-
--- the player of a number has that number
-pub player_of-number : (n : ℕ) → IfSome (player_of n) (λ owner. player_number owner ≡ n)
-player_of-number n =
-    cond_both (n == 0) (Some Zero) (if n == 1 then Some One else None) (λ o. IfSome o (λ owner. player_number owner ≡ n))
-    (λ e. sym (eqb-true n 0 e))
-    (λ _. cond_both (n == 1) (Some One) None (λ o. IfSome o (λ owner. player_number owner ≡ n)) (λ e. sym (eqb-true n 1 e)) (λ _. tt))
 
 -- one node more is written behind the others
 spelled-push : (header : Option ℕ) (specs : List NodeSpec) (spec : NodeSpec)

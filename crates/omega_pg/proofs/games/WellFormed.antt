@@ -7,12 +7,13 @@ use Rattle.std.proofs.lemmas.Bool.{and_parts, eqb-false, leb-true, not-true}
 use Rattle.std.specs.Int.{is_in_range}
 use Rattle.std.specs.List.{AllByRecursion, flat_map}
 use Rattle.std.proofs.lemmas.List.Elements.{All-cons, All-head, All-nil, All-tail, All-weaker}
-use Rattle.omega_text.specs.Bytes.{is_name_byte}
+use Rattle.omega_text.specs.pg.Bytes.{is_name_byte}
 use Rattle.omega_text.specs.Cut.{Cuts}
-use Rattle.omega_text.specs.Forms.{Spells, quoted}
+use Rattle.omega_text.specs.pg.Forms.{Spells, quoted}
 use Rattle.omega_text.specs.Lexeme.{Lexeme}
-use Rattle.omega_text.specs.declared.token.Kind.{Kind}
-use Rattle.omega_text.specs.declared.token.Kind.TheVariants.{Comma, Name, Number, Parity, ParitySol, Semicolon}
+use Rattle.omega_text.specs.pg.Format.{pg_format}
+use Rattle.omega_text.specs.declared.pg.kind.PgKind.{PgKind}
+use Rattle.omega_text.specs.declared.pg.kind.PgKind.TheVariants.{Comma, Name, Number, Parity, ParitySol, Semicolon}
 use Rattle.omega_game.specs.Building.{IsWellFormed}
 use Rattle.omega_game.specs.Game.{IsNameByte}
 use Rattle.omega_text.specs.Limits.{most_number}
@@ -43,7 +44,7 @@ name_byte b e =
     let range = and_parts (nat_le 32 b) (nat_le b 126) parts.0 in
     (leb-true 32 b range.0, leb-true b 126 range.1, eqb-false b 34 (not-true (b == 34) parts.1))
 
-pub sound_symbol : (kind : Kind) (value : ℕ) (text : List ℕ) → Spells kind value text → IsSound (symbol kind value text)
+pub sound_symbol : (kind : PgKind) (value : ℕ) (text : List ℕ) → Spells kind value text → IsSound (symbol kind value text)
 sound_symbol Number value text spells = spells.0
 sound_symbol Parity value text spells = tt
 sound_symbol ParitySol value text spells = tt
@@ -54,7 +55,7 @@ sound_symbol Name value text spells =
     (All-weaker (λ b. is_name_byte b ≡ true) IsNameByte name_byte spells.1.0 spells.1.2)
 
 -- the symbols of a cut are sound
-pub sound_symbols : (source : List ℕ) (from to : ℕ) (lexemes : List Lexeme) → Cuts source from lexemes to → AllByRecursion IsSound (symbols_of lexemes)
+pub sound_symbols : (source : List ℕ) (from to : ℕ) (lexemes : List (Lexeme PgKind)) → Cuts pg_format source from lexemes to → AllByRecursion IsSound (symbols_of lexemes)
 sound_symbols source from to [] cuts = tt
 sound_symbols source from to (one ∷ lexemes) cuts =
     (sound_symbol one.kind one.value one.text cuts.0.token.spells, sound_symbols source one.span.end to lexemes cuts.1)

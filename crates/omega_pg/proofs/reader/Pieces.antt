@@ -8,23 +8,25 @@ use Rattle.std.proofs.lemmas.List.{drop-drop}
 use Rattle.std.proofs.Math.Seq.{drop-append_seam}
 use Rattle.std.proofs.lemmas.Bool.{and_from, le-leb, ne_eqb, not_from_false}
 use Rattle.std.proofs.lemmas.List.Elements.{All-cons, All-from_recursion, All-nil, All-weaker}
-use Rattle.omega_text.specs.Bytes.{is_digit, is_name_byte, is_white, is_word_byte}
-use Rattle.omega_text.specs.Cut.{Cuts, IsGap}
-use Rattle.omega_text.specs.Forms.{IsLongest, IsQuoted, IsWord, Spells, quoted}
-use Rattle.omega_text.specs.Laws.{EndsAreGaps, NamesAreLongest, NumbersAreLongest, SignsAreLongest, TokensFollow, WordsAreLongest}
+use Rattle.omega_text.specs.pg.Bytes.{is_digit, is_name_byte, is_white, is_word_byte}
+use Rattle.omega_text.specs.Cut.{Cuts}
+use Rattle.omega_text.specs.pg.Cut.{IsGap}
+use Rattle.omega_text.specs.pg.Forms.{IsLongest, IsQuoted, IsWord, Spells, quoted}
+use Rattle.omega_text.specs.pg.Laws.{EndsAreGaps, NamesAreLongest, NumbersAreLongest, SignsAreLongest, TokensFollow, WordsAreLongest}
 use Rattle.omega_text.specs.Lexeme.{Lexeme, lexeme_at}
+use Rattle.omega_text.specs.pg.Format.{pg_format}
 use Rattle.omega_text.specs.Limits.{most_number}
-use Rattle.omega_text.specs.declared.token.Kind.{Kind}
-use Rattle.omega_text.specs.declared.token.Kind.TheVariants.{Comma, Name, Number, Parity, ParitySol, Semicolon}
+use Rattle.omega_text.specs.declared.pg.kind.PgKind.{PgKind}
+use Rattle.omega_text.specs.declared.pg.kind.PgKind.TheVariants.{Comma, Name, Number, Parity, ParitySol, Semicolon}
 use Rattle.omega_game.specs.Game.{IsNameByte}
 use Rattle.omega_pg.specs.Symbols.{Symbol, comma, name, number, parity, paritysol, semicolon, symbol, symbols_of}
 use Rattle.omega_pg.proofs.games.WellFormed.{between-quoted}
 
 -- from a place on, the text is cut into tokens with these symbols, and white space to its end
 pub record IsCutFrom (source : List ℕ) (from : ℕ) (symbols : List Symbol) : Type 0 where
-  pub lexemes : List Lexeme
+  pub lexemes : List (Lexeme PgKind)
   pub end : ℕ
-  pub cuts : Cuts source from lexemes end
+  pub cuts : Cuts pg_format source from lexemes end
   pub spelled : symbols_of lexemes ≡ symbols
   pub gap : IsGap source end (length source)
 
@@ -70,7 +72,7 @@ module _ (tokens : TokensFollow) (gaps : EndsAreGaps) (numbers : NumbersAreLonge
   }
 
   -- a token and what is written behind it
-  pub token_written : (gap text rest : List ℕ) (kind : Kind) (value : ℕ) (symbols : List Symbol)
+  pub token_written : (gap text rest : List ℕ) (kind : PgKind) (value : ℕ) (symbols : List Symbol)
       → AllPass is_white gap → 0 < length text → Spells kind value text → IsLongest (text ++ rest) (length text)
       → IsWritten rest symbols → IsWritten (gap ++ (text ++ rest)) (symbol kind value text ∷ symbols)
   token_written gap text rest kind value symbols white some spells longest then source from within e =

@@ -8,20 +8,21 @@ use Rattle.std.proofs.lemmas.List.Elements.{All-contains}
 use Rattle.std.proofs.lemmas.List.FromFn.{fill_by_all, get_or-map-range_with_len, length-map-range_with_len}
 use Rattle.std.proofs.lemmas.List.Kept.{AllPairs-from_increasing}
 use Rattle.std.proofs.lemmas.Simd.{map-map}
-use Rattle.omega_text.specs.Laws.{CutsAreOne, CutsHaveNoFault, FaultsAreOne}
+use Rattle.omega_text.specs.Cut.{CutsAreOne}
+use Rattle.omega_text.specs.Syntax.{TextFaultsAreOne, TextsHaveNoFault}
+use Rattle.omega_text.specs.pg.Format.{pg_format}
 use Rattle.omega_text.specs.declared.refusal.Refusal.TheVariants.{Automaton, Game, Io, Memory, Task, Text}
 use Rattle.omega_game.specs.Game.{IsGame, Node, identifiers, no_node, owner_at, successors_at, identifier_at}
 use Rattle.omega_game.specs.declared.player.Player.{Player}
 use Rattle.omega_game.specs.declared.player.Player.TheVariants.{One, Zero}
 use Rattle.omega_pg.specs.solution.BadSolution.{IsNoSolution, IsWrongSuccessor}
-use Rattle.omega_pg.specs.solution.Grammar.{Line, RawSolution, no_line, SpellsSolution}
+use Rattle.omega_pg.specs.solution.Grammar.{Line, RawSolution, no_line, solution_syntax}
 use Rattle.omega_pg.specs.solution.Solution.{IsSolution, choices_of, winner_at}
 use Rattle.omega_game.specs.Winning.{choice_at}
 use Rattle.omega_pg.specs.solution.Text.{line_at, raw_solution}
 use Rattle.omega_pg.specs.solution.Laws.{ReasonsAreExact, SolutionRefusalsAreOne, SolutionsAreNotRefused, SolutionsOfTextsAreOne}
 use Rattle.omega_pg.specs.declared.solution.Solution.{Solution}
-use Rattle.omega_pg.proofs.reader.Deciding.{Writes-one}
-use Rattle.omega_pg.proofs.reader.Faults.{IsTextFault-apart, IsTextFault-one}
+use Rattle.omega_pg.proofs.reader.Deciding.{texts_one}
 use Rattle.omega_pg.proofs.solutions.Outcomes.{solution_of}
 use Rattle.omega_pg.proofs.solutions.Decided.{raw_decided}
 use Rattle.omega_pg.proofs.solutions.Grammar.{decides_solutions}
@@ -75,35 +76,35 @@ reasons_exact nodes raw = (
 )
 
 -- a text that stands for a solution has no refusal
-pub solutions_apart : CutsAreOne → CutsHaveNoFault → SolutionsAreNotRefused
+pub solutions_apart : CutsAreOne pg_format → TextsHaveNoFault solution_syntax → SolutionsAreNotRefused
 solutions_apart cuts none nodes source solution (Text fault) text refused =
-    IsTextFault-apart SpellsSolution cuts none source fault (raw_solution nodes solution) text.short text.writes refused
+    none source (raw_solution nodes solution) fault text.short text.writes refused
 solutions_apart cuts none nodes source solution (Game fault) text refused = refused
 solutions_apart cuts none nodes source solution (Automaton fault) text refused = refused
 solutions_apart cuts none nodes source solution (Task fault) text refused =
     let bad = refused.1 in
-    let same : bad.raw ≡ raw_solution nodes solution = Writes-one decides_solutions cuts source bad.raw (raw_solution nodes solution) bad.writes text.writes in
+    let same : bad.raw ≡ raw_solution nodes solution = texts_one decides_solutions cuts source bad.raw (raw_solution nodes solution) bad.writes text.writes in
     reasons_apart nodes solution text.fits (subst (IsNoSolution nodes) same bad.wrong)
 solutions_apart cuts none nodes source solution Memory text refused = refused
 solutions_apart cuts none nodes source solution Io text refused = refused
 
 -- a text has at most one refusal
-pub solution_refusals_one : CutsAreOne → CutsHaveNoFault → FaultsAreOne → SolutionRefusalsAreOne
-solution_refusals_one cuts none same nodes source (Text a) (Text b) x y =
-    ap (λ fault. Text fault) (IsTextFault-one SpellsSolution cuts none same source a b x y)
-solution_refusals_one cuts none same nodes source (Text a) (Task b) x y =
-    absurd (IsTextFault-apart SpellsSolution cuts none source a y.1.raw y.1.short y.1.writes x)
-solution_refusals_one cuts none same nodes source (Task a) (Text b) x y =
-    absurd (IsTextFault-apart SpellsSolution cuts none source b x.1.raw x.1.short x.1.writes y)
-solution_refusals_one cuts none same nodes source (Task a) (Task b) x y = ap (λ fault. Task fault) (x.0 ∙ sym y.0)
-solution_refusals_one cuts none same nodes source (Game a) other x y = absurd x
-solution_refusals_one cuts none same nodes source (Automaton a) other x y = absurd x
-solution_refusals_one cuts none same nodes source Memory other x y = absurd x
-solution_refusals_one cuts none same nodes source Io other x y = absurd x
-solution_refusals_one cuts none same nodes source one (Game b) x y = absurd y
-solution_refusals_one cuts none same nodes source one (Automaton b) x y = absurd y
-solution_refusals_one cuts none same nodes source one Memory x y = absurd y
-solution_refusals_one cuts none same nodes source one Io x y = absurd y
+pub solution_refusals_one : TextFaultsAreOne solution_syntax → TextsHaveNoFault solution_syntax → SolutionRefusalsAreOne
+solution_refusals_one same none nodes source (Text a) (Text b) x y =
+    ap (λ fault. Text fault) (same source a b x y)
+solution_refusals_one same none nodes source (Text a) (Task b) x y =
+    absurd (none source y.1.raw a y.1.short y.1.writes x)
+solution_refusals_one same none nodes source (Task a) (Text b) x y =
+    absurd (none source x.1.raw b x.1.short x.1.writes y)
+solution_refusals_one same none nodes source (Task a) (Task b) x y = ap (λ fault. Task fault) (x.0 ∙ sym y.0)
+solution_refusals_one same none nodes source (Game a) other x y = absurd x
+solution_refusals_one same none nodes source (Automaton a) other x y = absurd x
+solution_refusals_one same none nodes source Memory other x y = absurd x
+solution_refusals_one same none nodes source Io other x y = absurd x
+solution_refusals_one same none nodes source one (Game b) x y = absurd y
+solution_refusals_one same none nodes source one (Automaton b) x y = absurd y
+solution_refusals_one same none nodes source one Memory x y = absurd y
+solution_refusals_one same none nodes source one Io x y = absurd y
 
 -- no two nodes of a game have one identifier
 identifiers_apart : (nodes : List Node) (v w : ℕ) → IsGame nodes → v < length nodes → w < length nodes → identifier_at nodes v ≡ identifier_at nodes w → v ≡ w
@@ -177,7 +178,7 @@ module _ (nodes : List Node) (one other : Solution) (game : IsGame nodes) (fits 
   alike_same = solution_same one other winners_same (choices_same Zero) (choices_same One)
 
 -- a text stands for at most one solution
-pub solutions_one : CutsAreOne → SolutionsOfTextsAreOne
+pub solutions_one : CutsAreOne pg_format → SolutionsOfTextsAreOne
 solutions_one cuts nodes source one other game a b =
     alike_same nodes one other game a.fits b.fits
-    (Writes-one decides_solutions cuts source (raw_solution nodes one) (raw_solution nodes other) a.writes b.writes)
+    (texts_one decides_solutions cuts source (raw_solution nodes one) (raw_solution nodes other) a.writes b.writes)

@@ -4,7 +4,6 @@ use Rattle.std.proofs.Math.Seq.{get_or-append_seam}
 use Rattle.std.specs.Prelude.{Contains}
 use Rattle.std.proofs.lemmas.Bool.{cases_eq, cases_lt}
 use Rattle.std.proofs.lemmas.List.Elements.{All-nil, All-push, Contains-append_left, Contains-push}
-use Rattle.omega_text.specs.Laws.{CutOrFault}
 use Rattle.omega_text.specs.Limits.{most_text}
 use Rattle.omega_text.specs.declared.refusal.Refusal.{Refusal}
 use Rattle.omega_text.specs.declared.refusal.Refusal.TheVariants.{Task, Text}
@@ -13,15 +12,15 @@ use Rattle.omega_game.specs.Game.{Node, owner_at, successors_at, greatest_identi
 use Rattle.omega_game.specs.declared.player.Player.{Player}
 use Rattle.omega_game.specs.declared.player.Player.TheVariants.{One, Zero}
 use Rattle.omega_pg.specs.solution.BadSolution.{IsNoSolution, IsWrongSuccessor}
-use Rattle.omega_pg.specs.solution.Grammar.{Line, RawSolution, no_line, SpellsSolution}
+use Rattle.omega_pg.specs.solution.Grammar.{Line, RawSolution, no_line, solution_syntax}
 use Rattle.omega_pg.specs.solution.Solution.{IsSolution}
 use Rattle.omega_pg.specs.solution.Text.{raw_solution, IsSolutionText}
 use Rattle.omega_pg.specs.solution.Laws.{SolutionTextsAreReadOrRefused}
 use Rattle.omega_pg.specs.solution.reader.Lines.{AreJudged, IsWrongLine, Says}
 use Rattle.omega_pg.specs.solution.Refusing.{IsSolutionRefusal}
-use Rattle.omega_pg.specs.Syntax.{Writes}
+use Rattle.omega_text.specs.Syntax.{IsDecided as IsDecidedSyntax, IsTextOf, TextsAreReadOrFaulty}
 use Rattle.omega_pg.specs.declared.solution.Solution.{Solution}
-use Rattle.omega_pg.proofs.reader.Deciding.{written_or_faulty}
+use Rattle.omega_pg.proofs.reader.Deciding.{decided_from_run}
 use Rattle.omega_pg.proofs.solutions.Judging.{judged_kept, judged_wrong}
 use Rattle.omega_pg.proofs.solutions.Outcomes.{other_count, other_number, outcome_kept, solution_of, wrong_line}
 use Rattle.omega_pg.proofs.solutions.Grammar.{decides_solutions}
@@ -182,20 +181,20 @@ raw_decided nodes raw =
     judged_decided nodes raw.greatest raw.lines all.good all.winners all.zeros all.ones all.judged
 
 -- a text that writes a solution stands for it, and another is refused 53
-written_decided : (nodes : List Node) (source : List ℕ) (raw : RawSolution) → length source ≤ most_text → Writes SpellsSolution source raw
+written_decided : (nodes : List Node) (source : List ℕ) (raw : RawSolution) → length source ≤ most_text → IsTextOf solution_syntax source raw
     → ((solution : Solution) × IsSolutionText nodes source solution) ⊎ ((refusal : Refusal) × IsSolutionRefusal nodes source refusal)
 written_decided nodes source raw short writes =
     elim (raw_decided nodes raw)
     as (λ _. ((solution : Solution) × IsSolutionText nodes source solution) ⊎ ((refusal : Refusal) × IsSolutionRefusal nodes source refusal)) [
-      | inl found ↦ inl (found.0, record { short = short; writes = subst (Writes SpellsSolution source) found.2 writes; fits = found.1 })
+      | inl found ↦ inl (found.0, record { short = short; writes = subst (IsTextOf solution_syntax source) found.2 writes; fits = found.1 })
       | inr wrong ↦ inr (Task BadSolution, (refl, record { short = short; raw = raw; writes = writes; wrong = wrong }))
     ]
 
 -- each text is read or refused
-pub solution_texts_decided : CutOrFault → SolutionTextsAreReadOrRefused
-solution_texts_decided cut_or nodes source =
-    elim (written_or_faulty decides_solutions cut_or source)
+pub solution_texts_decided : (IsDecidedSyntax solution_syntax → TextsAreReadOrFaulty solution_syntax) → SolutionTextsAreReadOrRefused
+solution_texts_decided read_or nodes source =
+    elim (read_or (decided_from_run decides_solutions) source)
     as (λ _. ((solution : Solution) × IsSolutionText nodes source solution) ⊎ ((refusal : Refusal) × IsSolutionRefusal nodes source refusal)) [
-      | inl written ↦ written_decided nodes source written.raw written.short written.writes
+      | inl text ↦ written_decided nodes source text.1.0 text.0 text.1.1
       | inr faulty ↦ inr (Text faulty.0, faulty.1)
     ]

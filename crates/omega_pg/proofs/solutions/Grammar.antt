@@ -14,7 +14,7 @@ use Rattle.omega_pg.specs.declared.solution.stage.Stage.{Stage}
 use Rattle.omega_pg.specs.declared.solution.stage.Stage.TheVariants.{Chosen, Ended, Identifier, Number, Start, Winner, Word}
 use Rattle.omega_pg.proofs.reader.Deciding.{Completes, Decides, Reads}
 use Rattle.omega_pg.proofs.reader.Runs.{run_by_shown}
-use Rattle.omega_pg.proofs.games.Shown.{player_of-number}
+use Rattle.omega_pg.proofs.games.Players.{player_of-number}
 
 -- a state with these parts
 abbrev at : Stage → ℕ → List Line → State

@@ -4,7 +4,7 @@ use Rattle.std.specs.Prelude.{decimal, option_map}
 use Rattle.std.specs.List.{flat_map}
 use Rattle.std.proofs.lemmas.List.Elements.{All-from_get_or, All-head, All-tail}
 use Rattle.std.proofs.lemmas.List.FromFn.{get_or-map-range_with_len, length-map-range_with_len}
-use Rattle.omega_text.specs.Laws.{EndsAreGaps, NamesAreLongest, NumbersAreLongest, SignsAreLongest, TokensFollow, WordsAreLongest}
+use Rattle.omega_text.specs.pg.Laws.{EndsAreGaps, NamesAreLongest, NumbersAreLongest, SignsAreLongest, TokensFollow, WordsAreLongest}
 use Rattle.omega_game.specs.Game.{IsGame, IsWithinLimits, Node, owner_at, greatest_identifier, identifier_at}
 use Rattle.omega_text.specs.Limits.{most_number}
 use Rattle.omega_pg.specs.solution.Grammar.{Line, RawSolution, no_line, choice_symbols, line_symbols}

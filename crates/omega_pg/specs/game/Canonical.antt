@@ -1,9 +1,9 @@
 -- The canonical text of a game: the header, and a line for each node in rising order.
-use Rattle.std.specs.Prelude.{ℕ, ◌-◌, Option, Some, None, List, [], ◌∷◌, ◌++◌, length, map, codes, decimal}
+use Rattle.std.specs.Prelude.{ℕ, Option, Some, None, List, [], ◌∷◌, ◌++◌, map, codes, decimal}
 use Rattle.std.specs.List.{flat_map}
-use Rattle.omega_text.specs.Forms.{quoted}
+use Rattle.omega_text.specs.pg.Forms.{quoted}
 use Rattle.omega_game.specs.Building.{specified}
-use Rattle.omega_game.specs.Game.{Node, node_at}
+use Rattle.omega_game.specs.Game.{Node, greatest_identifier}
 use Rattle.omega_game.specs.declared.node_spec.NodeSpec.{NodeSpec}
 use Rattle.omega_game.specs.Player.{player_number}
 

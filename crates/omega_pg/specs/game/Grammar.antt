@@ -2,7 +2,9 @@
 use Rattle.std.specs.Prelude.{◌≡◌, ℕ, ◌<◌, Option, Some, None, List, [], ◌∷◌, ◌++◌, length, All}
 use Rattle.std.specs.List.{flat_map}
 use Rattle.omega_game.specs.declared.node_spec.NodeSpec.{NodeSpec}
-use Rattle.omega_pg.specs.Symbols.{Symbol, comma, name, number, parity, semicolon}
+use Rattle.omega_text.specs.Syntax.{Syntax}
+use Rattle.omega_text.specs.declared.pg.kind.PgKind.{PgKind}
+use Rattle.omega_pg.specs.Symbols.{Symbol, pg_syntax, comma, name, number, parity, semicolon}
 use Rattle.omega_game.specs.Player.{player_number}
 
 -- a game text as it is written: the number of its header or none, and its specifications in their order
@@ -40,3 +42,7 @@ pub record SpellsGame (symbols : List Symbol) (raw : RawGame) : Type 0 where
   pub specified : 0 < length raw.specs
   pub continued : All (λ spec. 0 < length spec.successors) raw.specs
   pub spelled : symbols ≡ spelling raw
+
+-- the syntax of game texts
+abbrev pub game_syntax : Syntax PgKind Symbol RawGame
+game_syntax = pg_syntax SpellsGame

@@ -1,16 +1,9 @@
 -- What holds of game texts, whatever reads or writes them.
-use Rattle.std.specs.Prelude.{◌≡◌, ◌↔◌, ℕ, ◌<◌, ◌≤◌, ◌⊎◌, List, [], ◌∷◌, ◌++◌, length}
-use Rattle.omega_text.specs.Cut.{IsCut}
-use Rattle.omega_text.specs.Lexeme.{Lexeme}
+use Rattle.std.specs.Prelude.{◌≡◌, ℕ, ◌≤◌, ◌⊎◌, List, length}
 use Rattle.omega_text.specs.Limits.{most_text}
 use Rattle.omega_text.specs.declared.refusal.Refusal.{Refusal}
-use Rattle.omega_text.specs.declared.refusal.Refusal.TheVariants.{Text}
-use Rattle.omega_text.specs.declared.refusal.text.TextFault.TheVariants.{Syntax}
 use Rattle.omega_game.specs.Game.{Node, IsGame, IsWithinLimits}
 use Rattle.omega_pg.specs.game.Canonical.{canonical}
-use Rattle.omega_pg.specs.game.Grammar.{SpellsGame}
-use Rattle.omega_pg.specs.Syntax.{Begins}
-use Rattle.omega_pg.specs.Symbols.{symbols_of}
 use Rattle.omega_pg.specs.game.Refusing.{IsRefusal}
 use Rattle.omega_pg.specs.game.Text.{IsGameText}
 
@@ -33,13 +26,6 @@ GamesAreNotRefused =
 abbrev pub TextsAreReadOrRefused : Type 0
 TextsAreReadOrRefused =
     (source : List ℕ) → ((game : List Node) × IsGameText source game) ⊎ ((refusal : Refusal) × IsRefusal source refusal)
-
--- the place of a syntax fault parts the tokens: a text of the grammar begins through each of those before it, and through no other
-abbrev pub SyntaxFaultsAreFirst : Type 0
-SyntaxFaultsAreFirst =
-    (source : List ℕ) (place : ℕ) (front rest : List Lexeme) (token : Lexeme)
-    → IsRefusal source (Text (Syntax place)) → IsCut source (front ++ token ∷ rest)
-    → Begins SpellsGame (symbols_of (front ++ token ∷ [])) ↔ (token.span.start < place)
 
 -- the canonical text of a game, within the limit of texts, stands for that game
 abbrev pub CanonicalTextsAreRead : Type 0

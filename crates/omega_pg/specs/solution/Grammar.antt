@@ -3,7 +3,9 @@ use Rattle.std.specs.Prelude.{◌≡◌, ℕ, Option, Some, None, List, [], ◌�
 use Rattle.std.specs.List.{flat_map}
 use Rattle.omega_game.specs.declared.player.Player.{Player}
 use Rattle.omega_game.specs.declared.player.Player.TheVariants.{Zero}
-use Rattle.omega_pg.specs.Symbols.{Symbol, number, paritysol, semicolon}
+use Rattle.omega_text.specs.Syntax.{Syntax}
+use Rattle.omega_text.specs.declared.pg.kind.PgKind.{PgKind}
+use Rattle.omega_pg.specs.Symbols.{Symbol, pg_syntax, number, paritysol, semicolon}
 use Rattle.omega_game.specs.Player.{player_number}
 
 -- what a text says of a node: its identifier, its winner, and the identifier of a successor or none
@@ -34,3 +36,7 @@ line_symbols line =
 -- solution: `paritysol` number `;` line*
 abbrev pub SpellsSolution : List Symbol → RawSolution → Type 0
 SpellsSolution symbols raw = symbols ≡ paritysol ∷ number raw.greatest ∷ semicolon ∷ flat_map line_symbols raw.lines
+
+-- the syntax of solution texts
+abbrev pub solution_syntax : Syntax PgKind Symbol RawSolution
+solution_syntax = pg_syntax SpellsSolution

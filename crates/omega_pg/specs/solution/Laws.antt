@@ -1,22 +1,15 @@
 -- What holds of the texts of a game's solutions, whatever reads or writes them.
-use Rattle.std.specs.Prelude.{◌≡◌, ◌↔◌, ℕ, ◌<◌, ◌≤◌, ◌⊎◌, List, [], ◌∷◌, ◌++◌, length}
-use Rattle.omega_text.specs.Cut.{IsCut}
-use Rattle.omega_text.specs.Lexeme.{Lexeme}
+use Rattle.std.specs.Prelude.{◌≡◌, ◌↔◌, ℕ, ◌≤◌, ◌⊎◌, List, length}
 use Rattle.omega_text.specs.Limits.{most_text}
 use Rattle.omega_text.specs.declared.refusal.Refusal.{Refusal}
-use Rattle.omega_text.specs.declared.refusal.Refusal.TheVariants.{Text}
-use Rattle.omega_text.specs.declared.refusal.text.TextFault.TheVariants.{Syntax}
 use Rattle.omega_game.specs.Game.{IsGame, IsWithinLimits, Node}
 use Rattle.omega_pg.specs.solution.BadSolution.{IsNoSolution}
 use Rattle.omega_pg.specs.solution.Grammar.{RawSolution}
 use Rattle.omega_pg.specs.solution.Solution.{IsSolution}
 use Rattle.omega_pg.specs.solution.Text.{raw_solution}
 use Rattle.omega_pg.specs.solution.Canonical.{solution_text}
-use Rattle.omega_pg.specs.solution.Grammar.{SpellsSolution}
 use Rattle.omega_pg.specs.solution.Refusing.{IsSolutionRefusal}
 use Rattle.omega_pg.specs.solution.Text.{IsSolutionText}
-use Rattle.omega_pg.specs.Symbols.{symbols_of}
-use Rattle.omega_pg.specs.Syntax.{Begins}
 use Rattle.omega_pg.specs.declared.solution.Solution.{Solution}
 
 -- a text stands for at most one solution of a game
@@ -42,13 +35,6 @@ abbrev pub SolutionTextsAreReadOrRefused : Type 0
 SolutionTextsAreReadOrRefused =
     (nodes : List Node) (source : List ℕ)
     → ((solution : Solution) × IsSolutionText nodes source solution) ⊎ ((refusal : Refusal) × IsSolutionRefusal nodes source refusal)
-
--- the place of a syntax fault parts the tokens: a text of the grammar begins through each of those before it, and through no other
-abbrev pub SolutionSyntaxFaultsAreFirst : Type 0
-SolutionSyntaxFaultsAreFirst =
-    (nodes : List Node) (source : List ℕ) (place : ℕ) (front rest : List Lexeme) (token : Lexeme)
-    → IsSolutionRefusal nodes source (Text (Syntax place)) → IsCut source (front ++ token ∷ rest)
-    → Begins SpellsSolution (symbols_of (front ++ token ∷ [])) ↔ (token.span.start < place)
 
 -- the written form of a solution, within the limit of texts, stands for that solution
 abbrev pub WrittenSolutionsAreRead : Type 0

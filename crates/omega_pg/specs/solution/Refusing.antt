@@ -6,21 +6,21 @@ use Rattle.omega_text.specs.declared.refusal.Refusal.{Refusal}
 use Rattle.omega_text.specs.declared.refusal.Refusal.TheVariants.{Memory}
 use Rattle.omega_text.specs.declared.refusal.task.TaskFault.TheVariants.{BadSolution}
 use Rattle.omega_game.specs.Game.{Node}
-use Rattle.omega_pg.specs.Syntax.{IsTextFault, Writes}
+use Rattle.omega_text.specs.Syntax.{IsTextFault, IsTextOf}
 use Rattle.omega_pg.specs.solution.BadSolution.{IsNoSolution}
-use Rattle.omega_pg.specs.solution.Grammar.{RawSolution, SpellsSolution}
+use Rattle.omega_pg.specs.solution.Grammar.{RawSolution, solution_syntax}
 
 -- the bytes are a text of the grammar, and what is written is no solution of the game
 pub record IsBadSolution (nodes : List Node) (source : List ℕ) : Type 0 where
   pub short : length source ≤ most_text
   pub raw : RawSolution
-  pub writes : Writes SpellsSolution source raw
+  pub writes : IsTextOf solution_syntax source raw
   pub wrong : IsNoSolution nodes raw
 
 -- the refusal of a solution text of the game
 abbrev pub IsSolutionRefusal : List Node → List ℕ → Refusal → Type 0
 IsSolutionRefusal nodes source =
-    or_text (IsTextFault SpellsSolution source) (or_task (λ fault. (fault ≡ BadSolution) × IsBadSolution nodes source) never)
+    or_text (IsTextFault solution_syntax source) (or_task (λ fault. (fault ≡ BadSolution) × IsBadSolution nodes source) never)
 
 -- what a call that reads may answer in place of a solution: memory, or the refusal of the text
 abbrev pub IsReadSolutionRefusal : List Node → List ℕ → Refusal → Type 0

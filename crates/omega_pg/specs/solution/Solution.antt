@@ -1,7 +1,7 @@
 -- Solutions of a game.
-use Rattle.std.specs.Prelude.{◌≡◌, ◌↔◌, ℕ, ◌<◌, Option, None, List, length, IsSome, slice_index_or}
+use Rattle.std.specs.Prelude.{◌≡◌, ◌↔◌, ℕ, ◌<◌, Option, List, length, IsSome, slice_index_or}
 use Rattle.omega_game.specs.Game.{Node, owner_at}
-use Rattle.omega_game.specs.Winning.{IsStrategy}
+use Rattle.omega_game.specs.Winning.{IsStrategy, choice_at}
 use Rattle.omega_game.specs.declared.player.Player.{Player}
 use Rattle.omega_game.specs.declared.player.Player.TheVariants.{One, Zero}
 use Rattle.omega_pg.specs.declared.solution.Solution.{Solution}

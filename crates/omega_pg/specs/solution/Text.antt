@@ -3,8 +3,8 @@ use Rattle.std.specs.Prelude.{ℕ, ◌≤◌, List, length, map, option_map}
 use Rattle.std.specs.List.{range_with_len}
 use Rattle.omega_text.specs.Limits.{most_text}
 use Rattle.omega_game.specs.Game.{Node, node_at, owner_at, greatest_identifier}
-use Rattle.omega_pg.specs.Syntax.{Writes}
-use Rattle.omega_pg.specs.solution.Grammar.{Line, RawSolution, SpellsSolution}
+use Rattle.omega_text.specs.Syntax.{IsTextOf}
+use Rattle.omega_pg.specs.solution.Grammar.{Line, RawSolution, solution_syntax}
 use Rattle.omega_pg.specs.solution.Solution.{IsSolution, choices_of, winner_at}
 use Rattle.omega_game.specs.Winning.{choice_at}
 use Rattle.omega_pg.specs.declared.solution.Solution.{Solution}
@@ -27,5 +27,5 @@ raw_solution nodes solution = record {
 -- the text stands for the solution of the game
 pub record IsSolutionText (nodes : List Node) (source : List ℕ) (solution : Solution) : Type 0 where
   pub short : length source ≤ most_text
-  pub writes : Writes SpellsSolution source (raw_solution nodes solution)
+  pub writes : IsTextOf solution_syntax source (raw_solution nodes solution)
   pub fits : IsSolution nodes solution

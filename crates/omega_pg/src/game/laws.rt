@@ -1,18 +1,25 @@
 //! What holds of every text of a game, for callers' proofs: each call does nothing and states one law.
 
-ghost use Rattle.omega_pg.specs.game.Laws.{CanonicalTextsAreRead, GamesAreNotRefused, GamesOfTextsAreOne, RefusalsAreOne, SyntaxFaultsAreFirst, TextsAreReadOrRefused};
+ghost use Rattle.omega_pg.specs.game.Grammar.{game_syntax};
+ghost use Rattle.omega_pg.specs.game.Laws.{CanonicalTextsAreRead, GamesAreNotRefused, GamesOfTextsAreOne, RefusalsAreOne, TextsAreReadOrRefused};
+ghost use Rattle.omega_text.specs.Syntax.{SyntaxFaultsAreFirst};
 
-use omega_game::{specifications_have_one_game, games_exist, games_have_no_fault, games_keep_limits};
-use omega_text::{
-    cut_or_fault, cuts_are_one, cuts_have_no_fault, ends_are_gaps, faults_are_one,
-    names_are_longest, numbers_are_longest, signs_are_longest, tokens_follow, words_are_longest,
+use super::syntax::GameSyntax;
+use omega_game::{games_exist, games_have_no_fault, games_keep_limits, specifications_have_one_game};
+use omega_text::PgKind;
+use omega_text::laws::{
+    cuts_are_one, text_faults_are_one, texts_are_read_or_faulty, texts_have_no_fault,
+};
+use omega_text::pg::laws::{
+    ends_are_gaps, names_are_longest, numbers_are_longest, signs_are_longest, tokens_follow,
+    words_are_longest,
 };
 
 /// A text stands for at most one game.
 pub fn games_of_texts_are_one()
     ensures { GamesOfTextsAreOne }
 {
-    cuts_are_one();
+    cuts_are_one::<PgKind>();
     specifications_have_one_game();
 }
 
@@ -20,17 +27,17 @@ pub fn games_of_texts_are_one()
 pub fn refusals_are_one()
     ensures { RefusalsAreOne }
 {
-    cuts_are_one();
-    cuts_have_no_fault();
-    faults_are_one();
+    cuts_are_one::<PgKind>();
+    text_faults_are_one::<GameSyntax>();
+    texts_have_no_fault::<GameSyntax>();
 }
 
 /// A text that stands for a game has no refusal.
 pub fn games_are_not_refused()
     ensures { GamesAreNotRefused }
 {
-    cuts_are_one();
-    cuts_have_no_fault();
+    cuts_are_one::<PgKind>();
+    texts_have_no_fault::<GameSyntax>();
     games_have_no_fault();
 }
 
@@ -38,16 +45,16 @@ pub fn games_are_not_refused()
 pub fn texts_are_read_or_refused()
     ensures { TextsAreReadOrRefused }
 {
-    cut_or_fault();
+    texts_are_read_or_faulty::<GameSyntax>();
     games_exist();
     games_keep_limits();
 }
 
 /// A text of the grammar begins through each token before the place of a syntax fault, and through no other.
 pub fn syntax_faults_are_first()
-    ensures { SyntaxFaultsAreFirst }
+    ensures { SyntaxFaultsAreFirst game_syntax }
 {
-    cuts_are_one();
+    omega_text::laws::syntax_faults_are_first::<GameSyntax>();
 }
 
 /// The canonical text of a game, within the limit of texts, stands for that game.

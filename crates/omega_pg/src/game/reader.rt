@@ -1,13 +1,12 @@
-ghost use Rattle.std.specs.Prelude.{◌≡◌, ◌≤◌, IfOk, IsOkUnless, All};
-ghost use Rattle.omega_text.specs.Forms.{IsQuoted};
+ghost use Rattle.std.specs.Prelude.{◌≡◌, ◌≤◌, ◌↔◌, IfOk, IsOkUnless, IsTrue, All};
+ghost use Rattle.omega_text.specs.pg.Forms.{IsQuoted};
 ghost use Rattle.omega_text.specs.Limits.{most_number};
 ghost use Rattle.omega_game.specs.Game.{IsNameByte};
 ghost use Rattle.omega_pg.specs.Symbols.{between_quotes};
 
 use crate::game::stage::Stage;
-use crate::token_reader::TokenReader;
 use omega_game::{GameBuilder, Player, Refusal};
-use omega_text::{Kind, Token};
+use omega_text::{PgKind, Token, TokenReader};
 use std::alloc::Global;
 
 /// What was read of a game text so far.
@@ -153,32 +152,42 @@ impl Reader {
     }
 }
 
-impl TokenReader for Reader {
+impl TokenReader<PgKind> for Reader {
+    ghost use Rattle.omega_pg.specs.Symbols.{symbol_of, symbols_of};
+    ghost use Rattle.omega_pg.specs.game.Grammar.{game_syntax};
     ghost use Rattle.omega_pg.specs.game.reader.Automaton.{IsReached, IsReady, Takes, step};
-    ghost use Rattle.omega_pg.specs.game.Grammar.{SpellsGame};
-    ghost use Rattle.omega_pg.specs.Symbols.{symbol};
-    ghost use Rattle.omega_text.specs.Forms.{Spells};
     ghost use Rattle.omega_pg.specs.game.reader.Reader.{state_of};
-    ghost use Rattle.omega_pg.specs.Syntax.{Begins};
+    ghost use Rattle.omega_pg.specs.declared.game.stage.Stage.TheVariants.{Ended};
+    ghost use Rattle.omega_text.specs.Lexeme.{lexeme_of};
+    ghost use Rattle.omega_text.specs.Syntax.{TokensBegin, TokensComplete};
+    ghost use Rattle.omega_text.specs.pg.Forms.{Spells};
 
-    ghost becomes = { λ _ symbols reader. IsReached symbols (state_of reader) };
+    ghost becomes = { λ _ lexemes reader. IsReached (symbols_of lexemes) (state_of reader) };
 
-    ghost begins = { Begins SpellsGame };
+    ghost begins = { TokensBegin game_syntax };
 
-    fn take(&mut self, token: &Token<'_>) -> Result<bool, Refusal>
+    ghost completes = { TokensComplete game_syntax };
+
+    fn take(&mut self, token: &Token<'_, PgKind>) -> Result<bool, Refusal>
         requires ready { IsReady (state_of self.old) }
         requires token { Spells token.now.kind token.now.value token.now.text.now }
-        ensures takes { IfOk result (λ taken. Takes taken (step (state_of self.old) (symbol token.now.kind token.now.value token.now.text.now)) (state_of self.new)) }
+        ensures takes { IfOk result (λ taken. Takes taken (step (state_of self.old) (symbol_of (lexeme_of token.now))) (state_of self.new)) }
         ensures memory { IsOkUnless result Refusal.Memory }
     {
         match token.kind {
-            Kind::Number => self.take_number(token.value),
-            Kind::Parity => Ok(self.take_word()),
-            Kind::ParitySol => Ok(false),
-            Kind::Semicolon => Ok(self.take_semicolon()),
-            Kind::Comma => Ok(self.take_comma()),
-            Kind::Name => self.take_name(name_between_quotes(token.text)),
+            PgKind::Number => self.take_number(token.value),
+            PgKind::Parity => Ok(self.take_word()),
+            PgKind::ParitySol => Ok(false),
+            PgKind::Semicolon => Ok(self.take_semicolon()),
+            PgKind::Comma => Ok(self.take_comma()),
+            PgKind::Name => self.take_name(name_between_quotes(token.text)),
         }
+    }
+
+    fn is_complete(&self) -> bool
+        ensures { IsTrue result ↔ (self.now.stage ≡ Ended) }
+    {
+        self.stage == Stage::Ended
     }
 }
 

@@ -6,10 +6,8 @@ ghost use Rattle.omega_pg.specs.game.Refusing.{IsReadRefusal};
 ghost use Rattle.omega_pg.specs.game.Text.{IsGameText};
 
 use crate::game::reader::Reader;
-use crate::game::stage::Stage;
-use crate::token_reader::read_tokens;
 use omega_game::{Game, GameBuilder, GameFault, Refusal};
-use omega_text::{MOST_TEXT, TextFault};
+use omega_text::{PgKind, read_text};
 use std::alloc::Global;
 
 /// The game that a text of PGSolver's format stands for. 1 to 4, 10 to 14 or 60: the refusal of the text, or memory.
@@ -24,19 +22,12 @@ pub fn read_game(alloc: Global, bytes: &[u8]) -> Result<Game, Refusal>
     ensures game { IfOk result (IsGameText bytes.now) }
     ensures refused { IfErr result (IsReadRefusal bytes.now) }
 {
-    if bytes.len() > MOST_TEXT {
-        return Err(Refusal::Text(TextFault::TooLong));
-    }
     let Reader {
-        stage,
         builder,
         header_too_small,
         ..
-    } = read_tokens(Reader::new(alloc), bytes)?;
-    match stage {
-        Stage::Ended => built(builder, header_too_small),
-        _ => Err(Refusal::Text(TextFault::Syntax { at: bytes.len() })),
-    }
+    } = read_text::<PgKind, Reader>(Reader::new(alloc), bytes)?;
+    built(builder, header_too_small)
 }
 
 /// The game of specifications, of which one is above the number of the header if that is `too_small`.

@@ -1,11 +1,10 @@
-ghost use Rattle.std.specs.Prelude.{◌≡◌, IfOk, IsOkUnless};
+ghost use Rattle.std.specs.Prelude.{◌≡◌, ◌↔◌, IfOk, IsOkUnless, IsTrue};
 ghost use Rattle.omega_pg.specs.solution.reader.Automaton.{stage_after_number, stage_after_word};
 
 use crate::solution::lines::Lines;
 use crate::solution::stage::Stage;
-use crate::token_reader::TokenReader;
 use omega_game::{Game, Player, Refusal};
-use omega_text::{Kind, Token};
+use omega_text::{PgKind, Token, TokenReader};
 use std::alloc::Global;
 
 /// What was read so far of a text of a game's solution.
@@ -80,32 +79,42 @@ impl<'g> Reader<'g> {
     }
 }
 
-impl TokenReader for Reader<'_> {
+impl TokenReader<PgKind> for Reader<'_> {
+    ghost use Rattle.omega_pg.specs.Symbols.{symbol_of};
+    ghost use Rattle.omega_pg.specs.solution.Grammar.{solution_syntax};
     ghost use Rattle.omega_pg.specs.solution.reader.Automaton.{State, step};
     ghost use Rattle.omega_pg.specs.solution.reader.Reader.{HasBecome};
     ghost use Rattle.omega_pg.specs.solution.reader.Reading.{Keeps, KeepsNext};
-    ghost use Rattle.omega_pg.specs.solution.Grammar.{SpellsSolution};
-    ghost use Rattle.omega_pg.specs.Symbols.{symbol};
-    ghost use Rattle.omega_pg.specs.Syntax.{Begins};
+    ghost use Rattle.omega_pg.specs.declared.solution.stage.Stage.TheVariants.{Ended};
+    ghost use Rattle.omega_text.specs.Lexeme.{lexeme_of};
+    ghost use Rattle.omega_text.specs.Syntax.{TokensBegin, TokensComplete};
 
     ghost becomes = { HasBecome };
 
-    ghost begins = { Begins SpellsSolution };
+    ghost begins = { TokensBegin solution_syntax };
 
-    fn take(&mut self, token: &Token<'_>) -> Result<bool, Refusal>
+    ghost completes = { TokensComplete solution_syntax };
+
+    fn take(&mut self, token: &Token<'_, PgKind>) -> Result<bool, Refusal>
         ensures takes { IfOk result (λ taken. (state : State) → Keeps self.old.game.now state self.old.stage self.old.greatest self.old.lines
-            → KeepsNext taken self.old.game.now (step state (symbol token.now.kind token.now.value token.now.text.now)) self.new.stage self.new.greatest self.new.lines) }
+            → KeepsNext taken self.old.game.now (step state (symbol_of (lexeme_of token.now))) self.new.stage self.new.greatest self.new.lines) }
         ensures game { self.new.game.now ≡ self.old.game.now }
         ensures memory { IsOkUnless result Refusal.Memory }
     {
         match token.kind {
-            Kind::Number => Ok(self.go_on(after_number(self.stage, token.value))),
-            Kind::ParitySol => Ok(self.go_on(after_word(self.stage))),
-            Kind::Semicolon => self.take_semicolon(),
-            Kind::Parity => Ok(false),
-            Kind::Comma => Ok(false),
-            Kind::Name => Ok(false),
+            PgKind::Number => Ok(self.go_on(after_number(self.stage, token.value))),
+            PgKind::ParitySol => Ok(self.go_on(after_word(self.stage))),
+            PgKind::Semicolon => self.take_semicolon(),
+            PgKind::Parity => Ok(false),
+            PgKind::Comma => Ok(false),
+            PgKind::Name => Ok(false),
         }
+    }
+
+    fn is_complete(&self) -> bool
+        ensures { IsTrue result ↔ (self.now.stage ≡ Ended) }
+    {
+        self.stage == Stage::Ended
     }
 }
 

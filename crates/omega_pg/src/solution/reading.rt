@@ -4,10 +4,8 @@ ghost use Rattle.omega_pg.specs.solution.Text.{IsSolutionText};
 
 use crate::solution::Solution;
 use crate::solution::reader::Reader;
-use crate::solution::stage::Stage;
-use crate::token_reader::read_tokens;
 use omega_game::{Game, Refusal};
-use omega_text::{MOST_TEXT, TextFault};
+use omega_text::{PgKind, read_text};
 use std::alloc::Global;
 
 /// The solution of the game that a text stands for. 1 to 4, 53 or 60: the refusal of the text, or memory.
@@ -23,17 +21,8 @@ pub fn read_solution(alloc: Global, game: &Game, bytes: &[u8]) -> Result<Solutio
     ensures solution { IfOk result (IsSolutionText game.now bytes.now) }
     ensures refused { IfErr result (IsReadSolutionRefusal game.now bytes.now) }
 {
-    if bytes.len() > MOST_TEXT {
-        return Err(Refusal::Text(TextFault::TooLong));
-    }
     let Reader {
-        stage,
-        greatest,
-        lines,
-        ..
-    } = read_tokens(Reader::new(alloc, game), bytes)?;
-    match stage {
-        Stage::Ended => lines.finish(game, greatest),
-        _ => Err(Refusal::Text(TextFault::Syntax { at: bytes.len() })),
-    }
+        greatest, lines, ..
+    } = read_text::<PgKind, Reader>(Reader::new(alloc, game), bytes)?;
+    lines.finish(game, greatest)
 }

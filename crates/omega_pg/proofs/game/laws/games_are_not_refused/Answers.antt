@@ -3,4 +3,4 @@ use Rattle.omega_pg.proofs.games.Texts.{games_apart}
 use Rattle.omega_pg.proofs.game.laws.games_are_not_refused.Goals as goal
 
 pub returns : goal.returns
-returns c = games_apart c.cuts_are_one.ensures c.cuts_have_no_fault.ensures c.games_have_no_fault.ensures
+returns c = games_apart c.cuts_are_one.ensures c.texts_have_no_fault.ensures c.games_have_no_fault.ensures

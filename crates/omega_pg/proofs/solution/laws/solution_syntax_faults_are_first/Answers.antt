@@ -1,7 +1,0 @@
--- A solution text begins through each token before the place of a syntax fault, and through no other.
-use Rattle.omega_pg.specs.solution.Grammar.{SpellsSolution}
-use Rattle.omega_pg.proofs.reader.Places.{faults_first}
-use Rattle.omega_pg.proofs.solution.laws.solution_syntax_faults_are_first.Goals as goal
-
-pub returns : goal.returns
-returns c nodes source place front rest token refused cut = faults_first SpellsSolution c.cuts_are_one.ensures source place front rest token refused.1 cut
