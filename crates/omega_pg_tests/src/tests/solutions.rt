@@ -1,0 +1,115 @@
+use super::told;
+use omega_pg::{Player, Refusal, read_game, read_solution, write_solution};
+use std::alloc::Global;
+use std::test::*;
+
+/// Two nodes, whose identifiers have gaps: 4 of player 0, and 9 of player 1.
+const GAME: &str = "9 3 1 4; 4 2 0 9,4;";
+
+/// Games, texts of their solutions, and the written forms.
+static SOLUTIONS: [(&str, &str, &str); 4] = [
+    (
+        "0 0 0 1; 1 1 0 1;",
+        "paritysol 1; 0 0 1; 1 1;",
+        "paritysol 1;\n0 0 1;\n1 1;\n",
+    ),
+    (
+        "0 0 0 1; 1 1 0 1;",
+        "paritysol 1; 0 1; 1 1;",
+        "paritysol 1;\n0 1;\n1 1;\n",
+    ),
+    (
+        "0 0 0 1,2; 1 1 1 0; 2 2 1 0;",
+        "paritysol 2; 0 0 2; 1 0; 2 0;",
+        "paritysol 2;\n0 0 2;\n1 0;\n2 0;\n",
+    ),
+    (
+        GAME,
+        "\tparitysol\r\n9;4 1;9 1 4;",
+        "paritysol 9;\n4 1;\n9 1 4;\n",
+    ),
+];
+
+/// Texts that stand for no solution of `GAME`, the number of the refusal, and its place if it has one.
+static REFUSED: [(&str, u32, Option<usize>); 39] = [
+    ("", 3, Some(0)),
+    ("  ", 3, Some(2)),
+    ("parity", 3, Some(0)),
+    ("paritysol", 3, Some(9)),
+    ("paritysol 9", 3, Some(11)),
+    ("paritysol 9; 4", 3, Some(14)),
+    ("paritysol 9; 4 0", 3, Some(16)),
+    ("paritysol 9; 4 0 9", 3, Some(18)),
+    ("9; 4 0 9; 9 1 4;", 3, Some(0)),
+    ("parity 9; 4 0 9; 9 1 4;", 3, Some(0)),
+    ("paritysol 9 4 0 9; 9 1 4;", 3, Some(12)),
+    ("paritysol 9; paritysol 9;", 3, Some(13)),
+    ("paritysol 9; 4; 9 1 4;", 3, Some(14)),
+    ("paritysol 9; 4 2 9; 9 1 4;", 3, Some(15)),
+    ("paritysol 4; 4 2 9; 9 1 4;", 3, Some(15)),
+    ("paritysol 9; 4 0, 9; 9 1 4;", 3, Some(16)),
+    ("paritysol 9; 4 0 \"a\"; 9 1 4;", 3, Some(17)),
+    ("paritysol 9; 4 0 9,4; 9 1 4;", 3, Some(18)),
+    ("paritysol 9; 4 0 9 9 1 4;", 3, Some(19)),
+    ("solution 9;", 1, Some(0)),
+    ("paritysol 9; 4 0 9; 9 1 4; $", 1, Some(27)),
+    ("paritysol 9; 4 2 9; x", 1, Some(20)),
+    ("paritysol 9; 4 0 \"a", 1, Some(17)),
+    ("paritysol 09;", 2, Some(10)),
+    ("paritysol 2147483648;", 2, Some(10)),
+    ("paritysol 9; 4 2 9; 01", 2, Some(20)),
+    // The number of the header.
+    ("paritysol 4; 4 0 9; 9 1 4;", 53, None),
+    ("paritysol 10; 4 0 9; 9 1 4;", 53, None),
+    // The identifiers of the lines: none, one missing, out of order, repeated, one more, others, places.
+    ("paritysol 9;", 53, None),
+    ("paritysol 9; 9 1 4;", 53, None),
+    ("paritysol 9; 4 0 9;", 53, None),
+    ("paritysol 9; 9 1 4; 4 0 9;", 53, None),
+    ("paritysol 9; 4 0 9; 4 0 9;", 53, None),
+    ("paritysol 9; 4 0 9; 9 1 4; 10 0;", 53, None),
+    ("paritysol 9; 0 0 1; 1 1 0;", 53, None),
+    // The successor of a line: missing, of the loser, not listed, no node.
+    ("paritysol 9; 4 0; 9 1 4;", 53, None),
+    ("paritysol 9; 4 1 9; 9 1 4;", 53, None),
+    ("paritysol 9; 4 0 9; 9 1 9;", 53, None),
+    ("paritysol 9; 4 0 5; 9 1 4;", 53, None),
+];
+
+/// The written form of the solution that a text stands for.
+fn rewritten(alloc: Global, game: &str, text: &str) -> Result<Vec<u8>, Refusal> {
+    let game = read_game(alloc, game.as_bytes())?;
+    let solution = read_solution(alloc, &game, text.as_bytes())?;
+    write_solution(alloc, &game, &solution)
+}
+
+#[test]
+fn solutions_are_read_and_written(rt: HostRuntime) {
+    for (game, text, want) in SOLUTIONS.iter() {
+        match rewritten(rt.alloc(), game, text) {
+            Ok(found) => assert_eq!(rt; found.as_slice(), want.as_bytes()),
+            Err(refusal) => assert!(rt; false, "{refusal:?}"),
+        }
+    }
+}
+
+#[test]
+fn winners_and_choices_stand_by_place(rt: HostRuntime) -> Result<(), Fail> {
+    let game = read_game(rt.alloc(), GAME.as_bytes())?;
+    let solution = read_solution(rt.alloc(), &game, b"paritysol 9; 4 0 9; 9 1 4;")?;
+    assert_eq!(rt; solution.winners.as_slice(), [Player::Zero, Player::One].as_slice());
+    assert_eq!(rt; solution.zero.choice.as_slice(), [Some(1), None].as_slice());
+    assert_eq!(rt; solution.one.choice.as_slice(), [None, Some(0)].as_slice());
+    Ok(())
+}
+
+#[test]
+fn other_solution_texts_are_refused(rt: HostRuntime) {
+    for (text, number, place) in REFUSED.iter() {
+        assert_eq!(rt;
+            rewritten(rt.alloc(), GAME, text).err().map(told),
+            Some((*number, *place)),
+            "{text}"
+        );
+    }
+}
