@@ -19,10 +19,12 @@ use Rattle.omega_measure.specs.Table.{is_too_wide}
 use Rattle.omega_pg.specs.Solution.{choice_at, choices_of, winner_at}
 use Rattle.omega_pg.specs.declared.solution.Solution.{Solution}
 use Rattle.omega_solve.specs.Solver.{IsFinished, IsReached, State, most_lifts, start_of}
-use Rattle.omega_tool.specs.Answer.{WinsExactly, places_from}
-use Rattle.omega_tool.specs.Lifting.{GoesOnAfter}
-use Rattle.omega_tool.specs.Solve.{IsGameRefusal}
-use Rattle.omega_tool.specs.Solution.{GivesRegions, IsFound, IsRight, winner_of, winners_of}
+use Rattle.omega_tool.specs.answers.solve.AnswerText.{WinsExactly}
+use Rattle.omega_tool.specs.steps.Places.{places_from}
+use Rattle.omega_tool.specs.answers.solve.Lifting.{GoesOnAfter}
+use Rattle.omega_tool.specs.steps.GameRefusal.{IsGameRefusal}
+use Rattle.omega_tool.specs.answers.solve.Solution.{GivesRegions, IsRight}
+use Rattle.omega_tool.specs.steps.Winners.{IsFound, winner_of, winners_of}
 use Rattle.omega_tool.proofs.Places.{slice_get-true}
 use Rattle.omega_tool.proofs.Solving.{Contains-won, won-Contains}
 

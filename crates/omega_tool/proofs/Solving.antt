@@ -15,8 +15,10 @@ use Rattle.omega_lift.specs.Allowance.{measure_at}
 use Rattle.omega_lift.specs.Measure.{Measure}
 use Rattle.omega_measure.specs.Table.{is_too_wide}
 use Rattle.omega_solve.specs.Solver.{IsFinished, IsReached, State, most_lifts}
-use Rattle.omega_tool.specs.Answer.{IsAnswerOf, WinsExactly, answer_text, places_from}
-use Rattle.omega_tool.specs.Solve.{IsGameRefusal, IsNamed}
+use Rattle.omega_tool.specs.answers.solve.AnswerText.{IsAnswerOf, WinsExactly, answer_text}
+use Rattle.omega_tool.specs.steps.Places.{places_from}
+use Rattle.omega_tool.specs.answers.solve.Solving.{IsNamed}
+use Rattle.omega_tool.specs.steps.GameRefusal.{IsGameRefusal}
 use Rattle.omega_tool.proofs.Places.{Contains-places_from, IsStrictlyIncreasing-places_from, places_from-true}
 
 -- ---- the places won, and the choices printed

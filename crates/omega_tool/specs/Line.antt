@@ -1,3 +1,4 @@
+-- What of a command line can be done.
 use Rattle.std.specs.Prelude.{◌≤◌}
 use Rattle.omega_solve.specs.declared.solver.TheConstants.{MOST_LIFTS}
 use Rattle.omega_tool.specs.declared.command.Command.{Command}

@@ -1,0 +1,5 @@
+pub mod AnswerText
+pub mod Lifting
+pub mod Refusing
+pub mod Solution
+pub mod Solving
