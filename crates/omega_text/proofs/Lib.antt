@@ -1,10 +1,3 @@
-pub mod Classes
-pub mod Cuts
-pub mod Gaps
-pub mod Longest
-pub mod Numbers
-pub mod Onward
-pub mod Quoted
-pub mod Tokens
-pub mod Unique
-pub mod Written
+pub mod formats
+pub mod pg_texts
+pub mod syntaxes

@@ -3,6 +3,6 @@ use Rattle.std.specs.Prelude.{ℕ, List, [], ◌∷◌}
 use Rattle.omega_text.specs.Lexeme.{Lexeme}
 
 -- where the next token begins, or the text's length where none is left
-abbrev pub next_place : List Lexeme → ℕ → ℕ
+abbrev pub next_place : {Kind : Type 0} → List (Lexeme Kind) → ℕ → ℕ
 next_place [] length = length
 next_place (lexeme ∷ rest) length = lexeme.span.start

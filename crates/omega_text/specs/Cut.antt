@@ -1,36 +1,50 @@
--- How a game text is cut into tokens: the longest form at each place, and white space between.
-use Rattle.std.specs.Prelude.{◌≡◌, ℕ, ◌-◌, ◌<◌, ◌≤◌, true, List, [], ◌∷◌, length, take, drop}
-use Rattle.std.specs.List.{AllWithin}
-use Rattle.omega_text.specs.Bytes.{is_white}
-use Rattle.omega_text.specs.Forms.{IsLongest, Spells}
+-- How texts of a format are cut into tokens, and where they can't be.
+use Rattle.std.specs.Prelude.{◌≡◌, ℕ, ◌⊎◌, List, [], ◌∷◌, ◌++◌}
+use Rattle.omega_text.specs.Cases.{never, or_memory, or_text}
+use Rattle.omega_text.specs.Format.{Format}
 use Rattle.omega_text.specs.Lexeme.{Lexeme}
-
--- only white space stands from one place up to another
-pub record IsGap (source : List ℕ) (from to : ℕ) : Type 0 where
-  pub forward : from ≤ to
-  pub within : to ≤ length source
-  pub white : AllWithin (λ byte. is_white byte ≡ true) source from to
-
--- the bytes begin with this token, which is the longest form there
-pub record BeginsWith (bytes : List ℕ) (lexeme : Lexeme) : Type 0 where
-  pub nonempty : lexeme.span.start < lexeme.span.end
-  pub longest : IsLongest bytes (lexeme.span.end - lexeme.span.start)
-  pub text : lexeme.text ≡ take (lexeme.span.end - lexeme.span.start) bytes
-  pub spells : Spells lexeme.kind lexeme.value lexeme.text
-
--- from a place on, a gap follows and then this token
-pub record Follows (source : List ℕ) (from : ℕ) (lexeme : Lexeme) : Type 0 where
-  pub gap : IsGap source from lexeme.span.start
-  pub token : BeginsWith (drop lexeme.span.start source) lexeme
-  pub within : lexeme.span.end ≤ length source
+use Rattle.omega_text.specs.declared.refusal.Refusal.{Refusal}
+use Rattle.omega_text.specs.declared.refusal.text.TextFault.{TextFault}
 
 -- from one place on, these tokens follow one another, and the last ends at the other place
-abbrev pub Cuts : List ℕ → ℕ → List Lexeme → ℕ → Type 0
-Cuts source from [] to = from ≡ to
-Cuts source from (lexeme ∷ rest) to = Follows source from lexeme × Cuts source lexeme.span.end rest to
+abbrev pub Cuts : {Kind : Type 0} → Format Kind → List ℕ → ℕ → List (Lexeme Kind) → ℕ → Type 0
+Cuts format source from [] to = from ≡ to
+Cuts format source from (lexeme ∷ rest) to = format.follows source from lexeme × Cuts format source lexeme.span.end rest to
 
--- the tokens are the whole text, but for white space
-pub record IsCut (source : List ℕ) (lexemes : List Lexeme) : Type 0 where
+-- the tokens are the whole text, and nothing more follows
+pub record IsCut {Kind : Type 0} (format : Format Kind) (source : List ℕ) (lexemes : List (Lexeme Kind)) : Type 0 where
   pub end : ℕ
-  pub cuts : Cuts source 0 lexemes end
-  pub rest : IsGap source end (length source)
+  pub cuts : Cuts format source 0 lexemes end
+  pub rest : format.ends source end
+
+-- the fault of a text at its least place: before it, the text can be cut
+pub record IsFault {Kind : Type 0} (format : Format Kind) (source : List ℕ) (fault : TextFault) : Type 0 where
+  pub lexemes : List (Lexeme Kind)
+  pub end : ℕ
+  pub cuts : Cuts format source 0 lexemes end
+  pub faults : format.faults source end fault
+
+-- a text is refused by its fault at the least place, or for want of memory
+abbrev pub IsRefusedBy : {Kind : Type 0} → Format Kind → List ℕ → Refusal → Type 0
+IsRefusedBy format source = or_text (IsFault format source) (or_memory never)
+
+-- a text has at most one cut
+abbrev pub CutsAreOne : {Kind : Type 0} → Format Kind → Type 0
+CutsAreOne {Kind} format = (source : List ℕ) (one other : List (Lexeme Kind)) → IsCut format source one → IsCut format source other → one ≡ other
+
+-- a text has at most one fault at its least place
+abbrev pub FaultsAreOne : {Kind : Type 0} → Format Kind → Type 0
+FaultsAreOne format = (source : List ℕ) (one other : TextFault) → IsFault format source one → IsFault format source other → one ≡ other
+
+-- a text has a cut or a fault
+abbrev pub CutOrFault : {Kind : Type 0} → Format Kind → Type 0
+CutOrFault {Kind} format = (source : List ℕ) → ((lexemes : List (Lexeme Kind)) × IsCut format source lexemes) ⊎ ((fault : TextFault) × IsFault format source fault)
+
+-- a text that has a cut has no fault
+abbrev pub CutsHaveNoFault : {Kind : Type 0} → Format Kind → Type 0
+CutsHaveNoFault {Kind} format = (source : List ℕ) (lexemes : List (Lexeme Kind)) (fault : TextFault) → IsCut format source lexemes → IsFault format source fault → ⊥
+
+-- a cut, and a cut from where it ends, are a cut
+abbrev pub CutsJoin : {Kind : Type 0} → Format Kind → Type 0
+CutsJoin {Kind} format = (source : List ℕ) (from middle to : ℕ) (front back : List (Lexeme Kind))
+    → Cuts format source from front middle → Cuts format source middle back to → Cuts format source from (front ++ back) to

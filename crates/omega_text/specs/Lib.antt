@@ -1,10 +1,10 @@
-pub mod Bytes
 pub mod Cases
 pub mod Cursor
 pub mod Cut
-pub mod Fault
-pub mod Forms
-pub mod Laws
+pub mod Format
 pub mod Lexeme
 pub mod Limits
+pub mod Reading
 pub mod Refusal
+pub mod Syntax
+pub mod pg

@@ -7,26 +7,26 @@ use std::marker::Model;
 ///
 /// Contracts see the tokens that are left, without the addresses of their bytes, and the length.
 #[derive(Drop)]
-pub struct Cursor<'t, 'a> {
-    left: &'t [Token<'a>],
+pub struct Cursor<'t, 'a, K> {
+    left: &'t [Token<'a, K>],
     length: usize,
 }
 
-impl<'t, 'a> Model for Cursor<'t, 'a> {
+impl<'t, 'a, K> Model for Cursor<'t, 'a, K> {
     ghost use Rattle.std.specs.Prelude.{List, map, ℕ};
     ghost use Rattle.omega_text.specs.Lexeme.{Lexeme, lexeme_of};
 
-    ghost Value = { List Lexeme × ℕ };
+    ghost Value = { List (Lexeme K) × ℕ };
 
     ghost view = { λ c. (map lexeme_of c.left.now, c.length) };
 }
 
-impl<'t, 'a> Cursor<'t, 'a> {
+impl<'t, 'a, K: Copy> Cursor<'t, 'a, K> {
     ghost use Rattle.omega_text.specs.Cursor.{next_place};
     ghost use Rattle.omega_text.specs.Lexeme.{lexeme_of};
 
     /// A cursor before the first of the tokens; `length` is the length of the text in bytes.
-    pub fn new(tokens: &'t [Token<'a>], length: usize) -> Self
+    pub fn new(tokens: &'t [Token<'a, K>], length: usize) -> Self
         ensures tokens { result.0 ≡ map lexeme_of tokens.entry.now }
         ensures length { result.1 ≡ length }
     {
@@ -37,20 +37,20 @@ impl<'t, 'a> Cursor<'t, 'a> {
     }
 
     /// The next token, which stays, or none at the end.
-    pub fn look(&self) -> Option<Token<'a>>
+    pub fn look(&self) -> Option<Token<'a, K>>
         ensures { option_map lexeme_of result ≡ slice_get self.now.0 0 }
     {
         self.left.first().copied()
     }
 
     /// The next token, which the cursor passes, or none at the end.
-    pub fn take(&mut self) -> Option<Token<'a>>
+    pub fn take(&mut self) -> Option<Token<'a, K>>
         ensures some { IfSome result (λ token. self.old.0 ≡ lexeme_of token ∷ self.new.0) }
         ensures none { IfNone result ((self.old.0 ≡ []) × (self.new.0 ≡ [])) }
         ensures length { self.new.1 ≡ self.old.1 }
     {
         let left = self.left;
-        let first = *left.first()?;
+        let first = left.first().copied()?;
         self.left = &left[1..];
         Some(first)
     }

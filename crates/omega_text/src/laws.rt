@@ -1,78 +1,69 @@
-//! What holds of every game text and its cut, for callers' proofs: each call does nothing and states one law.
+//! What holds of the texts of every format and syntax, for callers' proofs: each call does nothing and states one law.
 
-ghost use Rattle.omega_text.specs.Laws.{CutOrFault, CutsAreOne, CutsHaveNoFault, CutsJoin, EndsAreGaps, FaultsAreOne, NamesAreLongest, NumbersAreLongest, NumbersArePlain, SignsAreLongest, SpellingsAreOne, TokensAreOne, TokensFollow, WaysAreApart, WordsAreLongest};
+ghost use Rattle.omega_text.specs.Cut.{CutOrFault, CutsAreOne, CutsHaveNoFault, CutsJoin, FaultsAreOne};
+ghost use Rattle.omega_text.specs.Syntax.{IsDecided, SyntaxFaultsAreFirst, TextFaultsAreOne, TextsAreReadOrFaulty, TextsHaveNoFault};
 
-/// A game text has at most one cut into tokens.
-pub fn cuts_are_one()
-    ensures { CutsAreOne }
-{}
+pub use crate::limits::text_limits_are_stated;
+use crate::syntax::TextSyntax;
+use crate::token_kind::TokenKind;
 
-/// A game text has at most one fault at its least place.
-pub fn faults_are_one()
-    ensures { FaultsAreOne }
-{}
+/// A text has at most one cut into tokens.
+pub fn cuts_are_one<K: TokenKind>()
+    ensures { CutsAreOne K.format }
+{
+    K::goes_on_one_way();
+}
 
-/// A game text has a cut or a fault.
-pub fn cut_or_fault()
-    ensures { CutOrFault }
-{}
+/// A text has at most one fault at its least place.
+pub fn faults_are_one<K: TokenKind>()
+    ensures { FaultsAreOne K.format }
+{
+    K::goes_on_one_way();
+}
 
-/// A game text that has a cut has no fault.
-pub fn cuts_have_no_fault()
-    ensures { CutsHaveNoFault }
-{}
+/// A text has a cut or a fault.
+pub fn cut_or_fault<K: TokenKind>()
+    ensures { CutOrFault K.format }
+{
+    K::goes_on_one_way();
+}
 
-/// At most one token follows a place.
-pub fn tokens_are_one()
-    ensures { TokensAreOne }
-{}
-
-/// A token, a fault and white space to the end exclude one another.
-pub fn ways_are_apart()
-    ensures { WaysAreApart }
-{}
+/// A text that has a cut has no fault.
+pub fn cuts_have_no_fault<K: TokenKind>()
+    ensures { CutsHaveNoFault K.format }
+{
+    K::goes_on_one_way();
+}
 
 /// Cuts are joined end to end.
-pub fn cuts_join()
-    ensures { CutsJoin }
+pub fn cuts_join<K: TokenKind>()
+    ensures { CutsJoin K.format }
 {}
 
-/// A text is a token of at most one kind and value, which is at most `MOST_NUMBER`.
-pub fn spellings_are_one()
-    ensures { SpellingsAreOne }
-{}
+/// A text has at most one fault by a syntax.
+pub fn text_faults_are_one<S: TextSyntax>()
+    ensures { TextFaultsAreOne S.syntax }
+{
+    S::goes_on_one_way();
+}
 
-/// A number is `0` or begins with 1 to 9, and is at most `MOST_NUMBER`.
-pub fn numbers_are_plain()
-    ensures { NumbersArePlain }
-{}
+/// A text within the limit that spells something has no fault.
+pub fn texts_have_no_fault<S: TextSyntax>()
+    ensures { TextsHaveNoFault S.syntax }
+{
+    S::goes_on_one_way();
+}
 
-/// A numeral ends before what is no digit.
-pub fn numbers_are_longest()
-    ensures { NumbersAreLongest }
-{}
+/// A text of the grammar begins through each token before the place of a syntax fault, and through no other.
+pub fn syntax_faults_are_first<S: TextSyntax>()
+    ensures { SyntaxFaultsAreFirst S.syntax }
+{
+    S::goes_on_one_way();
+}
 
-/// A word ends before what can't go on in a word.
-pub fn words_are_longest()
-    ensures { WordsAreLongest }
-{}
-
-/// A sign is one byte, whatever follows.
-pub fn signs_are_longest()
-    ensures { SignsAreLongest }
-{}
-
-/// A name ends at its second quote, whatever follows.
-pub fn names_are_longest()
-    ensures { NamesAreLongest }
-{}
-
-/// White space and a token that is written behind it are cut into that token.
-pub fn tokens_follow()
-    ensures { TokensFollow }
-{}
-
-/// White space to the end of a text is cut into nothing.
-pub fn ends_are_gaps()
-    ensures { EndsAreGaps }
-{}
+/// Each text within the limit spells something, or has a fault, if the syntax is decided.
+pub fn texts_are_read_or_faulty<S: TextSyntax>()
+    ensures { IsDecided S.syntax → TextsAreReadOrFaulty S.syntax }
+{
+    S::goes_on_one_way();
+}

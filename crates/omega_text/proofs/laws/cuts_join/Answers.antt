@@ -1,5 +1,6 @@
-use Rattle.omega_text.proofs.Cuts.{cuts_join}
+-- The law by its lemma.
+use Rattle.omega_text.proofs.formats.Cutting.{cuts_join}
 use Rattle.omega_text.proofs.laws.cuts_join.Goals as goal
 
 pub returns : goal.returns
-returns c source from middle to front back = cuts_join source from front middle back to
+returns g c = cuts_join g.K.TokenKind.format

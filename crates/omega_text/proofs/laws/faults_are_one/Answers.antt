@@ -1,5 +1,6 @@
-use Rattle.omega_text.proofs.Unique.{one_fault}
+-- The law by its lemma.
+use Rattle.omega_text.proofs.formats.Stops.{one_fault}
 use Rattle.omega_text.proofs.laws.faults_are_one.Goals as goal
 
 pub returns : goal.returns
-returns c = one_fault
+returns g c = one_fault _ c.goes_on_one_way.ensures

@@ -1,0 +1,3 @@
+-- Lemmas of every format.
+pub mod Cutting
+pub mod Stops

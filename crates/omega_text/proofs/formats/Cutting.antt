@@ -1,0 +1,62 @@
+-- Cuts, piece by piece, and that each text has one or a fault.
+use Rattle.std.proofs.Common.{ℕ, zero, suc, ◌+◌, ◌≤◌, ◌⊎◌, inl, inr, ⊎_elim, List, [], ◌∷◌, ◌++◌, length, map, refl, sym, subst, arith}
+use Rattle.std.proofs.lemmas.List.{map_push}
+use Rattle.omega_text.specs.Cut.{CutOrFault, Cuts}
+use Rattle.omega_text.specs.Format.{Format, IsExact}
+use Rattle.omega_text.specs.Lexeme.{Lexeme, lexeme_of}
+use Rattle.omega_text.specs.declared.refusal.text.TextFault.{TextFault}
+use Rattle.omega_text.specs.declared.token.Token.{Token}
+
+module _ {Kind : Type 0} (format : Format Kind) where
+  -- two cuts, one behind the other, are a cut
+  pub cuts_join : (source : List ℕ) (from middle to : ℕ) (front back : List (Lexeme Kind)) → Cuts format source from front middle → Cuts format source middle back to → Cuts format source from (front ++ back) to
+  cuts_join source from middle to [] back is cuts = subst (λ n. Cuts format source n back to) (sym is) cuts
+  cuts_join source from middle to (lexeme ∷ front) back first second = (first.0, cuts_join source lexeme.span.end middle to front back first.1 second)
+
+  -- a cut goes on with a lexeme that follows it
+  pub cuts_more : (source : List ℕ) (from at : ℕ) (lexemes : List (Lexeme Kind)) (lexeme : Lexeme Kind) → Cuts format source from lexemes at → format.follows source at lexeme → Cuts format source from (lexemes ++ lexeme ∷ []) lexeme.span.end
+  cuts_more source from at lexemes lexeme cuts follows = cuts_join source from at lexeme.span.end lexemes (lexeme ∷ []) cuts (follows, refl)
+
+  -- the same of tokens
+  pub cuts_push : (source : List ℕ) (tokens : List (Token Kind)) (at : ℕ) (token : Token Kind) → Cuts format source 0 (map lexeme_of tokens) at → format.follows source at (lexeme_of token) → Cuts format source 0 (map lexeme_of (tokens ++ token ∷ [])) token.span.end
+  cuts_push source tokens at token cuts follows =
+      subst (λ lexemes. Cuts format source 0 lexemes token.span.end) (sym (map_push lexeme_of tokens token))
+      (cuts_more source 0 at (map lexeme_of tokens) (lexeme_of token) cuts follows)
+
+-- from a place on, a text is cut to its end or to a fault
+abbrev pub CutFrom : {Kind : Type 0} → Format Kind → List ℕ → ℕ → Type 0
+CutFrom {Kind} format source from = ((lexemes : List (Lexeme Kind)) × (to : ℕ) × Cuts format source from lexemes to × format.ends source to)
+    ⊎ ((lexemes : List (Lexeme Kind)) × (to : ℕ) × (fault : TextFault) × Cuts format source from lexemes to × format.faults source to fault)
+
+module _ {Kind : Type 0} (format : Format Kind) (exact : IsExact format) where
+  -- where a token follows, a longer text is left than behind it
+  shorter : (left : ℕ) (source : List ℕ) (from : ℕ) (lexeme : Lexeme Kind) → format.follows source from lexeme → length source ≤ from + suc left
+      → (lexeme.span.end ≤ length source) × (length source ≤ lexeme.span.end + left)
+  shorter left source from lexeme follows all =
+      let part = exact.behind source from lexeme follows in
+      (part.within, omega (arith, part.forward, part.nonempty, all))
+
+  -- a text that is not longer than a number
+  pub cut_from : (left : ℕ) (source : List ℕ) (from : ℕ) → from ≤ length source → length source ≤ from + left → CutFrom format source from
+  cut_from zero source from inside all = ⊎_elim
+      (λ end. inl ([], from, refl, end))
+      (⊎_elim
+      (λ token. absurd (let part = exact.behind source from token.0 token.1 in omega (arith, part.forward, part.nonempty, part.within)))
+      (λ fault. inr ([], from, fault.0, refl, fault.1)))
+      (exact.some_way source from inside)
+  cut_from (suc left) source from inside all = ⊎_elim
+      (λ end. inl ([], from, refl, end))
+      (⊎_elim
+      (λ token. let less = shorter left source from token.0 token.1 all in ⊎_elim
+      (λ cut. inl (token.0 ∷ cut.0, cut.1, (token.1, cut.2), cut.3))
+      (λ faulty. inr (token.0 ∷ faulty.0, faulty.1, faulty.2, (token.1, faulty.3), faulty.4))
+      (cut_from left source token.0.span.end less.0 less.1))
+      (λ fault. inr ([], from, fault.0, refl, fault.1)))
+      (exact.some_way source from inside)
+
+  -- a text has a cut or a fault
+  pub cut_or_fault : CutOrFault format
+  cut_or_fault source = ⊎_elim
+      (λ cut. inl (cut.0, record { end = cut.1; cuts = cut.2; rest = cut.3 }))
+      (λ faulty. inr (faulty.2, record { lexemes = faulty.0; end = faulty.1; cuts = faulty.3; faults = faulty.4 }))
+      (cut_from (length source) source 0 (omega arith) (omega arith))

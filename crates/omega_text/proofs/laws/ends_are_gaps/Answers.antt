@@ -1,5 +1,0 @@
-use Rattle.omega_text.proofs.Written.{written_ends}
-use Rattle.omega_text.proofs.laws.ends_are_gaps.Goals as goal
-
-pub returns : goal.returns
-returns c = written_ends

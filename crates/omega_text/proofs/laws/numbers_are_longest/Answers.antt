@@ -1,5 +1,0 @@
-use Rattle.omega_text.proofs.Written.{numeral_longest}
-use Rattle.omega_text.proofs.laws.numbers_are_longest.Goals as goal
-
-pub returns : goal.returns
-returns c = numeral_longest

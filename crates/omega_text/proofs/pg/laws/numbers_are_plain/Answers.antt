@@ -1,0 +1,5 @@
+use Rattle.omega_text.proofs.pg_texts.Written.{number_plain}
+use Rattle.omega_text.proofs.pg.laws.numbers_are_plain.Goals as goal
+
+pub returns : goal.returns
+returns c = number_plain

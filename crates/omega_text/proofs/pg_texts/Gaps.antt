@@ -1,0 +1,27 @@
+-- White space between tokens.
+use Rattle.std.proofs.Common.{◌≡◌, ℕ, ◌+◌, ◌-◌, ◌<◌, ◌≤◌, false, List, length, get_or, drop, sym, ap, ◌∙◌, arith, length-drop}
+use Rattle.std.proofs.lemmas.List.{get_or-drop}
+use Rattle.std.proofs.lemmas.List.Sums.{prefix_len-le-length, prefix_len_passes, prefix_len_stops}
+use Rattle.std.specs.List.{prefix_len}
+use Rattle.omega_text.specs.pg.Bytes.{is_white}
+use Rattle.omega_text.specs.pg.Cut.{IsGap}
+
+module _ (source : List ℕ) (from : ℕ) (inside : from ≤ length source) where
+  -- a run of white bytes is a gap
+  pub run_gap : IsGap source from (from + prefix_len is_white (drop from source))
+  run_gap =
+      let short = prefix_len-le-length is_white (drop from source) in
+      let size = length-drop from source in
+      record {
+        forward = omega arith;
+        within = omega arith;
+        white = λ k d low high.
+            let place : from + (k - from) ≡ k = omega arith in
+            ap (λ n. is_white (get_or source n d)) (sym place) ∙ sym (ap is_white (get_or-drop from source (k - from) d)) ∙ prefix_len_passes is_white (drop from source) (k - from) d (omega arith);
+      }
+
+  -- and the byte behind it is not white
+  pub run_black : from + prefix_len is_white (drop from source) < length source → is_white (get_or source (from + prefix_len is_white (drop from source)) 0) ≡ false
+  run_black more =
+      let size = length-drop from source in
+      sym (ap is_white (get_or-drop from source (prefix_len is_white (drop from source)) 0)) ∙ prefix_len_stops is_white (drop from source) 0 (omega arith)

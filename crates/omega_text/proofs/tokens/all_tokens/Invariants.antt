@@ -1,0 +1,11 @@
+-- The tokens so far are a cut up to where the next is looked for.
+use Rattle.std.proofs.Common.{◌-◌, ◌≤◌, length, map}
+use Rattle.omega_text.specs.Cut.{Cuts}
+use Rattle.omega_text.specs.Lexeme.{lexeme_of}
+use Rattle.omega_text.proofs.tokens.all_tokens.Given as goal
+
+abbrev pub invariant-loop-tokens : goal.invariant-loop-tokens
+invariant-loop-tokens g l = record { cuts : Cuts g.K.TokenKind.format l.source 0 (map lexeme_of l.tokens.items) l.at; inside : l.at ≤ length l.source }
+
+abbrev pub decreases-loop-tokens : goal.decreases-loop-tokens
+decreases-loop-tokens g l = length l.source - l.at

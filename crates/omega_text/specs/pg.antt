@@ -1,0 +1,7 @@
+-- What PGSolver's texts are cut into.
+pub mod Bytes
+pub mod Cut
+pub mod Fault
+pub mod Format
+pub mod Forms
+pub mod Laws

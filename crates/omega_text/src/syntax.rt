@@ -1,0 +1,21 @@
+/// A syntax of texts, which stands for its definition where laws are stated of it.
+pub trait TextSyntax {
+    ghost use Rattle.omega_text.specs.Format.{IsExact};
+    ghost use Rattle.omega_text.specs.Syntax.{Syntax};
+
+    /// What tokens are.
+    ghost Kind: { Type 0 };
+
+    /// What a grammar sees in a token.
+    ghost Symbol: { Type 0 };
+
+    /// What a text says, as it is written.
+    ghost Raw: { Type 0 };
+
+    /// How texts are cut, which symbols tokens are, and what symbols spell.
+    ghost syntax: { Syntax Kind Symbol Raw };
+
+    /// From each place a text goes on in one way: a law, which that of the kinds of tokens states.
+    fn goes_on_one_way()
+        ensures { IsExact syntax.format };
+}

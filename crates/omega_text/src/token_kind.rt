@@ -1,0 +1,25 @@
+use crate::refusal::TextFault;
+use crate::token::Token;
+
+/// The kinds of a format's tokens, by which its texts are cut.
+pub trait TokenKind: Copy {
+    ghost use Rattle.std.specs.Prelude.{length, ◌≤◌, IfErr, IfOk, IfNone, IfSome};
+    ghost use Rattle.omega_text.specs.Format.{Format, IsExact, IsLexical, IsPartBehind};
+    ghost use Rattle.omega_text.specs.Lexeme.{lexeme_of};
+
+    /// How texts of the format go on from each place.
+    ghost format: { Format Self };
+
+    /// The next token of a text from a place on, or none where only what the format passes over is left.
+    fn next_token(source: &[u8], at: usize) -> Result<Option<Token<'_, Self>>, TextFault>
+        requires { at ≤ length source.now }
+        ensures token { IfOk result (λ found. IfSome found (λ token. format.follows source.now at (lexeme_of token))) }
+        ensures end { IfOk result (λ found. IfNone found (format.ends source.now at)) }
+        ensures fault { IfErr result (format.faults source.now at) }
+        ensures lexical { IfErr result IsLexical }
+        ensures progress { IfOk result (λ found. IfSome found (λ token. IsPartBehind source.now at token.span)) };
+
+    /// From each place a text goes on in one way: a law, which its proof states.
+    fn goes_on_one_way()
+        ensures { IsExact format };
+}

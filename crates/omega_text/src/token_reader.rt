@@ -1,0 +1,60 @@
+ghost use Rattle.std.specs.Prelude.{[], IfErr, IfOk};
+ghost use Rattle.omega_text.specs.Reading.{IsReadWhole, IsTokenRefusal};
+
+use crate::refusal::{Refusal, TextFault};
+use crate::token::Token;
+use crate::token_kind::TokenKind;
+
+/// What takes the tokens of a text one by one, as long as some text of its grammar goes on so.
+pub trait TokenReader<K: TokenKind>: Drop {
+    ghost use Rattle.std.specs.Prelude.{List, IsOkUnless};
+    ghost use Rattle.omega_text.specs.Lexeme.{Lexeme, lexeme_of};
+    ghost use Rattle.omega_text.specs.Reading.{IsTokenOf, IsWholeOrUnfinished, TakesOrRefuses};
+
+    /// A new reader, by taking these tokens, became another.
+    ghost becomes: { Self → List (Lexeme K) → Self → Type 0 };
+
+    /// Tokens begin a text of the grammar.
+    ghost begins: { List (Lexeme K) → Type 0 };
+
+    /// Tokens are a text of the grammar.
+    ghost completes: { List (Lexeme K) → Type 0 };
+
+    /// Takes a token, unless no text goes on so.
+    fn take(&mut self, token: &Token<'_, K>) -> Result<bool, Refusal>
+        requires begun { ((start : Self) × ((before : List (Lexeme K)) × becomes start before self.old)) }
+        requires token { IsTokenOf K.format (lexeme_of token.now) }
+        ensures takes { IfOk result (λ taken. (start : Self) (before : List (Lexeme K)) → becomes start before self.old
+            → TakesOrRefuses taken begins (λ all. becomes start all self.new) before (lexeme_of token.now)) }
+        ensures memory { IsOkUnless result Refusal.Memory };
+
+    /// Whether the tokens that were taken are a text.
+    fn is_complete(&self) -> bool
+        requires { ((start : Self) × ((before : List (Lexeme K)) × becomes start before self.now)) }
+        ensures { (start : Self) (before : List (Lexeme K)) → becomes start before self.now → IsWholeOrUnfinished result begins completes before };
+}
+
+/// What a new reader becomes by the tokens of a text, if it can be cut and no token is wrong.
+///
+/// The bytes are read once, from the left. A fault of tokens comes before a wrong token wherever it stands.
+pub(crate) fn read_tokens<K: TokenKind, R: TokenReader<K>>(
+    mut reader: R,
+    bytes: &[u8],
+) -> Result<R, Refusal>
+    requires { R.becomes reader [] reader }
+    ensures read { IfOk result (λ after. IsReadWhole K.format (λ lexemes. R.becomes reader lexemes after) bytes.now) }
+    ensures refused { IfErr result (IsTokenRefusal K.format R.begins bytes.now) }
+{
+    let mut wrong = None;
+    let mut at = 0;
+    while let Some(token) = K::next_token(bytes, at)? {
+        at = token.span.end;
+        if wrong.is_none() && !reader.take(&token)? {
+            wrong = Some(token.span.start);
+        }
+    }
+    match wrong {
+        Some(at) => Err(Refusal::Text(TextFault::Syntax { at })),
+        None => Ok(reader),
+    }
+}

@@ -1,0 +1,139 @@
+use omega_text::{PgKind, TextFault, next_pg_token, pg_tokens};
+use std::alloc::Global;
+use std::test::Fail;
+
+// How many tokens a text has, or the number and the place of its refusal.
+fn answer(alloc: Global, text: &[u8]) -> Result<usize, (u32, Option<usize>)> {
+    match pg_tokens(alloc, text) {
+        Ok(tokens) => Ok(tokens.len()),
+        Err(refusal) => Err((refusal.number(), refusal.at())),
+    }
+}
+
+const TOKENS: [(PgKind, &str, u32, usize, usize); 16] = [
+    (PgKind::Parity, "parity", 0, 0, 6),
+    (PgKind::Number, "9", 9, 7, 8),
+    (PgKind::Semicolon, ";", 0, 8, 9),
+    (PgKind::Number, "9", 9, 10, 11),
+    (PgKind::Number, "3", 3, 12, 13),
+    (PgKind::Number, "1", 1, 14, 15),
+    (PgKind::Number, "4", 4, 16, 17),
+    (PgKind::Semicolon, ";", 0, 17, 18),
+    (PgKind::Number, "4", 4, 19, 20),
+    (PgKind::Number, "2", 2, 21, 22),
+    (PgKind::Number, "0", 0, 23, 24),
+    (PgKind::Number, "9", 9, 25, 26),
+    (PgKind::Comma, ",", 0, 26, 27),
+    (PgKind::Number, "4", 4, 27, 28),
+    (PgKind::Name, "\"a\"", 0, 29, 32),
+    (PgKind::Semicolon, ";", 0, 32, 33),
+];
+
+#[test]
+fn a_game_text_is_cut(rt: HostRuntime) -> Result<(), Fail> {
+    let text = b"parity 9; 9 3 1 4;\t4 2 0 9,4 \"a\";\r\n".as_slice();
+    let tokens = pg_tokens(rt.alloc(), text)?;
+    assert_eq!(rt; tokens.len(), TOKENS.len());
+    for (token, want) in tokens.iter().zip(TOKENS.iter()) {
+        let (kind, bytes, value, start, end) = *want;
+        assert_eq!(rt; token.kind, kind);
+        assert_eq!(rt; token.text, bytes.as_bytes());
+        assert_eq!(rt; token.value, value);
+        assert_eq!(rt; token.span.start, start);
+        assert_eq!(rt; token.span.end, end);
+    }
+    Ok(())
+}
+
+const CUT: [(&str, usize); 9] = [
+    ("", 0),
+    (" \t\n\r", 0),
+    ("12 34", 2),
+    ("1,2;3", 5),
+    ("paritysol 0;", 3),
+    ("0parity", 2),
+    ("2147483647 0", 2),
+    ("\"\"\" ~!\"", 2),
+    ("\"a;00 $b\"", 1),
+];
+
+#[test]
+fn tokens_are_the_longest(rt: HostRuntime) {
+    for (text, count) in CUT.iter() {
+        assert_eq!(rt;
+            answer(rt.alloc(), text.as_bytes()),
+            Ok(*count),
+            "for {text:?}"
+        );
+    }
+}
+
+const REFUSED: [(&str, u32, usize); 22] = [
+    ("00 0 0 0;", 2, 0),
+    ("0 0 0 1; $", 1, 9),
+    ("2147483648 0 0 0;", 2, 0),
+    ("0 01", 2, 2),
+    ("1 99999999999999999999999999999999999999999", 2, 2),
+    ("parit", 1, 0),
+    ("; parity9 00", 1, 2),
+    ("parity-sol", 1, 0),
+    ("start 0;", 1, 0),
+    ("Parity", 1, 0),
+    ("_", 1, 0),
+    ("-1", 1, 0),
+    ("0\x0C1", 1, 1),
+    ("0 \"", 1, 2),
+    ("0 \"a;", 1, 2),
+    ("\"\x1F\"", 1, 0),
+    ("\"\x7F\"", 1, 0),
+    ("\"a\nb\"", 1, 0),
+    ("\"\" \"", 1, 3),
+    ("// 0", 1, 0),
+    ("$ 00", 1, 0),
+    ("00 $", 2, 0),
+];
+
+#[test]
+fn wrong_texts_are_refused(rt: HostRuntime) {
+    for (text, number, at) in REFUSED.iter() {
+        assert_eq!(rt;
+            answer(rt.alloc(), text.as_bytes()),
+            Err((*number, Some(*at))),
+            "for {text:?}"
+        );
+    }
+}
+
+#[test]
+fn tokens_come_one_at_a_time(rt: HostRuntime) -> Result<(), Fail> {
+    let text = b" 7;x".as_slice();
+    let number = next_pg_token(text, 0)?.ok_or("a number")?;
+    assert_eq!(rt; number.value, 7);
+    let sign = next_pg_token(text, 2)?.ok_or("a sign")?;
+    assert_eq!(rt; sign.kind, PgKind::Semicolon);
+    assert_eq!(rt; next_pg_token(text, 4)?.is_none(), true);
+    assert_eq!(rt;
+        next_pg_token(text, 3).err(),
+        Some(TextFault::Lex { at: 3 })
+    );
+    Ok(())
+}
+
+#[test]
+fn names_are_cut_at_each_length(rt: HostRuntime) -> Result<(), Fail> {
+    let mut text = vec![in rt.alloc(); b'"']?;
+    for length in 0..300usize {
+        text.push(b'"')?;
+        let name = next_pg_token(text.as_slice(), 0)?.ok_or("a name")?;
+        assert_eq!(rt; name.kind, PgKind::Name);
+        assert_eq!(rt; name.text, text.as_slice());
+        text.pop();
+        text.push(b'a')?;
+        assert_eq!(rt;
+            answer(rt.alloc(), text.as_slice()),
+            Err((1, Some(0))),
+            "after {length}"
+        );
+    }
+    Ok(())
+}
