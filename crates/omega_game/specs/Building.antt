@@ -1,20 +1,21 @@
-use Rattle.std.specs.Prelude.{◌≡◌, ◌==◌, ◌++◌, [], ◌∷◌, ℕ, ◌<◌, ◌≤◌, Bool, Option, Some, None, List, length, map, sum_by, count_by, nat_lt, All, IfSome, if◌then◌else◌}
+-- Games from specifications: which are well formed, which game they have, and which fault.
+use Rattle.std.specs.Prelude.{◌≡◌, ◌==◌, ◌++◌, [], ◌∷◌, ℕ, ◌<◌, ◌≤◌, Bool, Option, Some, None, List, length, map, sum_by, count_by, nat_lt, All, IfSome, false, if◌then◌else◌}
 use Rattle.std.specs.List.{list_any}
 use Rattle.std.specs.List.Sorted.{IsPermutation}
 use Rattle.omega_game.specs.declared.node_spec.NodeSpec.{NodeSpec}
-use Rattle.omega_game.specs.declared.limits.TheConstants.{MOST_NODES, MOST_EDGES, MOST_NUMBER}
+use Rattle.omega_game.specs.Limits.{most_nodes, most_successors}
+use Rattle.omega_text.specs.Limits.{most_number}
 use Rattle.omega_text.specs.declared.refusal.Refusal.{Refusal}
-use Rattle.omega_text.specs.declared.refusal.Refusal.TheVariants.{Automaton, Game, Io, Memory, Task, Text}
+use Rattle.omega_text.specs.Cases.{never, or_game, or_memory}
 use Rattle.omega_text.specs.declared.refusal.game.GameFault.{GameFault}
-use Rattle.omega_text.specs.declared.refusal.game.GameFault.TheVariants.{DuplicateNode, UndefinedSuccessor, TooManyEdges, TooManyNodes}
+use Rattle.omega_text.specs.declared.refusal.game.GameFault.TheVariants.{DuplicateNode, UndefinedSuccessor, HeaderTooSmall, TooManyEdges, TooManyNodes}
 use Rattle.omega_game.specs.Game.{Node, IsGame, IsNameByte, node_at}
-use Rattle.omega_game.specs.Layout.{Columns, AreEven, specs_of}
 
 -- a specification that callers may give: numbers that a text can hold, a successor, and a name of the allowed bytes
 pub record IsWellFormed (spec : NodeSpec) : Type 0 where
-  pub id : spec.id ≤ MOST_NUMBER
-  pub priority : spec.priority ≤ MOST_NUMBER
-  pub successors : All (λ successor. successor ≤ MOST_NUMBER) spec.successors
+  pub id : spec.id ≤ most_number
+  pub priority : spec.priority ≤ most_number
+  pub successors : All (λ successor. successor ≤ most_number) spec.successors
   pub continued : 0 < length spec.successors
   pub name : IfSome spec.name (All IsNameByte)
 
@@ -49,23 +50,23 @@ has_undefined specs = list_any (λ spec. list_any (λ successor. specified_times
 abbrev pub listed_successors : List NodeSpec → ℕ
 listed_successors specs = sum_by (λ spec. length spec.successors) specs
 
--- the refusal of the specifications: of those that apply the one with the least number, or none
-abbrev pub fault_of : List NodeSpec → Option GameFault
-fault_of specs =
+-- the fault of specifications behind a header that is too small or not: of those that apply the one with the least number, or none
+abbrev pub fault_with : Bool → List NodeSpec → Option GameFault
+fault_with small specs =
     if has_duplicate specs then Some DuplicateNode else
     if has_undefined specs then Some UndefinedSuccessor else
-    if nat_lt MOST_NODES (length specs) then Some TooManyNodes else
-    if nat_lt MOST_EDGES (listed_successors specs) then Some TooManyEdges else
+    if small then Some HeaderTooSmall else
+    if nat_lt most_nodes (length specs) then Some TooManyNodes else
+    if nat_lt most_successors (listed_successors specs) then Some TooManyEdges else
     None
+
+-- the fault of specifications behind no header
+abbrev pub fault_of : List NodeSpec → Option GameFault
+fault_of specs = fault_with false specs
 
 -- the refusal of a call that builds a game: the fault of the specifications, or memory
 abbrev pub IsBuildRefusal : List NodeSpec → Refusal → Type 0
-IsBuildRefusal specs (Text _) = ⊥
-IsBuildRefusal specs (Game fault) = fault_of specs ≡ Some fault
-IsBuildRefusal specs (Automaton _) = ⊥
-IsBuildRefusal specs (Task _) = ⊥
-IsBuildRefusal specs Memory = Unit {0}
-IsBuildRefusal specs Io = ⊥
+IsBuildRefusal specs = or_game (λ fault. fault_of specs ≡ Some fault) (or_memory never)
 
 -- the specifications with the last of them changed
 abbrev pub with_last : (NodeSpec → NodeSpec) → List NodeSpec → List NodeSpec
@@ -80,12 +81,3 @@ with_successor successor spec = record spec { successors = spec.successors ++ su
 -- the specification with the name
 abbrev pub with_name : List ℕ → NodeSpec → NodeSpec
 with_name name spec = record spec { name = Some name }
-
--- the identifiers of specifications
-abbrev pub ids_of : List NodeSpec → List ℕ
-ids_of specs = map (λ spec. spec.id) specs
-
--- what a builder keeps: even columns of well-formed specifications
-pub record AreCollected (columns : Columns) : Type 0 where
-  pub even : AreEven columns
-  pub well_formed : All IsWellFormed (specs_of columns)

@@ -1,9 +1,11 @@
-use Rattle.std.specs.Prelude.{ℕ, ◌<◌, ◌≤◌, ◌≢◌, ◌==◌, count_by, replicate, Option, None, List, [], length, map, sum_by, Contains, All, IfSome, slice_index_or}
+-- Parity games as lists of nodes, what makes a list of nodes a game, and the limits that each game keeps.
+use Rattle.std.specs.Prelude.{ℕ, ◌-◌, ◌<◌, ◌≤◌, ◌≢◌, ◌==◌, count_by, replicate, Option, None, List, [], length, map, sum_by, Contains, All, IfSome, slice_index_or}
 use Rattle.std.specs.List.{flat_map, range_with_len}
 use Rattle.std.specs.List.Sorted.{IsStrictlyIncreasing}
 use Rattle.omega_game.specs.declared.player.Player.{Player}
 use Rattle.omega_game.specs.declared.player.Player.TheVariants.{Zero}
-use Rattle.omega_game.specs.declared.limits.TheConstants.{MOST_NODES, MOST_EDGES, MOST_NUMBER}
+use Rattle.omega_game.specs.Limits.{most_nodes, most_successors}
+use Rattle.omega_text.specs.Limits.{most_number}
 
 -- a node of a game: its identifier, priority and owner, the places of its successors as listed, its name or none
 pub record Node : Type 0 where
@@ -20,6 +22,14 @@ no_node = record { identifier = 0; priority = 0; owner = Zero; successors = []; 
 -- the node at a place
 abbrev pub node_at : List Node → ℕ → Node
 node_at nodes v = slice_index_or nodes v no_node
+
+-- the identifier of the node at a place
+abbrev pub identifier_at : List Node → ℕ → ℕ
+identifier_at nodes v = (node_at nodes v).identifier
+
+-- the greatest identifier of a game, which its last node has
+abbrev pub greatest_identifier : List Node → ℕ
+greatest_identifier nodes = identifier_at nodes (length nodes - 1)
 
 -- the priority of the node at a place
 abbrev pub priority_at : List Node → ℕ → ℕ
@@ -62,14 +72,14 @@ IsNameByte b = (32 ≤ b) × (b ≤ 126) × (b ≢ 34)
 
 -- a node whose numbers and name a game text can hold
 pub record IsWritable (node : Node) : Type 0 where
-  pub identifier : node.identifier ≤ MOST_NUMBER
-  pub priority : node.priority ≤ MOST_NUMBER
+  pub identifier : node.identifier ≤ most_number
+  pub priority : node.priority ≤ most_number
   pub name : IfSome node.name (All IsNameByte)
 
 -- the limits that each game keeps
 pub record IsWithinLimits (nodes : List Node) : Type 0 where
-  pub few_nodes : length nodes ≤ MOST_NODES
-  pub few_edges : edge_count nodes ≤ MOST_EDGES
+  pub few_nodes : length nodes ≤ most_nodes
+  pub few_edges : edge_count nodes ≤ most_successors
   pub writable : All IsWritable nodes
 
 -- how often w is listed as a successor of v

@@ -1,13 +1,14 @@
+-- Parity games: what public contracts cite, and in the folders what private ones do.
+pub use Rattle.omega_text.specs.Cases
 pub use Rattle.omega_text.specs.Refusal
+pub mod Limits
+pub mod Player
 pub mod Game
 pub mod Winning
 pub mod Bound
-pub mod Factors
 pub mod Part
-pub mod Checking
 pub mod Building
 pub mod Laws
-pub mod Entering
-pub mod Layout
-pub mod Resolving
-pub mod Sorting
+pub mod layout
+pub mod priorities
+pub mod checking

@@ -1,12 +1,12 @@
-use Rattle.std.specs.Prelude.{◌≡◌, ℕ, ◌<◌, ◌%◌, ◌==◌, Bool, IsTrue, Option, Some, List, [], ◌∷◌, length, max, slice_get}
+-- Strategies, the walks that they leave possible, and what it is to win.
+use Rattle.std.specs.Prelude.{◌≡◌, ℕ, ◌<◌, IsTrue, Option, Some, None, List, [], ◌∷◌, length, max, slice_get, slice_index_or}
 use Rattle.omega_game.specs.declared.player.Player.{Player}
-use Rattle.omega_game.specs.declared.player.Player.TheVariants.{Zero, One}
 use Rattle.omega_game.specs.Game.{Node, HasEdge, owner_at, priority_at}
+use Rattle.omega_game.specs.Player.{loses}
 
--- whether a priority loses for a player: the odd ones for player 0, the even ones for player 1
-abbrev pub loses : Player → ℕ → Bool
-loses Zero q = q % 2 == 1
-loses One q = q % 2 == 0
+-- the choice at a place, or none
+abbrev pub choice_at : List (Option ℕ) → ℕ → Option ℕ
+choice_at choices v = slice_index_or choices v None
 
 -- the player's choice at a place: none, or a place
 abbrev pub Chooses : List (Option ℕ) → ℕ → ℕ → Type 0

@@ -1,12 +1,11 @@
 ghost use Rattle.std.specs.Prelude.{◌≡◌, ◌≤◌, ◌*◌, ◌^◌, map, MatchOption};
 ghost use Rattle.omega_game.specs.Bound.{bound_of, product};
-ghost use Rattle.omega_game.specs.Factors.{factor_of};
+ghost use Rattle.omega_game.specs.priorities.Factors.{factor_of};
 ghost use Rattle.omega_game.specs.Game.{priorities};
 
-use crate::classes::Class;
 use crate::game::Game;
-use crate::losing::is_losing;
 use crate::player::Player;
+use crate::priority_counts::PriorityCount;
 
 /// The most lifts of a run for the player (Jurdziński 2000): the number of nodes times the product, over the
 /// priorities that are borne and lose for the player, of one more than the number of nodes that bear it.
@@ -14,21 +13,18 @@ use crate::player::Player;
 pub fn bound(game: &Game, player: Player) -> Option<u128>
     ensures { MatchOption result (2 ^ 128 ≤ bound_of player (priorities game.now)) (λ b. b ≡ bound_of player (priorities game.now)) }
 {
-    multiplied(game.len() as u128, game.classes(), player)
+    multiplied(game.len() as u128, game.priority_counts(), player)
 }
 
-/// The number times the factors of the classes, where that is a `u128`.
-fn multiplied(number: u128, classes: &[Class], player: Player) -> Option<u128>
-    ensures { MatchOption result (2 ^ 128 ≤ number * product (map (factor_of player) classes.now)) (λ b. b ≡ number * product (map (factor_of player) classes.now)) }
+/// The number times the factors of the priorities counted, where that is a `u128`.
+fn multiplied(number: u128, counts: &[PriorityCount], player: Player) -> Option<u128>
+    ensures { MatchOption result (2 ^ 128 ≤ number * product (map (factor_of player) counts.now)) (λ b. b ≡ number * product (map (factor_of player) counts.now)) }
 {
     let mut multiple = number;
-    for class in classes {
-        if is_losing(player, class.priority) {
-            multiple = multiple.checked_mul(class.bearers as u128 + 1)?;
+    for count in counts {
+        if player.loses(count.priority) {
+            multiple = multiple.checked_mul(count.nodes as u128 + 1)?;
         }
     }
     Some(multiple)
 }
-
-#[cfg(test)]
-mod tests;

@@ -5,7 +5,7 @@ ghost use Rattle.std.specs.List.Sorted.{IsNonDecreasing, IsPermutation, IsStrict
 
 use crate::game::Game;
 use crate::identifiers::listed_ids;
-use crate::limits::{MOST_EDGES, MOST_NODES, MOST_NUMBER};
+use crate::limits::{MOST_NODES, MOST_SUCCESSORS};
 use crate::lists::Lists;
 use crate::names::{pad, picked_names};
 use crate::node_spec::NodeSpec;
@@ -33,8 +33,8 @@ impl Model for GameBuilder {
 
     ghost Value = { List NodeSpec };
 
-    ghost use Rattle.omega_game.specs.Building.{AreCollected};
-    ghost use Rattle.omega_game.specs.Layout.{collected, specs_of};
+    ghost use Rattle.omega_game.specs.layout.Collected.{AreCollected};
+    ghost use Rattle.omega_game.specs.layout.Columns.{collected, specs_of};
 
     ghost view = { λ a. specs_of (collected a.ids.items a.priorities.items a.owners.items a.successors a.quoted) };
 
@@ -43,7 +43,9 @@ impl Model for GameBuilder {
 
 impl GameBuilder {
     ghost use Rattle.omega_game.specs.Game.{IsNameByte};
-    ghost use Rattle.omega_game.specs.Building.{IsBuildRefusal, IsGameOf, IsWellFormed, fault_of, ids_of, with_last, with_name, with_successor};
+    ghost use Rattle.omega_text.specs.Limits.{most_number};
+    ghost use Rattle.omega_game.specs.Building.{IsBuildRefusal, IsGameOf, IsWellFormed, fault_of, with_last, with_name, with_successor};
+    ghost use Rattle.omega_game.specs.layout.Collected.{ids_of};
 
     /// No specification, which takes no memory.
     pub fn new(alloc: Global) -> Self
@@ -75,9 +77,9 @@ impl GameBuilder {
         owner: Player,
         first: u32,
     ) -> Result<(), Refusal>
-        requires id { id ≤ MOST_NUMBER }
-        requires priority { priority ≤ MOST_NUMBER }
-        requires first { first ≤ MOST_NUMBER }
+        requires id { id ≤ most_number }
+        requires priority { priority ≤ most_number }
+        requires first { first ≤ most_number }
         ensures ok { OnOk result (self.new ≡ self.old ++ record { id = id; priority = priority; owner = owner; successors = first ∷ []; name = None } ∷ []) }
         ensures err { OnErr result (self.new ≡ self.old) }
         ensures memory { IsOkUnless result Refusal.Memory }
@@ -141,7 +143,7 @@ impl GameBuilder {
     /// then.
     pub fn add_successor(&mut self, successor: u32) -> Result<(), Refusal>
         requires begun { 0 < length self.old }
-        requires successor { successor ≤ MOST_NUMBER }
+        requires successor { successor ≤ most_number }
         ensures ok { OnOk result (self.new ≡ with_last (with_successor successor) self.old) }
         ensures err { OnErr result (self.new ≡ self.old) }
         ensures memory { IsOkUnless result Refusal.Memory }
@@ -265,13 +267,10 @@ impl GameBuilder {
         if count > MOST_NODES {
             return Err(Refusal::Game(GameFault::TooManyNodes));
         }
-        if successors.total() > MOST_EDGES {
+        if successors.total() > MOST_SUCCESSORS {
             return Err(Refusal::Game(GameFault::TooManyEdges));
         }
         let game = Game::assembled(alloc, listed, priorities, owners, successors, quoted)?;
         Ok(game)
     }
 }
-
-#[cfg(test)]
-mod tests;

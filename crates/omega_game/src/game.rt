@@ -1,13 +1,13 @@
 ghost use Rattle.std.specs.Prelude.{◌≡◌, ℕ, ◌<◌, length, vec_len, map, option_map, position, ◌==◌, All, IfOk, IfErr, OnOk, None};
 
 use crate::builder::GameBuilder;
-use crate::classes::{Class, classes_of};
-use crate::entering::entering;
 use crate::identifiers::{identifier_at, place_among};
 use crate::lists::Lists;
 use crate::names::name_at;
 use crate::node_spec::NodeSpec;
 use crate::player::Player;
+use crate::predecessors::predecessors_of;
+use crate::priority_counts::{PriorityCount, counts_of};
 use indexmap::IndexSet;
 use omega_text::Refusal;
 use std::alloc::{AllocError, Global};
@@ -25,25 +25,26 @@ pub struct Game {
     // The name of each node behind an opening quote, so that an empty name differs from none. It ends with the
     // last node that is named.
     quoted: Lists<u8>,
-    classes: Vec<Class>,
+    priority_counts: Vec<PriorityCount>,
 }
 
 impl Model for Game {
     ghost use Rattle.std.specs.Prelude.{List};
     ghost use Rattle.omega_game.specs.Game.{Node};
-    ghost use Rattle.omega_game.specs.Layout.{columns_of, nodes_of, IsLaidOut};
+    ghost use Rattle.omega_game.specs.layout.Columns.{columns_of, nodes_of, IsLaidOut};
 
     ghost Value = { List Node };
 
     ghost view = { λ a. nodes_of (columns_of a.listed.keys a.priorities.items a.owners.items a.successors a.quoted) };
 
-    ghost invariant = { λ a. IsLaidOut (columns_of a.listed.keys a.priorities.items a.owners.items a.successors a.quoted) a.predecessors a.classes.items };
+    ghost invariant = { λ a. IsLaidOut (columns_of a.listed.keys a.priorities.items a.owners.items a.successors a.quoted) a.predecessors a.priority_counts.items };
 }
 
 impl Game {
     ghost use Rattle.omega_game.specs.Building.{IsBuildRefusal, IsGameOf, IsWellFormed, fault_of};
     ghost use Rattle.omega_game.specs.Game.{IsGame, IsWithinLimits, edge_count, identifiers, node_at, owner_at, predecessors_of, priorities, priority_at, successors_at};
-    ghost use Rattle.omega_game.specs.Layout.{columns_of, nodes_of, AreClasses, AreEven};
+    ghost use Rattle.omega_game.specs.Bound.{priority_counts};
+    ghost use Rattle.omega_game.specs.layout.Columns.{columns_of, nodes_of, AreEven};
 
     /// The game of the specifications, which may come in any order. Refused with the first that applies of
     /// `DuplicateNode`, `UndefinedSuccessor`, `TooManyNodes` and `TooManyEdges`, or with `Memory` where a request for
@@ -59,7 +60,7 @@ impl Game {
         builder.finish()
     }
 
-    /// The game of these columns, with its predecessors and the classes of its priorities.
+    /// The game of these columns, with its predecessors and its priorities counted.
     pub(crate) fn assembled(
         alloc: Global,
         listed: IndexSet<u32>,
@@ -73,8 +74,8 @@ impl Game {
         requires limits { IsWithinLimits (nodes_of (columns_of listed.keys priorities.items owners.items successors quoted)) }
         ensures { IfOk result (λ game. game ≡ nodes_of (columns_of listed.keys priorities.items owners.items successors quoted)) }
     {
-        let predecessors = entering(alloc, &successors)?;
-        let classes = classes_of(alloc, priorities.as_slice())?;
+        let predecessors = predecessors_of(alloc, &successors)?;
+        let priority_counts = counts_of(alloc, priorities.as_slice())?;
         Ok(Game {
             listed,
             priorities,
@@ -82,7 +83,7 @@ impl Game {
             successors,
             predecessors,
             quoted,
-            classes,
+            priority_counts,
         })
     }
 
@@ -93,6 +94,15 @@ impl Game {
         ensures limits { IsWithinLimits self.now }
     {
         self.priorities.len()
+    }
+
+    /// The nodes are a game's, within the limits. Does nothing: it hands on what each game keeps.
+    pub fn keeps_limits(&self)
+        ensures game { IsGame self.now }
+        ensures limits { IsWithinLimits self.now }
+    {
+        // A field is read, since only then a proof knows the invariant.
+        let _count = self.priorities.len();
     }
 
     /// The number of listed successors, repeats counted.
@@ -157,13 +167,10 @@ impl Game {
         place_among(&self.listed, self.priorities.len(), id)
     }
 
-    /// Each priority that is borne, once, with the number of nodes that bear it.
-    pub(crate) fn classes(&self) -> &[Class]
-        ensures { AreClasses (priorities self.now) result.now }
+    /// Each priority that is borne, the greatest first, with the number of nodes that bear it.
+    pub fn priority_counts(&self) -> &[PriorityCount]
+        ensures { result.now ≡ priority_counts (priorities self.now) }
     {
-        self.classes.as_slice()
+        self.priority_counts.as_slice()
     }
 }
-
-#[cfg(test)]
-mod tests;

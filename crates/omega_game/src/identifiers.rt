@@ -1,6 +1,7 @@
-ghost use Rattle.std.specs.Prelude.{◌≡◌, ◌==◌, ℕ, ◌+◌, ◌^◌, ◌<◌, ◌≤◌, length, slice_index_or, option_map, position, IfOk};
+ghost use Rattle.std.specs.Prelude.{◌≡◌, ◌==◌, ℕ, ◌+◌, ◌<◌, ◌≤◌, length, slice_index_or, option_map, position, IfOk};
 ghost use Rattle.std.specs.List.Sorted.{IsStrictlyIncreasing};
-ghost use Rattle.omega_game.specs.Layout.{identifiers_of};
+ghost use Rattle.omega_game.specs.layout.Columns.{identifiers_of};
+ghost use Rattle.omega_text.specs.Limits.{most_number};
 
 use indexmap::IndexSet;
 use std::alloc::{AllocError, Global};
@@ -14,7 +15,7 @@ pub(crate) fn identifier_at(listed: &[u32], place: u32) -> u32
 
 /// The place of an identifier among those of `count` nodes, which is itself where none is listed.
 pub(crate) fn place_among(listed: &IndexSet<u32>, count: usize, id: u32) -> Option<u32>
-    requires { length listed.now.keys ≤ 2 ^ 31 }
+    requires { length listed.now.keys ≤ most_number + 1 }
     ensures { result ≡ position (λ x. x == id) (identifiers_of count listed.now.keys) }
 {
     if !listed.is_empty() {

@@ -1,29 +1,14 @@
-//! Laws of the definitions: what holds of winning, of parts and of building, whatever the code does.
-ghost use Rattle.omega_game.specs.Laws.{GamesAreDetermined, GamesExist, GamesHaveNoFault, GamesKeepLimits, PartsAreGames, RegionsAreApart, RegionsAreWonAtOnce, RegionsCover, RegionsOfParts, WinningIsKept};
+//! Laws of the definitions: what holds of strategies, of parts and of building, whatever the code does.
+ghost use Rattle.omega_game.specs.Laws.{ChoicesAreEntries, GamesExist, GamesHaveNoFault, GamesKeepLimits, PartsAreGames, PartsKeepNodes, SpecificationsHaveOneGame};
 
-/// A strategy that wins from a node wins from each node to which it leaves an edge possible.
-pub fn winning_is_kept()
-    ensures { WinningIsKept }
+/// What a strategy chooses at a place is its choice there.
+pub fn choices_are_entries()
+    ensures { ChoicesAreEntries }
 {}
 
-/// No node is in the regions of both players.
-pub fn regions_are_apart()
-    ensures { RegionsAreApart }
-{}
-
-/// Each node is in the region of one of the players: parity games are determined.
-pub fn regions_cover()
-    ensures { RegionsCover }
-{}
-
-/// A player has one strategy that wins from every node of the player's region.
-pub fn regions_are_won_at_once()
-    ensures { RegionsAreWonAtOnce }
-{}
-
-/// A node of a part is in a player's region of the part exactly if it is in that player's region of the game.
-pub fn regions_of_parts()
-    ensures { RegionsOfParts }
+/// A part keeps the nodes that it has: their owners, their priorities and their edges.
+pub fn parts_keep_nodes()
+    ensures { PartsKeepNodes }
 {}
 
 /// The part of a node of a game is a game.
@@ -32,8 +17,8 @@ pub fn parts_are_games()
 {}
 
 /// Specifications have at most one game.
-pub fn games_are_determined()
-    ensures { GamesAreDetermined }
+pub fn specifications_have_one_game()
+    ensures { SpecificationsHaveOneGame }
 {}
 
 /// The specifications of a game within the limits have no fault.

@@ -1,40 +1,36 @@
-//! Parity games: their nodes, strategies and regions, the bound on lifts, and the part that a node reaches.
+//! Parity games: their nodes, strategies, the bound on lifts, and the part that a node reaches.
 #![tactic(auto)]
 
 mod bounds;
 mod builder;
 mod checking;
-mod classes;
-mod entering;
 mod game;
 mod identifiers;
 mod laws;
 mod limits;
 mod lists;
-mod losing;
 mod names;
 mod node_spec;
 mod part;
 mod player;
+mod predecessors;
+mod priority_counts;
 mod reaching;
-#[cfg(test)]
-mod readings;
 mod resolving;
-#[cfg(test)]
-mod samples;
 mod sorting;
 mod strategy;
 
 pub use bounds::bound;
 pub use builder::GameBuilder;
-pub use checking::check_strategy;
+pub use checking::{check_strategy, check_strategy_fast};
 pub use game::Game;
 pub use laws::{
-    games_are_determined, games_exist, games_have_no_fault, games_keep_limits, parts_are_games,
-    regions_are_apart, regions_are_won_at_once, regions_cover, regions_of_parts, winning_is_kept,
+    choices_are_entries, games_exist, games_have_no_fault, games_keep_limits, parts_are_games,
+    parts_keep_nodes, specifications_have_one_game,
 };
-pub use limits::{MOST_EDGES, MOST_NODES, MOST_NUMBER};
+pub use limits::{MOST_NODES, MOST_SUCCESSORS, game_limits_are_stated};
 pub use node_spec::NodeSpec;
-pub use omega_text::{GameFault, Refusal, Seq, TaskFault};
+pub use omega_text::{GameFault, MOST_NUMBER, Refusal, Seq, TaskFault};
 pub use player::Player;
+pub use priority_counts::PriorityCount;
 pub use strategy::Strategy;

@@ -1,7 +1,9 @@
-ghost use Rattle.std.specs.Prelude.{◌≡◌, ℕ, ◌<◌, ◌≤◌, ◌-◌, ◌^◌, [], ◌∷◌, ◌++◌, length, map, take, vec_len, sum_by, slice_index_or, slice_set, IfOk, OnOk, OnErr};
+ghost use Rattle.std.specs.Prelude.{◌≡◌, ℕ, ◌<◌, ◌≤◌, ◌+◌, ◌-◌, ◌^◌, [], ◌∷◌, ◌++◌, length, map, take, vec_len, sum_by, slice_index_or, slice_set, IfOk, OnOk, OnErr};
 ghost use Rattle.std.specs.List.{list_all};
-ghost use Rattle.omega_game.specs.Layout.{list_at, lists_of, identifiers_of, AreStarts};
-ghost use Rattle.omega_game.specs.Resolving.{is_defined, resolved_in};
+ghost use Rattle.omega_game.specs.layout.Lists.{list_at, lists_of, AreStarts};
+ghost use Rattle.omega_game.specs.layout.Columns.{identifiers_of};
+ghost use Rattle.omega_game.specs.layout.Resolving.{is_defined, resolved_in};
+ghost use Rattle.omega_text.specs.Limits.{most_number};
 
 use crate::resolving::resolve;
 use indexmap::IndexSet;
@@ -16,9 +18,8 @@ pub(crate) struct Lists<T> {
 }
 
 impl<T> Model for Lists<T> {
-    ghost use Rattle.std.specs.Prelude.{List};
-    ghost use Rattle.omega_game.specs.Layout.{lists_of, AreStarts};
-    ghost use Rattle.std.specs.Prelude.{length};
+    ghost use Rattle.std.specs.Prelude.{List, length};
+    ghost use Rattle.omega_game.specs.layout.Lists.{lists_of, AreStarts};
 
     ghost Value = { List (List T) };
 
@@ -58,6 +59,14 @@ impl<T: Copy> Lists<T> {
         ensures { result ≡ sum_by (λ list. length list) self.now }
     {
         self.items.len()
+    }
+
+    /// The number of items of all lists together is a `usize`. Does nothing: it hands this on.
+    pub(crate) fn total_fits(&self)
+        ensures { sum_by (λ list. length list) self.now < 2 ^ 64 }
+    {
+        // A field is read, since only then a proof knows the invariant.
+        let _count = self.items.len();
     }
 
     /// The list at an index.
@@ -123,7 +132,7 @@ impl Lists<u8> {
 impl Lists<u32> {
     /// Replaces each identifier by its place, and says whether each has one. One that has none stays.
     pub(crate) fn resolve(&mut self, listed: &IndexSet<u32>, count: usize) -> bool
-        requires { length listed.now.keys ≤ 2 ^ 31 }
+        requires { length listed.now.keys ≤ most_number + 1 }
         ensures defined { result ≡ list_all (λ list. list_all (is_defined (identifiers_of count listed.now.keys)) list) self.old }
         ensures places { self.new ≡ map (map (resolved_in (identifiers_of count listed.now.keys))) self.old }
     {

@@ -1,5 +1,5 @@
 ghost use Rattle.std.specs.Prelude.{◌≡◌, ℕ, ◌<◌, ◌≤◌, [], length, option_map, slice_index, slice_index_or, IfOk, OnOk};
-ghost use Rattle.omega_game.specs.Layout.{name_of};
+ghost use Rattle.omega_game.specs.layout.Columns.{name_of};
 
 use crate::lists::Lists;
 use std::alloc::{AllocError, Global};
@@ -9,14 +9,14 @@ pub(crate) fn name_at(quoted: &Lists<u8>, place: usize) -> Option<&[u8]>
     ensures { option_map (λ name. name.now) result ≡ name_of (slice_index_or quoted.now place []) }
 {
     if place < quoted.len() {
-        unquoted(quoted.list(place))
+        behind_quote(quoted.list(place))
     } else {
         None
     }
 }
 
 /// What stands behind an opening quote; none where there is no quote.
-fn unquoted(quoted: &[u8]) -> Option<&[u8]>
+fn behind_quote(quoted: &[u8]) -> Option<&[u8]>
     ensures { option_map (λ name. name.now) result ≡ name_of quoted.now }
 {
     match quoted {

@@ -67,6 +67,3 @@ fn specify_unnamed(builder: &mut GameBuilder, game: &Game, place: u32) -> Result
     }
     Ok(())
 }
-
-#[cfg(test)]
-mod tests;

@@ -1,6 +1,6 @@
 //! The search for the places that are reached along edges that choices leave possible.
 ghost use Rattle.std.specs.Prelude.{◌≡◌, ℕ, ◌<◌, length, vec_len, All, IfOk, OnOk};
-ghost use Rattle.omega_game.specs.Checking.{left_at, LeadsInside, AreEntered, AreReached};
+ghost use Rattle.omega_game.specs.checking.Reaching.{left_at, LeadsInside, AreEntered, AreReached};
 
 use crate::game::Game;
 use std::alloc::{AllocError, Global};
@@ -14,8 +14,7 @@ pub(crate) fn edges_left<'a>(game: &'a Game, choices: &'a [Option<u32>], place: 
     ensures left { result.now ≡ left_at game.now choices.now place }
     ensures inside { All (λ left. left < length game.now) result.now }
 {
-    // For its clause alone: each successor is a place.
-    let _count = game.len();
+    game.keeps_limits();
     match choices.get(place as usize) {
         Some(Some(chosen)) => slice::from_ref(chosen),
         _ => game.successors(place),

@@ -1,14 +1,15 @@
-ghost use Rattle.std.specs.Prelude.{◌≡◌, ◌^◌, ◌≤◌, length, map};
+ghost use Rattle.std.specs.Prelude.{◌≡◌, ◌+◌, ◌≤◌, length, map};
 ghost use Rattle.std.specs.List.{list_all};
-ghost use Rattle.omega_game.specs.Layout.{identifiers_of};
-ghost use Rattle.omega_game.specs.Resolving.{is_defined, resolved_in};
+ghost use Rattle.omega_game.specs.layout.Columns.{identifiers_of};
+ghost use Rattle.omega_text.specs.Limits.{most_number};
+ghost use Rattle.omega_game.specs.layout.Resolving.{is_defined, resolved_in};
 
 use crate::identifiers::place_among;
 use indexmap::IndexSet;
 
 /// Replaces each identifier by its place, and says whether each has one. One that has none stays.
 pub(crate) fn resolve(targets: &mut [u32], listed: &IndexSet<u32>, count: usize) -> bool
-    requires { length listed.now.keys ≤ 2 ^ 31 }
+    requires { length listed.now.keys ≤ most_number + 1 }
     ensures defined { result ≡ list_all (is_defined (identifiers_of count listed.now.keys)) targets.old }
     ensures places { targets.new ≡ map (resolved_in (identifiers_of count listed.now.keys)) targets.old }
 {

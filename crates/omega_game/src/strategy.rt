@@ -48,6 +48,3 @@ fn is_same(player: Player, other: Player) -> bool
 {
     player == other
 }
-
-#[cfg(test)]
-mod tests;

@@ -1,14 +1,14 @@
 //! Whether no place that is reached bears a losing priority and recurs: suggested by a fast search, checked, and else
 //! tested plainly.
-ghost use Rattle.std.specs.Prelude.{◌≡◌, ◌↔◌, ℕ, ◌<◌, length, vec_len, IfOk, IsTrue};
-ghost use Rattle.omega_game.specs.Checking.{LeadsInside, AreClosed, NoneRecurs};
+ghost use Rattle.std.specs.Prelude.{◌≡◌, ◌↔◌, ℕ, ◌<◌, length, vec_len, IfOk, IfSome, IsTrue};
+ghost use Rattle.omega_game.specs.checking.Reaching.{LeadsInside, AreClosed};
+ghost use Rattle.omega_game.specs.checking.Recurring.{NoneRecurs};
 
 use crate::checking::components::Edge;
 use crate::checking::nesting::{Finding, search_nested};
 use crate::checking::ordering::shows_none;
 use crate::checking::recurring::{none_recurs, recurs};
 use crate::game::Game;
-use crate::losing::is_losing;
 use crate::player::Player;
 use crate::reaching::edges_left;
 use std::alloc::{AllocError, Global};
@@ -26,21 +26,40 @@ pub(crate) fn decide(
     requires closed { AreClosed game.now choices.now marks.now }
     ensures none { IfOk result (λ answer. IsTrue answer ↔ NoneRecurs game.now player choices.now marks.now) }
 {
+    if let Some(answer) = decide_fast(alloc, game, player, choices, marks)? {
+        return Ok(answer);
+    }
+    let answer = none_recurs(alloc, game, player, choices, marks)?;
+    Ok(answer)
+}
+
+/// The same where what the fast search suggests is confirmed, else none.
+pub(crate) fn decide_fast(
+    alloc: Global,
+    game: &Game,
+    player: Player,
+    choices: &[Option<u32>],
+    marks: &[bool],
+) -> Result<Option<bool>, AllocError>
+    requires count { length marks.now ≡ length game.now }
+    requires choices { LeadsInside game.now choices.now }
+    requires closed { AreClosed game.now choices.now marks.now }
+    ensures none { IfOk result (λ found. IfSome found (λ answer. IsTrue answer ↔ NoneRecurs game.now player choices.now marks.now)) }
+{
     let finding = suggest(alloc, game, player, choices, marks)?;
     match finding {
         Finding::Recurring(place) => {
             if loses_at(alloc, game, player, choices, marks, place)? {
-                return Ok(false);
+                return Ok(Some(false));
             }
         }
         Finding::Order(order) => {
             if shows_none(alloc, game, player, choices, marks, order.as_slice())? {
-                return Ok(true);
+                return Ok(Some(true));
             }
         }
     }
-    let answer = none_recurs(alloc, game, player, choices, marks)?;
-    Ok(answer)
+    Ok(None)
 }
 
 /// Whether a place is marked, of a losing priority, and recurs.
@@ -59,7 +78,7 @@ fn loses_at(
     if place as usize >= game.len() || !marks[place as usize] {
         return Ok(false);
     }
-    if !is_losing(player, game.priority(place)) {
+    if !player.loses(game.priority(place)) {
         return Ok(false);
     }
     let answer = recurs(alloc, game, choices, place)?;
@@ -95,6 +114,3 @@ fn add_edges(from: u32, left: &[u32], edges: &mut Vec<Edge>) -> Result<(), Alloc
     }
     Ok(())
 }
-
-#[cfg(test)]
-mod tests;

@@ -1,10 +1,11 @@
 //! A proof that a strategy wins, as an order of the places: each edge leads forward, or back to a place whose priority
 //! does not lose and is the greatest on the way. A closed walk passes its greatest priority by such a step back.
 ghost use Rattle.std.specs.Prelude.{◌≡◌, ℕ, ◌<◌, ◌≤◌, length, vec_len, All, IfOk, IsTrue, slice_index};
-ghost use Rattle.omega_game.specs.Checking.{mark_at, LeadsInside, AreClosed, AreEnds, IsInOrder, NoneRecurs, StandsInOrder};
+ghost use Rattle.omega_game.specs.checking.Reaching.{mark_at, LeadsInside, AreClosed};
+ghost use Rattle.omega_game.specs.checking.Ordering.{AreEnds, IsInOrder, StandsInOrder};
+ghost use Rattle.omega_game.specs.checking.Recurring.{NoneRecurs};
 
 use crate::game::Game;
-use crate::losing::is_losing;
 use crate::player::Player;
 use crate::reaching::edges_left;
 use std::alloc::{AllocError, Global};
@@ -172,5 +173,5 @@ fn is_in_order(
     if number < back {
         return true;
     }
-    !is_losing(player, game.priority(next)) && number < ends[back]
+    !player.loses(game.priority(next)) && number < ends[back]
 }

@@ -1,9 +1,9 @@
 //! The plain test: whether a place that is reached bears a losing priority and recurs.
 ghost use Rattle.std.specs.Prelude.{◌≡◌, ◌↔◌, ℕ, ◌<◌, length, IfOk, IsTrue};
-ghost use Rattle.omega_game.specs.Checking.{LeadsInside, NoneRecurs, Recurs};
+ghost use Rattle.omega_game.specs.checking.Reaching.{LeadsInside};
+ghost use Rattle.omega_game.specs.checking.Recurring.{NoneRecurs, Recurs};
 
 use crate::game::Game;
-use crate::losing::is_losing;
 use crate::player::Player;
 use crate::reaching::{edges_left, reached_from};
 use std::alloc::{AllocError, Global};
@@ -37,7 +37,7 @@ pub(crate) fn none_recurs(
     ensures none { IfOk result (λ answer. IsTrue answer ↔ NoneRecurs game.now player choices.now marks.now) }
 {
     for place in 0..game.len() as u32 {
-        let losing = marks[place as usize] && is_losing(player, game.priority(place));
+        let losing = marks[place as usize] && player.loses(game.priority(place));
         if losing && recurs(alloc, game, choices, place)? {
             return Ok(false);
         }

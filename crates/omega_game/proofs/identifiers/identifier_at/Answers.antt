@@ -1,5 +1,6 @@
+-- `identifier_at`: the identifier at a place, which is the place where none is listed.
 use Rattle.std.proofs.Common.{arith, ap, ◌∙◌}
-use Rattle.omega_game.proofs.LayoutLemmas.{get_or-identifiers_of}
+use Rattle.omega_game.proofs.layout.Columns.{get_or-identifiers_of}
 use Rattle.std.specs.Prelude.{unwrap_or}
 use Rattle.omega_game.proofs.identifiers.identifier_at.Goals as goal
 

@@ -1,5 +1,6 @@
+-- `listed_ids`: the identifiers to list, none where they are 0 to n - 1.
 use Rattle.std.proofs.Common.{length, ap, refl}
-use Rattle.omega_game.proofs.ResolvingLemmas.{dense_ids, listed_more, listed_all}
+use Rattle.omega_game.proofs.building.Resolutions.{dense_ids, listed_more, listed_all}
 use Rattle.omega_game.proofs.identifiers.listed_ids.Goals as goal
 
 pub returns-then-ids : goal.returns-then-ids

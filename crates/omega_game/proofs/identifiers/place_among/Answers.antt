@@ -1,5 +1,6 @@
+-- `place_among`: the place of an identifier among those of `count` nodes, which is itself where none is listed.
 use Rattle.std.proofs.Common.{◌≡◌, ◌<◌, ◌==◌, length, ap, sym, ◌∙◌, rules}
-use Rattle.omega_game.proofs.LayoutLemmas.{position_listed, identifiers_unlisted, position-range_with_len, position_past}
+use Rattle.omega_game.proofs.layout.Columns.{position_listed, identifiers_unlisted, position-range_with_len, position_past}
 use Rattle.std.specs.List.{position}
 use Rattle.omega_game.proofs.identifiers.place_among.Goals as goal
 

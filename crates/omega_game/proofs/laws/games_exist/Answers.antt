@@ -1,5 +1,5 @@
 -- the specifications by rising identifier, their successors under the places of their identifiers
-use Rattle.omega_game.proofs.Built.{game_built}
+use Rattle.omega_game.proofs.building.Built.{game_built}
 use Rattle.omega_game.proofs.laws.games_exist.Goals as goal
 
 pub returns : goal.returns

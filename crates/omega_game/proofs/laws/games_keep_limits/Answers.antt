@@ -1,5 +1,5 @@
 -- the counts are those of the specifications, and each node is one of them
-use Rattle.omega_game.proofs.Faults.{within_limits}
+use Rattle.omega_game.proofs.building.Faults.{within_limits}
 use Rattle.omega_game.proofs.laws.games_keep_limits.Goals as goal
 
 pub returns : goal.returns

@@ -1,4 +1,5 @@
-use Rattle.omega_game.proofs.PartGames.{part_is_game}
+-- `parts_are_games`: the part of a node of a game is a game.
+use Rattle.omega_game.proofs.parts.PartGames.{part_is_game}
 use Rattle.omega_game.proofs.laws.parts_are_games.Goals as goal
 
 pub returns : goal.returns

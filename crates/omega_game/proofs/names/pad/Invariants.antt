@@ -1,3 +1,4 @@
+-- What holds in the loop of `pad`: gives each of the first `count` nodes an entry, which leaves the names as they are.
 use Rattle.std.proofs.Common.{◌≡◌, ℕ, ◌-◌, ◌≤◌, [], length, get_or}
 use Rattle.omega_game.proofs.names.pad.Given as goal
 

@@ -1,7 +1,8 @@
+-- `specify`: adds the specification of the node at a place.
 use Rattle.std.proofs.Common.{sym, ap, ◌∙◌}
 use Rattle.omega_game.specs.Building.{with_last, with_name}
 use Rattle.omega_game.specs.Game.{node_at}
-use Rattle.omega_game.proofs.Specifying.{name_added}
+use Rattle.omega_game.proofs.parts.Specifying.{name_added}
 use Rattle.omega_game.proofs.part.specify.Goals as goal
 
 pub returns-in_ok-set_name-clause-ok : goal.returns-in_ok-set_name-clause-ok

@@ -1,7 +1,8 @@
+-- `specify_unnamed`: adds the specification of the node at a place, without its name.
 use Rattle.std.proofs.Common.{ℕ, ◌<◌, List, length, get_or, ap, ◌∙◌, arith}
 use Rattle.omega_game.specs.Building.{with_last, with_successor}
 use Rattle.omega_game.specs.Game.{node_at, successors_at}
-use Rattle.omega_game.proofs.Specifying.{successor_added, successor_within}
+use Rattle.omega_game.proofs.parts.Specifying.{successor_added, successor_within}
 use Rattle.omega_game.proofs.part.specify_unnamed.Goals as goal
 
 pub bounds-successors-0 : goal.bounds-successors-0

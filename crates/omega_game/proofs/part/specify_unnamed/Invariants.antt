@@ -1,6 +1,7 @@
+-- What holds in the loop of `specify_unnamed`: adds the specification of the node at a place, without its name.
 use Rattle.std.proofs.Common.{◌≡◌, ◌∷◌, ◌++◌, [], take}
 use Rattle.omega_game.specs.Game.{node_at}
-use Rattle.omega_game.proofs.Specifying.{with_list}
+use Rattle.omega_game.proofs.parts.Specifying.{with_list}
 use Rattle.omega_game.proofs.part.specify_unnamed.Given as goal
 
 abbrev pub invariant-loop-index : goal.invariant-loop-index

@@ -1,6 +1,7 @@
+-- `edges_left`: the places to which the choices leave an edge from a place possible: the one chosen, or each listed successor where none is chosen or the choices end before the place.
 use Rattle.std.proofs.Common.{◌≡◌, [], rules}
-use Rattle.omega_game.specs.Checking.{left_at}
-use Rattle.omega_game.proofs.ReachingLemmas.{left_inside, nothing_chosen}
+use Rattle.omega_game.specs.checking.Reaching.{left_at}
+use Rattle.omega_game.proofs.walks.Marking.{left_inside, nothing_chosen}
 use Rattle.omega_game.proofs.reaching.edges_left.Goals as goal
 
 pub returns-in-Some-Some-clause-inside : goal.returns-in-Some-Some-clause-inside
@@ -10,4 +11,4 @@ returns-in-Some-Some-clause-inside c =
 
 pub returns-in_default-clause-inside : goal.returns-in_default-clause-inside
 returns-in_default-clause-inside c =
-    left_inside c.args.game.now [] c.args.place c.successors.result.now (nothing_chosen c.args.game.now c.len-count.ensures.game) c.successors.ensures
+    left_inside c.args.game.now [] c.args.place c.successors.result.now (nothing_chosen c.args.game.now c.keeps_limits.ensures.game) c.successors.ensures

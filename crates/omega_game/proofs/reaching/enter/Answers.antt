@@ -1,6 +1,7 @@
+-- `enter`: marks the places of priority at most `most`, and stacks those that were not marked.
 use Rattle.std.proofs.Common.{◌<◌, length, get_or, ap, ◌∙◌, arith}
 use Rattle.std.proofs.lemmas.Grind.{common_steps}
-use Rattle.omega_game.proofs.ReachingLemmas.{step_skip, step_push}
+use Rattle.omega_game.proofs.walks.Marking.{step_skip, step_push}
 use Rattle.omega_game.proofs.reaching.enter.Goals as goal
 use Rattle.omega_game.proofs.reaching.enter.Goals.{then-priority-most+then-not-index+in_ok-push, else-priority-most, else-priority-most-via-then-priority-most+else-not-index, else-priority-most-via-else-priority-most}
 

@@ -1,5 +1,6 @@
+-- `GameBuilder::add`: adds a specification without a name.
 use Rattle.std.proofs.Common.{◌≡◌, [], ◌∷◌, ◌++◌, rules}
-use Rattle.omega_game.proofs.BuilderLemmas.{specs_of-push, AreCollected-push}
+use Rattle.omega_game.proofs.building.Collecting.{specs_of-push, AreCollected-push}
 use Rattle.omega_game.proofs.builder.GameBuilder.add.Goals as goal
 
 ids_are : (c : goal.After-push-3) → c.push.new.self.items ≡ c.self.inside.ids.items ++ c.args.id ∷ []

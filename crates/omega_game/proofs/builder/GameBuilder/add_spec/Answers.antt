@@ -1,6 +1,7 @@
+-- `GameBuilder::add_spec`: adds a specification.
 use Rattle.std.proofs.Common.{ap, sym, ◌∙◌}
 use Rattle.std.specs.Prelude.{Some}
-use Rattle.omega_game.proofs.BuilderLemmas.{named_spec}
+use Rattle.omega_game.proofs.building.Collecting.{named_spec}
 use Rattle.omega_game.proofs.builder.GameBuilder.add_spec.Goals as goal
 
 pub returns-in_ok-name_last : goal.returns-in_ok-name_last

@@ -1,5 +1,6 @@
+-- `GameBuilder::add_successor`: adds a successor to the last specification.
 use Rattle.std.proofs.Common.{◌<◌, length, arith, ap}
-use Rattle.omega_game.proofs.BuilderLemmas.{length-specs_of, specs_of-successor, AreCollected-successor}
+use Rattle.omega_game.proofs.building.Collecting.{length-specs_of, specs_of-successor, AreCollected-successor}
 use Rattle.omega_game.proofs.builder.GameBuilder.add_successor.Goals as goal
 
 pub push_item-requires : goal.push_item-requires

@@ -1,12 +1,13 @@
+-- `GameBuilder::finish`: the game of the specifications.
 use Rattle.std.proofs.Common.{ℕ, ◌<◌, ◌≤◌, ◌+◌, None, [], length, get_or, arith, sym, ◌∙◌}
 use Rattle.std.proofs.lemmas.Bool.{OnFalse_at}
 use Rattle.std.proofs.lemmas.List.Sorted.{length_permutation}
 use Rattle.omega_game.specs.declared.node_spec.NodeSpec.{NodeSpec}
 use Rattle.omega_game.specs.declared.player.Player.TheVariants.{Zero}
-use Rattle.omega_game.specs.Building.{ids_of}
-use Rattle.omega_game.proofs.FaultLemmas.{fault_of-permutation, some_duplicate}
-use Rattle.omega_game.proofs.FinishLemmas.{faultless-rearranged, game_of-rearranged, refused-rearranged}
-use Rattle.omega_game.proofs.RefusalLemmas.{duplicate_refused}
+use Rattle.omega_game.specs.layout.Collected.{ids_of}
+use Rattle.omega_game.proofs.building.Duplicates.{fault_of-permutation, some_duplicate}
+use Rattle.omega_game.proofs.building.Rearranged.{faultless-rearranged, game_of-rearranged, refused-rearranged}
+use Rattle.omega_game.proofs.building.Refusals.{duplicate_refused}
 use Rattle.omega_game.proofs.builder.GameBuilder.finish.Goals as goal
 
 -- any specification

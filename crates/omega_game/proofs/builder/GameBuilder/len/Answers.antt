@@ -1,5 +1,6 @@
+-- `GameBuilder::len`: the number of specifications so far, all well formed.
 use Rattle.std.proofs.Common.{length, arith, ap}
-use Rattle.omega_game.proofs.BuilderLemmas.{length-specs_of}
+use Rattle.omega_game.proofs.building.Collecting.{length-specs_of}
 use Rattle.omega_game.proofs.builder.GameBuilder.len.Goals as goal
 
 pub returns-clause-count : goal.returns-clause-count

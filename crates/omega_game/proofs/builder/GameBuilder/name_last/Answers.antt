@@ -1,5 +1,6 @@
+-- `GameBuilder::name_last`: names the last specification.
 use Rattle.std.proofs.Common.{◌≡◌, ◌<◌, length, arith, ap, ◌∙◌}
-use Rattle.omega_game.proofs.BuilderLemmas.{length-specs_of, specs_of-name, specs_of-pad, AreCollected-name, AreCollected-pad, OnErr-always}
+use Rattle.omega_game.proofs.building.Collecting.{length-specs_of, specs_of-name, specs_of-pad, AreCollected-name, AreCollected-pad, OnErr-always}
 use Rattle.omega_game.proofs.builder.GameBuilder.name_last.Goals as goal
 
 pub invariant_of-self : goal.invariant_of-self

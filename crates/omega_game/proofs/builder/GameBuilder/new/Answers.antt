@@ -1,7 +1,9 @@
+-- `GameBuilder::new`: no specification, which takes no memory.
 use Rattle.std.proofs.Common.{[], arith, refl}
 use Rattle.std.proofs.lemmas.List.Elements.{All-nil}
-use Rattle.omega_game.specs.Building.{AreCollected, IsWellFormed}
-use Rattle.omega_game.specs.Layout.{specs_of, collected}
+use Rattle.omega_game.specs.Building.{IsWellFormed}
+use Rattle.omega_game.specs.layout.Collected.{AreCollected}
+use Rattle.omega_game.specs.layout.Columns.{specs_of, collected}
 use Rattle.omega_game.proofs.builder.GameBuilder.new.Goals as goal
 
 nothing : AreCollected (collected [] [] [] [] [])

@@ -1,3 +1,4 @@
+-- What holds in the loop of `GameBuilder::of`: the builder of these specifications.
 use Rattle.std.proofs.Common.{◌≡◌, take}
 use Rattle.omega_game.proofs.builder.GameBuilder.of.Given as goal
 

@@ -1,12 +1,12 @@
-use Rattle.std.proofs.Common.{◌≡◌, ℕ, ◌<◌, length, map, List, get_or, arith, ap, sym, subst, refl, ◌∙◌}
-use Rattle.omega_game.proofs.BuilderLemmas.{ids-specs_of, length-specs_of, ArePicked, specs_of-rearranged, AreCollected-rearranged, order_within}
-use Rattle.omega_game.specs.Building.{ids_of}
-use Rattle.omega_game.specs.Layout.{collected, Columns, specs_of}
+-- `GameBuilder::rearranged_by`: the specifications at these indices, which are all of them.
+use Rattle.std.proofs.Common.{◌≡◌, ℕ, ◌<◌, length, map, List, get_or, arith, ap, sym, subst, refl, ◌∙◌, All}
+use Rattle.omega_game.proofs.building.Collecting.{ids-specs_of, length-specs_of, ArePicked, specs_of-rearranged, AreCollected-rearranged, order_within}
+use Rattle.omega_game.specs.layout.Collected.{ids_of}
+use Rattle.omega_game.specs.layout.Columns.{collected, Columns, specs_of}
 use Rattle.omega_game.specs.declared.player.Player.TheVariants.{Zero}
 use Rattle.omega_game.specs.declared.node_spec.NodeSpec.{NodeSpec}
 use Rattle.std.specs.List.{range_with_len}
 use Rattle.std.specs.List.Sorted.{IsPermutation}
-use Rattle.std.proofs.Common.{All}
 use Rattle.omega_game.proofs.builder.GameBuilder.rearranged_by.Goals as goal
 
 -- the indices are those of the columns

@@ -1,12 +1,14 @@
+-- `GameBuilder::resolved`: the game of specifications whose identifiers rise, or the first fault that applies.
 use Rattle.std.proofs.Common.{◌≡◌, ◌<◌, length, List, arith, ap, sym, subst, refl, ◌∙◌}
 use Rattle.std.specs.List.Sorted.{IsStrictlyIncreasing}
 use Rattle.omega_game.specs.declared.node_spec.NodeSpec.{NodeSpec}
-use Rattle.omega_game.specs.Building.{AreCollected, IsGameOf, ids_of}
+use Rattle.omega_game.specs.Building.{IsGameOf}
+use Rattle.omega_game.specs.layout.Collected.{AreCollected, ids_of}
 use Rattle.omega_game.specs.Game.{Node, IsGame, IsWithinLimits}
-use Rattle.omega_game.specs.Layout.{AreEven, Columns, collected, columns_of, nodes_of, specs_of}
-use Rattle.omega_game.proofs.BuilderLemmas.{ids-specs_of, length-specs_of}
-use Rattle.omega_game.proofs.GameLemmas.{AreEven-resolved, AreResolved, IsGameOf-columns, game_of_columns, limits_of_columns}
-use Rattle.omega_game.proofs.RefusalLemmas.{AreResolved-from, KnowsFault, columns_same, few_listed, flag_is, ids_known, knows_fault, sum_by-places}
+use Rattle.omega_game.specs.layout.Columns.{AreEven, Columns, collected, columns_of, nodes_of, specs_of}
+use Rattle.omega_game.proofs.building.Collecting.{ids-specs_of, length-specs_of}
+use Rattle.omega_game.proofs.building.Resolved.{AreEven-resolved, AreResolved, IsGameOf-columns, game_of_columns, limits_of_columns}
+use Rattle.omega_game.proofs.building.Refusals.{AreResolved-from, KnowsFault, columns_same, few_listed, flag_is, ids_known, knows_fault, sum_by-places}
 use Rattle.omega_game.proofs.builder.GameBuilder.resolved.Goals as goal
 
 -- the identifiers rise
@@ -39,18 +41,18 @@ pub returns-then-count-gt-MOST_NODES-clause-refused : goal.returns-then-count-gt
 returns-then-count-gt-MOST_NODES-clause-refused c =
     (knows (collected c.self.inside.ids.items c.self.inside.priorities.items c.self.inside.owners.items c.self.inside.successors c.self.inside.quoted) c.args.self c.self.view_is c.self.invariant c.requires.rising).nodes (flag_is c.self.inside.ids.items c.as_slice.result.now c.in_ok-listed.listed.keys c.len-count.result c.self.inside.successors c.resolve.new.self c.resolve.result (record { count = omega (arith, c.len-count.ensures); value = c.as_slice.ensures.value; listed = c.in_ok-listed.ensures; defined = c.resolve.ensures.defined; placed = c.resolve.ensures.places }) ∙ c.if-not-resolve.false) (omega (arith, c.len-count.ensures, c.if-count-gt-MOST_NODES.true))
 
-pub returns-then-total-gt-MOST_EDGES-clause-refused : goal.returns-then-total-gt-MOST_EDGES-clause-refused
-returns-then-total-gt-MOST_EDGES-clause-refused c =
+pub returns-then-total-gt-MOST_SUCCESSORS-clause-refused : goal.returns-then-total-gt-MOST_SUCCESSORS-clause-refused
+returns-then-total-gt-MOST_SUCCESSORS-clause-refused c =
     let are : AreResolved c.self.inside.ids.items c.self.inside.successors c.resolve.new.self = AreResolved-from c.self.inside.ids.items c.as_slice.result.now c.in_ok-listed.listed.keys c.len-count.result c.self.inside.successors c.resolve.new.self c.resolve.result (record { count = omega (arith, c.len-count.ensures); value = c.as_slice.ensures.value; listed = c.in_ok-listed.ensures; defined = c.resolve.ensures.defined; placed = c.resolve.ensures.places }) c.if-not-resolve.false in
     (knows (collected c.self.inside.ids.items c.self.inside.priorities.items c.self.inside.owners.items c.self.inside.successors c.self.inside.quoted) c.args.self c.self.view_is c.self.invariant c.requires.rising).edges are.defined (omega (arith, c.len-count.ensures, c.if-count-gt-MOST_NODES.false))
-    (omega (arith, c.total.ensures, c.if-total-gt-MOST_EDGES.true, sum_by-places c.self.inside.ids.items c.self.inside.successors c.resolve.new.self are.placed))
+    (omega (arith, c.total.ensures, c.if-total-gt-MOST_SUCCESSORS.true, sum_by-places c.self.inside.ids.items c.self.inside.successors c.resolve.new.self are.placed))
 
 -- the successors are resolved
-are : (c : goal.Else-total-gt-MOST_EDGES) → AreResolved c.self.inside.ids.items c.self.inside.successors c.resolve.new.self
+are : (c : goal.Else-total-gt-MOST_SUCCESSORS) → AreResolved c.self.inside.ids.items c.self.inside.successors c.resolve.new.self
 are c = AreResolved-from c.self.inside.ids.items c.as_slice.result.now c.in_ok-listed.listed.keys c.len-count.result c.self.inside.successors c.resolve.new.self c.resolve.result (record { count = omega (arith, c.len-count.ensures); value = c.as_slice.ensures.value; listed = c.in_ok-listed.ensures; defined = c.resolve.ensures.defined; placed = c.resolve.ensures.places }) c.if-not-resolve.false
 
 -- the columns of the game
-same : (c : goal.Else-total-gt-MOST_EDGES) → columns_of c.in_ok-listed.listed.keys c.self.inside.priorities.items c.self.inside.owners.items c.resolve.new.self c.self.inside.quoted
+same : (c : goal.Else-total-gt-MOST_SUCCESSORS) → columns_of c.in_ok-listed.listed.keys c.self.inside.priorities.items c.self.inside.owners.items c.resolve.new.self c.self.inside.quoted
     ≡ collected c.self.inside.ids.items c.self.inside.priorities.items c.self.inside.owners.items c.resolve.new.self c.self.inside.quoted
 same c = columns_same c.self.inside.ids.items c.in_ok-listed.listed.keys c.self.inside.priorities.items c.self.inside.owners.items c.resolve.new.self c.self.inside.quoted c.self.invariant.even.priorities_even
     (ids_known c.self.inside.ids.items c.as_slice.result.now c.in_ok-listed.listed.keys (length c.self.inside.ids.items) refl c.as_slice.ensures.value c.in_ok-listed.ensures)
@@ -64,7 +66,7 @@ assembled-requires-clause-game c = subst (λ (columns : Columns). IsGame (nodes_
 
 pub assembled-requires-clause-limits : goal.assembled-requires-clause-limits
 assembled-requires-clause-limits c = subst (λ (columns : Columns). IsWithinLimits (nodes_of columns)) (sym (same c))
-    (limits_of_columns c.self.inside.ids.items c.self.inside.priorities.items c.self.inside.owners.items c.self.inside.successors c.self.inside.quoted c.resolve.new.self c.self.invariant (are c) (omega (arith, c.len-count.ensures, c.if-count-gt-MOST_NODES.false)) (omega (arith, c.total.ensures, c.if-total-gt-MOST_EDGES.false)))
+    (limits_of_columns c.self.inside.ids.items c.self.inside.priorities.items c.self.inside.owners.items c.self.inside.successors c.self.inside.quoted c.resolve.new.self c.self.invariant (are c) (omega (arith, c.len-count.ensures, c.if-count-gt-MOST_NODES.false)) (omega (arith, c.total.ensures, c.if-total-gt-MOST_SUCCESSORS.false)))
 
 pub returns-clause-game : goal.returns-clause-game
 returns-clause-game c =
@@ -81,4 +83,4 @@ pub returns-clause-faultless : goal.returns-clause-faultless
 returns-clause-faultless c =
     let resolved : AreResolved c.self.inside.ids.items c.self.inside.successors c.resolve.new.self = AreResolved-from c.self.inside.ids.items c.as_slice.result.now c.in_ok-listed.listed.keys c.len-count.result c.self.inside.successors c.resolve.new.self c.resolve.result (record { count = omega (arith, c.len-count.ensures); value = c.as_slice.ensures.value; listed = c.in_ok-listed.ensures; defined = c.resolve.ensures.defined; placed = c.resolve.ensures.places }) c.if-not-resolve.false in
     (knows (collected c.self.inside.ids.items c.self.inside.priorities.items c.self.inside.owners.items c.self.inside.successors c.self.inside.quoted) c.args.self c.self.view_is c.self.invariant c.requires.rising).none resolved.defined (omega (arith, c.len-count.ensures, c.if-count-gt-MOST_NODES.false))
-    (omega (arith, c.total.ensures, c.if-total-gt-MOST_EDGES.false, sum_by-places c.self.inside.ids.items c.self.inside.successors c.resolve.new.self resolved.placed))
+    (omega (arith, c.total.ensures, c.if-total-gt-MOST_SUCCESSORS.false, sum_by-places c.self.inside.ids.items c.self.inside.successors c.resolve.new.self resolved.placed))

@@ -1,7 +1,9 @@
+-- What holds in the loop of `none_recurs`: whether no marked place of a priority that loses for the player recurs.
 use Rattle.std.proofs.Common.{ℕ, ◌<◌, IsTrue}
 use Rattle.omega_game.specs.Game.{priority_at}
-use Rattle.omega_game.specs.Winning.{loses}
-use Rattle.omega_game.specs.Checking.{mark_at, Recurs}
+use Rattle.omega_game.specs.Player.{loses}
+use Rattle.omega_game.specs.checking.Reaching.{mark_at}
+use Rattle.omega_game.specs.checking.Recurring.{Recurs}
 use Rattle.omega_game.proofs.checking.recurring.none_recurs.Given as goal
 
 abbrev pub invariant-loop-place : goal.invariant-loop-place

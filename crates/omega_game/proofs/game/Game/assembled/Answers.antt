@@ -1,25 +1,27 @@
-use Rattle.std.proofs.Common.{ℕ, length, List, arith, ap, subst, refl, ◌∙◌}
-use Rattle.omega_game.specs.Layout.{AreClasses, columns_of}
-use Rattle.omega_game.proofs.LayoutLemmas.{length-nodes_of}
-use Rattle.omega_game.proofs.EnteringLemmas.{entering_is, targets_within}
+-- `Game::assembled`: the game of these columns, with its predecessors and its priorities counted.
+use Rattle.std.proofs.Common.{length, arith, ap, refl, ◌∙◌}
+use Rattle.omega_game.specs.Bound.{priority_counts}
+use Rattle.omega_game.specs.layout.Columns.{columns_of}
+use Rattle.omega_game.proofs.layout.Columns.{length-nodes_of}
+use Rattle.omega_game.proofs.layout.StoredPredecessors.{predecessors_are_counted, targets_within}
 use Rattle.omega_game.proofs.game.Game.assembled.Goals as goal
 
-pub entering-requires-clause-few : goal.entering-requires-clause-few
-entering-requires-clause-few c = omega (arith, c.requires.even.successors_even, length-nodes_of (columns_of c.args.listed.keys c.args.priorities.items c.args.owners.items c.args.successors c.args.quoted), c.requires.limits.few_nodes)
+pub predecessors_of-requires-clause-few : goal.predecessors_of-requires-clause-few
+predecessors_of-requires-clause-few c = omega (arith, c.requires.even.successors_even, length-nodes_of (columns_of c.args.listed.keys c.args.priorities.items c.args.owners.items c.args.successors c.args.quoted), c.requires.limits.few_nodes)
 
-pub entering-requires-clause-within : goal.entering-requires-clause-within
-entering-requires-clause-within c = targets_within (columns_of c.args.listed.keys c.args.priorities.items c.args.owners.items c.args.successors c.args.quoted) c.requires.even c.requires.game
+pub predecessors_of-requires-clause-within : goal.predecessors_of-requires-clause-within
+predecessors_of-requires-clause-within c = targets_within (columns_of c.args.listed.keys c.args.priorities.items c.args.owners.items c.args.successors c.args.quoted) c.requires.even c.requires.game
 
-pub classes_of-requires : goal.classes_of-requires
-classes_of-requires c = omega (arith, ap length c.as_slice.ensures.value, c.requires.even.priorities_even, length-nodes_of (columns_of c.args.listed.keys c.args.priorities.items c.args.owners.items c.args.successors c.args.quoted), c.requires.limits.few_nodes)
+pub counts_of-requires : goal.counts_of-requires
+counts_of-requires c = omega (arith, ap length c.as_slice.ensures.value, c.requires.even.priorities_even, length-nodes_of (columns_of c.args.listed.keys c.args.priorities.items c.args.owners.items c.args.successors c.args.quoted), c.requires.limits.few_nodes)
 
 pub invariant_of-result : goal.invariant_of-result
 invariant_of-result c = record {
   even = c.requires.even;
   game = c.requires.game;
   limits = c.requires.limits;
-  entering_all = c.in_ok-predecessors.ensures ∙ entering_is (columns_of c.args.listed.keys c.args.priorities.items c.args.owners.items c.args.successors c.args.quoted) c.requires.even;
-  classified = subst (λ (xs : List ℕ). AreClasses xs c.in_ok-classes.classes.items) c.as_slice.ensures.value c.in_ok-classes.ensures;
+  predecessors_all = c.in_ok-predecessors.ensures ∙ predecessors_are_counted (columns_of c.args.listed.keys c.args.priorities.items c.args.owners.items c.args.successors c.args.quoted) c.requires.even;
+  counted = c.in_ok-priority_counts.ensures ∙ ap priority_counts c.as_slice.ensures.value;
 }
 
 pub returns : goal.returns

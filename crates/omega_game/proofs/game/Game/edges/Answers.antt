@@ -1,5 +1,6 @@
+-- `Game::edges`: the number of listed successors, repeats counted.
 use Rattle.std.proofs.Common.{ap, sym, ◌∙◌}
-use Rattle.omega_game.proofs.LayoutLemmas.{edge_count-nodes_of}
+use Rattle.omega_game.proofs.layout.Columns.{edge_count-nodes_of}
 use Rattle.omega_game.specs.Game.{edge_count}
 use Rattle.omega_game.proofs.game.Game.edges.Goals as goal
 

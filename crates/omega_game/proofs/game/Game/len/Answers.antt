@@ -1,5 +1,6 @@
+-- `Game::len`: the number of nodes, at least 1.
 use Rattle.std.proofs.Common.{◌≡◌, length, arith, sym, ◌∙◌}
-use Rattle.omega_game.proofs.LayoutLemmas.{length_is}
+use Rattle.omega_game.proofs.layout.Columns.{length_is}
 use Rattle.omega_game.proofs.game.Game.len.Goals as goal
 
 pub returns-clause-count : goal.returns-clause-count

@@ -1,4 +1,5 @@
-use Rattle.omega_game.proofs.LayoutLemmas.{name_is}
+-- `Game::name`: the name of the node at a place, without its quotes.
+use Rattle.omega_game.proofs.layout.Columns.{name_is}
 use Rattle.omega_game.proofs.game.Game.name.Goals as goal
 
 pub returns : goal.returns

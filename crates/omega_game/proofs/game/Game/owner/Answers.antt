@@ -1,5 +1,6 @@
+-- `Game::owner`: the player who chooses the successor at a place.
 use Rattle.std.proofs.Common.{arith}
-use Rattle.omega_game.proofs.LayoutLemmas.{place_within, owner_is}
+use Rattle.omega_game.proofs.layout.Columns.{place_within, owner_is}
 use Rattle.omega_game.proofs.game.Game.owner.Goals as goal
 
 pub index-requires : goal.index-requires

@@ -1,3 +1,4 @@
+-- `Game::part`: the game of all nodes to which a list of listed edges leads from the place.
 use Rattle.std.proofs.Common.{◌≡◌, None, ℕ, ◌<◌, [], ◌∷◌, ◌++◌, List, Bool, false, IsTrue, ◌↔◌, length, map, filter, sym, ap, ◌∙◌, subst, arith}
 use Rattle.std.proofs.lemmas.List.{get_or_default}
 use Rattle.std.proofs.lemmas.Result.{IfOk-weaker, IfErr-weaker}
@@ -5,14 +6,13 @@ use Rattle.std.specs.List.{range_with_len}
 use Rattle.omega_text.specs.declared.refusal.Refusal.TheVariants.{Memory}
 use Rattle.omega_game.specs.declared.node_spec.NodeSpec.{NodeSpec}
 use Rattle.omega_game.specs.Building.{specified, IsGameOf, IsBuildRefusal, fault_of}
-use Rattle.omega_game.specs.Checking.{mark_at, AreReached}
-use Rattle.omega_game.specs.Part.{Reaches}
+use Rattle.omega_game.specs.checking.Reaching.{mark_at, AreReached}
+use Rattle.omega_game.specs.Part.{Reaches, IsPart}
 use Rattle.omega_game.specs.Game.{Node, IsGame, IsWithinLimits, node_at}
-use Rattle.omega_game.specs.Part.{IsPart, Reaches}
-use Rattle.omega_game.proofs.PartGames.{kept_specs, some_kept, kept_faultless, part_from_specs, memory_alone}
-use Rattle.omega_game.proofs.ReachingLemmas.{reached_by_listed}
-use Rattle.omega_game.proofs.Recurring.{priorities_low}
-use Rattle.omega_game.proofs.Specifying.{specified_passing, specified_failing}
+use Rattle.omega_game.proofs.parts.PartGames.{kept_specs, some_kept, kept_faultless, part_from_specs, memory_alone}
+use Rattle.omega_game.proofs.walks.Marking.{reached_by_listed}
+use Rattle.omega_game.proofs.walks.Recurrence.{priorities_low}
+use Rattle.omega_game.proofs.parts.Specifying.{specified_passing, specified_failing}
 use Rattle.omega_game.proofs.game.Game.part.Goals as goal
 use Rattle.omega_game.proofs.game.Game.part.Goals.{then-index+in_ok-specify, else-index}
 

@@ -1,9 +1,9 @@
-use Rattle.std.proofs.Common.{◌≡◌, ◌==◌, length, arith, ap, sym, ◌∙◌}
-use Rattle.omega_game.proofs.LayoutLemmas.{length_is, length-listed, identifiers_are}
+-- `Game::place_of`: the place of the node with an identifier.
+use Rattle.std.proofs.Common.{◌≡◌, ◌==◌, length, arith, ap, sym, ◌∙◌, inl, inr}
+use Rattle.omega_game.proofs.layout.Columns.{length_is, length-listed, identifiers_are}
 use Rattle.std.proofs.lemmas.Bool.{cases_lt}
 use Rattle.std.specs.List.{position}
-use Rattle.std.proofs.Common.{inl, inr}
-use Rattle.omega_game.specs.Layout.{identifiers_of}
+use Rattle.omega_game.specs.layout.Columns.{identifiers_of}
 use Rattle.omega_game.proofs.game.Game.place_of.Goals as goal
 
 pub place_among-requires : goal.place_among-requires

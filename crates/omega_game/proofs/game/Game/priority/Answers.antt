@@ -1,5 +1,6 @@
+-- `Game::priority`: the priority of the node at a place.
 use Rattle.std.proofs.Common.{arith}
-use Rattle.omega_game.proofs.LayoutLemmas.{place_within, priority_is}
+use Rattle.omega_game.proofs.layout.Columns.{place_within, priority_is}
 use Rattle.omega_game.proofs.game.Game.priority.Goals as goal
 
 pub index-requires : goal.index-requires

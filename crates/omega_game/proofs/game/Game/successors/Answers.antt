@@ -1,5 +1,6 @@
+-- `Game::successors`: the places of the successors of the node at a place, in the order listed, repeats kept.
 use Rattle.std.proofs.Common.{arith}
-use Rattle.omega_game.proofs.LayoutLemmas.{place_within, successors_are}
+use Rattle.omega_game.proofs.layout.Columns.{place_within, successors_are}
 use Rattle.omega_game.proofs.game.Game.successors.Goals as goal
 
 pub list-requires : goal.list-requires

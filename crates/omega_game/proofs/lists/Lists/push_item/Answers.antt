@@ -1,6 +1,7 @@
+-- `Lists::push_item`: adds an item to the last list.
 use Rattle.std.proofs.Common.{◌<◌, length, arith, ap}
 use Rattle.std.proofs.lemmas.List.{length_push}
-use Rattle.omega_game.proofs.ListsLemmas.{length-lists_of, AreStarts-grow, lists_of-push_item}
+use Rattle.omega_game.proofs.layout.JoinedLists.{length-lists_of, AreStarts-grow, lists_of-push_item}
 use Rattle.omega_game.proofs.lists.Lists.push_item.Given.{Over}
 use Rattle.omega_game.proofs.lists.Lists.push_item.Goals as goal
 

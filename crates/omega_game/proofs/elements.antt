@@ -1,0 +1,3 @@
+-- Elements of lists, contained and counted.
+pub mod Membership
+pub mod Counting

@@ -1,6 +1,0 @@
--- each place has a winner, whose strategy wins from it
-use Rattle.omega_game.proofs.Determinacy.{covered}
-use Rattle.omega_game.proofs.laws.regions_cover.Goals as goal
-
-pub returns : goal.returns
-returns c = covered

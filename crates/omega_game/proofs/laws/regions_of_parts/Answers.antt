@@ -1,6 +1,0 @@
--- strategies are carried over between the places of the part and the nodes that stand there
-use Rattle.omega_game.proofs.Parts.{regions_of_part}
-use Rattle.omega_game.proofs.laws.regions_of_parts.Goals as goal
-
-pub returns : goal.returns
-returns c nodes part player v kept k game is_part below = regions_of_part nodes part v kept game is_part player k below

@@ -1,0 +1,5 @@
+-- Games and builders as columns and joined lists.
+pub mod Columns
+pub mod JoinedLists
+pub mod CountedPredecessors
+pub mod StoredPredecessors

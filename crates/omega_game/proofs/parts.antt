@@ -1,0 +1,4 @@
+-- The part of a place.
+pub mod Kept
+pub mod PartGames
+pub mod Specifying

@@ -1,0 +1,4 @@
+-- How strategies are checked: cited by private contracts alone.
+pub mod Reaching
+pub mod Recurring
+pub mod Ordering

@@ -1,0 +1,212 @@
+use crate::samples::{self, Row, finish, game_of};
+use omega_game::Player::{One, Zero};
+use omega_game::{Game, GameBuilder, Player, Refusal, Seq, Strategy, check_strategy};
+use std::alloc::Global;
+use std::process::Abort;
+use std::test::Fail;
+
+/// The checker's answer, or Io where a place is not there or the choices do not fit.
+fn answer(
+    alloc: Global,
+    game: &Game,
+    player: Player,
+    places: &[u32],
+    choices: &[Option<u32>],
+) -> Result<bool, Refusal> {
+    let choice = Seq::from_vec(Vec::from_slice(alloc, choices)?);
+    let strategy = Strategy { choice };
+    let count = game.len();
+    let inside = places.iter().all(|place| (*place as usize) < count);
+    if !inside || !strategy.fits(game, player) {
+        return Err(Refusal::Io);
+    }
+    check_strategy(alloc, game, player, places, &strategy)
+}
+
+/// A player, the listed places, the player's choices, and whether they win from each of these places.
+type Asked = (Player, &'static [u32], &'static [Option<u32>], bool);
+
+/// Asserts the checker's answers on one game.
+fn assert_answers(
+    rt: &impl Abort,
+    alloc: Global,
+    rows: &[Row],
+    asked: &[Asked],
+) -> Result<(), Refusal> {
+    let game = game_of(alloc, rows)?;
+    for question in asked {
+        let (player, places, choices, want) = *question;
+        let given = answer(alloc, &game, player, places, choices)?;
+        assert_eq!(rt; given, want, "{player:?} from {places:?} with {choices:?}");
+    }
+    Ok(())
+}
+
+/// Player 0 can only go from 0 to 1, which bears an odd priority and leads to itself.
+const ODD_BEHIND: [Row; 2] = [(0, 0, Zero, &[1], None), (1, 1, Zero, &[1], None)];
+
+const ODD_BEHIND_ASKED: [Asked; 6] = [
+    (Zero, &[0], &[Some(1), Some(1)], false),
+    (Zero, &[0], &[Some(1), None], false),
+    (Zero, &[1], &[Some(1), None], false),
+    (Zero, &[], &[Some(1), None], true),
+    (One, &[0], &[None, None], true),
+    (One, &[0, 1], &[None, None], true),
+];
+
+const THREE_ASKED: [Asked; 6] = [
+    (Zero, &[0, 1, 2], &[Some(2), None, None], true),
+    (Zero, &[2, 0, 2], &[Some(2), None, None], true),
+    (Zero, &[0], &[Some(1), None, None], false),
+    (Zero, &[2], &[Some(1), None, None], false),
+    (Zero, &[1], &[None, None, None], false),
+    (One, &[1], &[None, Some(0), Some(0)], false),
+];
+
+/// At 4 player 0 may stay, which loses, or go on to 5.
+const FAR: [Row; 6] = [
+    (0, 0, Zero, &[1], None),
+    (1, 0, One, &[2], None),
+    (2, 2, Zero, &[3], None),
+    (3, 0, One, &[4], None),
+    (4, 1, Zero, &[4, 5], None),
+    (5, 2, Zero, &[5], None),
+];
+
+const FAR_ASKED: [Asked; 6] = [
+    (Zero, &[0], &[None, None, None, None, Some(4), None], false),
+    (Zero, &[0], &[None, None, None, None, None, None], false),
+    (
+        Zero,
+        &[5, 3],
+        &[None, None, None, None, Some(4), None],
+        false,
+    ),
+    (Zero, &[5], &[None, None, None, None, Some(4), None], true),
+    (Zero, &[0], &[None, None, None, None, Some(5), None], true),
+    (
+        Zero,
+        &[0, 1, 2, 3, 4, 5],
+        &[None, None, None, None, Some(5), None],
+        true,
+    ),
+];
+
+/// Player 0 may stay at 0, and player 1 at 2; both may go on to 1, which loses for player 0.
+const BRANCHES: [Row; 3] = [
+    (0, 0, Zero, &[0, 1], None),
+    (1, 1, Zero, &[1], None),
+    (2, 2, One, &[2, 1], None),
+];
+
+const BRANCHES_ASKED: [Asked; 6] = [
+    (Zero, &[0], &[None, None, None], false),
+    (Zero, &[0], &[Some(0), None, None], true),
+    (Zero, &[0, 1], &[Some(0), None, None], false),
+    (Zero, &[2], &[Some(0), None, None], false),
+    (One, &[2], &[None, None, None], false),
+    (One, &[2], &[None, None, Some(1)], true),
+];
+
+const ODD_ABOVE: [Row; 2] = [(0, 0, Zero, &[1], None), (1, 1, Zero, &[0], None)];
+
+const EVEN_ABOVE: [Row; 2] = [(0, 1, Zero, &[1], None), (1, 2, Zero, &[0], None)];
+
+const ODD_ABOVE_ASKED: [Asked; 2] = [
+    (Zero, &[0], &[None, None], false),
+    (One, &[1], &[None, None], true),
+];
+
+const EVEN_ABOVE_ASKED: [Asked; 2] = [
+    (Zero, &[0], &[None, None], true),
+    (One, &[1], &[None, None], false),
+];
+
+/// Player 0 may stay at 1 inside the closed walk through both nodes, whose greatest priority is even.
+const NESTED: [Row; 2] = [(0, 2, Zero, &[1], None), (1, 1, Zero, &[0, 1], None)];
+
+const NESTED_ASKED: [Asked; 4] = [
+    (Zero, &[0], &[None, None], false),
+    (Zero, &[0], &[None, Some(1)], false),
+    (Zero, &[0, 1], &[None, Some(0)], true),
+    (One, &[1], &[None, None], false),
+];
+
+/// Games with what is asked of them: a losing closed walk apart from the listed place, one choice of two that wins, a
+/// wrong choice far from the listed place, nodes without a choice that keep all edges, the greatest priority above the
+/// least and the other way round, and a losing closed walk inside a winning one.
+const GAMES: [(&'static [Row], &'static [Asked]); 7] = [
+    (&ODD_BEHIND, &ODD_BEHIND_ASKED),
+    (&samples::THREE, &THREE_ASKED),
+    (&FAR, &FAR_ASKED),
+    (&BRANCHES, &BRANCHES_ASKED),
+    (&ODD_ABOVE, &ODD_ABOVE_ASKED),
+    (&EVEN_ABOVE, &EVEN_ABOVE_ASKED),
+    (&NESTED, &NESTED_ASKED),
+];
+
+#[test]
+fn small_games(rt: HostRuntime) -> Result<(), Fail> {
+    for (rows, asked) in GAMES {
+        assert_answers(&rt, rt.alloc(), rows, asked)?;
+    }
+    Ok(())
+}
+
+/// Nodes of player 0 from 0 on, each leading to the next and the last to `back`: priority 0, and the last `last`.
+fn line(alloc: Global, nodes: u16, last: u16, back: u16) -> Result<Game, Refusal> {
+    let mut builder = GameBuilder::new(alloc);
+    for id in 1..nodes {
+        builder.add_node(u32::from(id) - 1, 0, Zero, u32::from(id))?;
+    }
+    let end = u32::from(nodes.max(1)) - 1;
+    builder.add_node(end, u32::from(last), Zero, u32::from(back))?;
+    finish(builder)
+}
+
+/// Whether the strategy without a choice wins from the first place, for player 0 and for player 1.
+fn without_a_choice(alloc: Global, game: &Game) -> Result<(bool, bool), Refusal> {
+    let none = vec![in alloc; None; game.len()]?;
+    let zero = answer(alloc, game, Zero, &[0], none.as_slice())?;
+    let one = answer(alloc, game, One, &[0], none.as_slice())?;
+    Ok((zero, one))
+}
+
+#[test]
+fn the_greatest_of_a_line_or_a_cycle_decides(rt: HostRuntime) -> Result<(), Fail> {
+    for nodes in 2..12 {
+        for back in [0, nodes - 1] {
+            let odd = line(rt.alloc(), nodes, 1, back)?;
+            let even = line(rt.alloc(), nodes, 2, back)?;
+            let answers = (
+                without_a_choice(rt.alloc(), &odd)?,
+                without_a_choice(rt.alloc(), &even)?,
+            );
+            assert_eq!(rt;
+                answers,
+                ((false, true), (true, false)),
+                "{nodes} nodes, back to {back}"
+            );
+        }
+    }
+    Ok(())
+}
+
+/// A cycle of falling odd priorities behind one even priority above them all.
+fn falling(alloc: Global, nodes: u16) -> Result<Game, Refusal> {
+    let mut builder = GameBuilder::new(alloc);
+    builder.add_node(0, 2 * u32::from(nodes) + 2, Zero, 1)?;
+    for id in 1..nodes {
+        let place = u32::from(id);
+        builder.add_node(place, 2 * (u32::from(nodes) - place) + 1, Zero, place + 1)?;
+    }
+    builder.add_node(u32::from(nodes.max(1)), 1, Zero, 0)?;
+    finish(builder)
+}
+
+#[test]
+fn a_long_cycle_of_falling_priorities(rt: HostRuntime) -> Result<(), Fail> {
+    let game = falling(rt.alloc(), 50_000)?;
+    assert_eq!(rt; without_a_choice(rt.alloc(), &game)?, (true, false));
+    Ok(())
+}

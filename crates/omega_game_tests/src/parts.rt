@@ -1,0 +1,52 @@
+use crate::readings::{self, Reading, assert_reads};
+use crate::samples::{self, Row, game_of};
+use omega_game::Player::{One, Zero};
+use omega_game::{Game, Refusal};
+use std::alloc::Global;
+use std::test::Fail;
+
+/// The part of the node with an identifier, or Io where there is none.
+fn part_of(alloc: Global, rows: &[Row], id: u32) -> Result<Game, Refusal> {
+    let game = game_of(alloc, rows)?;
+    match game.place_of(id) {
+        Some(place) => game.part(alloc, place),
+        None => Err(Refusal::Io),
+    }
+}
+
+/// From 2 and from 7 the nodes 2 and 7 are reached, from 4 these and itself, from 9 all.
+const NESTED: [Row; 4] = [
+    (9, 4, Zero, &[4, 9], Some(b"all")),
+    (2, 5, One, &[7], Some(b"two")),
+    (7, 3, Zero, &[2, 7, 2], Some(b"")),
+    (4, 1, One, &[7, 4], None),
+];
+
+const TWO_AND_SEVEN: [Reading; 2] = [
+    (2, 5, One, Some(b"two"), &[1], &[1, 1]),
+    (7, 3, Zero, Some(b""), &[0, 1, 0], &[0, 1]),
+];
+
+const UP_TO_SEVEN: [Reading; 3] = [
+    (2, 5, One, Some(b"two"), &[2], &[2, 2]),
+    (4, 1, One, None, &[2, 1], &[1]),
+    (7, 3, Zero, Some(b""), &[0, 2, 0], &[0, 1, 2]),
+];
+
+/// Games, an identifier, the listed successors of its part, and what is read of it.
+const PARTS: [(&'static [Row], u32, usize, &'static [Reading]); 4] = [
+    (&samples::THREE, 1, 4, &readings::THREE),
+    (&NESTED, 2, 4, &TWO_AND_SEVEN),
+    (&NESTED, 7, 4, &TWO_AND_SEVEN),
+    (&NESTED, 4, 6, &UP_TO_SEVEN),
+];
+
+#[test]
+fn parts_of_small_games(rt: HostRuntime) -> Result<(), Fail> {
+    for (rows, id, edges, readings) in PARTS {
+        let part = part_of(rt.alloc(), rows, id)?;
+        assert_reads(&rt, &part, edges, readings);
+        assert_eq!(rt; part.place_of(9), None);
+    }
+    Ok(())
+}

@@ -1,0 +1,122 @@
+//! Games for tests, each node as a game text writes it, and steps of builders that no test has to prove allowed.
+ghost use Rattle.std.specs.Prelude.{◌<◌, ◌≤◌, length, All, IfOk, IfSome, IsTrue};
+ghost use Rattle.omega_game.specs.Building.{IsWellFormed};
+ghost use Rattle.omega_game.specs.Game.{IsNameByte};
+ghost use Rattle.omega_text.specs.Limits.{most_number};
+
+use omega_game::Player::{One, Zero};
+use omega_game::{Game, GameBuilder, MOST_NUMBER, NodeSpec, Player, Refusal, Seq};
+use std::alloc::Global;
+
+/// Identifier, priority, owner, the identifiers of the successors, and the name or none.
+pub(crate) type Row = (u32, u32, Player, &'static [u32], Option<&'static [u8]>);
+
+pub(crate) const ONE_EVEN: [Row; 1] = [(0, 0, Zero, &[0], None)];
+
+pub(crate) const ONE_ODD: [Row; 1] = [(0, 1, Zero, &[0], None)];
+
+pub(crate) const TWO: [Row; 2] = [(0, 1, Zero, &[1], None), (1, 2, One, &[0], None)];
+
+pub(crate) const THREE: [Row; 3] = [
+    (0, 0, Zero, &[1, 2], None),
+    (1, 1, One, &[0], None),
+    (2, 2, One, &[0], None),
+];
+
+pub(crate) const GAP: [Row; 2] = [(9, 3, One, &[4], None), (4, 2, Zero, &[9, 4], Some(b"a"))];
+
+pub(crate) const REPEATS: [Row; 2] = [(0, 0, Zero, &[1, 1, 0], None), (1, 1, One, &[0, 0], None)];
+
+pub(crate) const NAMES: [Row; 3] = [
+    (5, 0, Zero, &[5], Some(b"")),
+    (1, 0, Zero, &[1], None),
+    (3, 0, Zero, &[3], Some(b"b c")),
+];
+
+pub(crate) const GREATEST: [Row; 1] = [(2_147_483_647, 0, Zero, &[2_147_483_647], None)];
+
+/// The game of the rows by `Game::build`, or Io where they are none or one is not well formed.
+pub(crate) fn game_of(alloc: Global, rows: &[Row]) -> Result<Game, Refusal> {
+    let specs = specs_of(alloc, rows)?;
+    if specs.is_empty() {
+        return Err(Refusal::Io);
+    }
+    Game::build(alloc, specs)
+}
+
+/// The game of a builder, or Io where nothing was added.
+pub(crate) fn finish(builder: GameBuilder) -> Result<Game, Refusal> {
+    if builder.len() == 0 {
+        return Err(Refusal::Io);
+    }
+    builder.finish()
+}
+
+/// Lists a successor more at the last node, or answers Io where there is none.
+pub(crate) fn list(builder: &mut GameBuilder, successor: u32) -> Result<(), Refusal> {
+    if builder.len() == 0 || successor > MOST_NUMBER {
+        return Err(Refusal::Io);
+    }
+    builder.add_successor(successor)
+}
+
+/// The specifications of the rows, or Io where one is not well formed.
+pub(crate) fn specs_of(alloc: Global, rows: &[Row]) -> Result<Vec<NodeSpec>, Refusal>
+    ensures { IfOk result (λ specs. All IsWellFormed specs.items) }
+{
+    let mut specs = Vec::new(alloc);
+    for row in rows {
+        let spec = spec_of(alloc, *row)?;
+        specs.push(spec)?;
+    }
+    Ok(specs)
+}
+
+/// The specification of a row, or Io where it is not well formed.
+fn spec_of(alloc: Global, row: Row) -> Result<NodeSpec, Refusal>
+    ensures { IfOk result IsWellFormed }
+{
+    let (id, priority, owner, listed, quoted) = row;
+    if id > MOST_NUMBER || priority > MOST_NUMBER || !are_numbers(listed) {
+        return Err(Refusal::Io);
+    }
+    let successors = Seq::from_vec(Vec::from_slice(alloc, listed)?);
+    let name = name_of(alloc, quoted)?;
+    Ok(NodeSpec {
+        id,
+        priority,
+        owner,
+        successors,
+        name,
+    })
+}
+
+/// Whether these are numbers that a text can hold, at least one.
+fn are_numbers(numbers: &[u32]) -> bool
+    ensures some { IsTrue result → 0 < length numbers.now }
+    ensures numbers { IsTrue result → All (λ number. number ≤ most_number) numbers.now }
+{
+    !numbers.is_empty() && numbers.iter().all(|number| *number <= MOST_NUMBER)
+}
+
+/// The name of these bytes, or Io where one may not stand in a name.
+fn name_of(alloc: Global, bytes: Option<&[u8]>) -> Result<Option<Seq<u8>>, Refusal>
+    ensures { IfOk result (λ name. IfSome name (All IsNameByte)) }
+{
+    let Some(bytes) = bytes else {
+        return Ok(None);
+    };
+    if !are_name_bytes(bytes) {
+        return Err(Refusal::Io);
+    }
+    Ok(Some(Seq::from_vec(Vec::from_slice(alloc, bytes)?)))
+}
+
+/// Whether each byte may stand in a name.
+fn are_name_bytes(bytes: &[u8]) -> bool
+    ensures { IsTrue result → All IsNameByte bytes.now }
+{
+    bytes
+        .iter()
+        .all(|byte| 32 <= *byte && *byte <= 126 && *byte != 34)
+}
