@@ -1,3 +1,4 @@
+-- Places of a list at which a value is greatest, or first least.
 use Rattle.std.proofs.Common.{◌≢◌, ◌≡◌, ℕ, zero, suc, ◌<◌, List, [], ◌∷◌, length, get_or, Greater, ◌⊎◌, inl, inr, arith}
 use Rattle.omega_lift.specs.Measure.{Measure, compare}
 use Rattle.omega_lift.proofs.Order.{at_most_from_above, at_most_itself, at_most_trans, cases_greater, compare_total}

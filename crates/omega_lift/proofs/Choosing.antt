@@ -1,3 +1,4 @@
+-- The choices of a table in which no lift is due are a strategy that wins.
 use Rattle.std.proofs.Common.{◌≡◌, ◌≢◌, ℕ, ◌<◌, ◌≤◌, Bool, true, false, IsTrue, IsSome, is_some, Option, None, Some, List, [], ◌∷◌, length, take, get_or, slice_get, Contains, Ordering, Greater, ◌⊎◌, inl, inr, refl, sym, ap, ◌∙◌, subst, arith}
 use Rattle.std.specs.Cmp.Lexicographic.{slice_cmp}
 use Rattle.std.specs.Ordering.{nat_cmp}
@@ -8,7 +9,8 @@ use Rattle.std.proofs.lemmas.Option.{slice_get_within, get_or_from_slice_get, sl
 use Rattle.omega_game.specs.declared.player.Player.{Player}
 use Rattle.omega_game.specs.declared.player.Player.TheVariants.{Zero, One}
 use Rattle.omega_game.specs.Game.{Node, IsGame, HasEdge, owner_at, priority_at, priorities, successors_at}
-use Rattle.omega_game.specs.Winning.{Chooses, IsStrategy, IsWalk, IsClosedWalk, Leaves, Wins, end_of, greatest_on, loses}
+use Rattle.omega_game.specs.Winning.{Chooses, IsStrategy, IsWalk, IsClosedWalk, Leaves, Wins, end_of, greatest_on}
+use Rattle.omega_game.specs.Player.{loses}
 use Rattle.omega_lift.specs.Measure.{Measure, IsAtMost, compare, compare_from, entries_from}
 use Rattle.omega_lift.specs.Allowance.{IsAllowanceOf, IsLiftValue, measure_at, suffices}
 use Rattle.omega_lift.specs.Least.{least_sufficient}

@@ -1,11 +1,12 @@
-use Rattle.std.proofs.Common.{◌≡◌, ◌≢◌, ℕ, zero, suc, ◌+◌, ◌<◌, ◌≤◌, max, eqb, leb, nat_lt, ◌&&◌, cond, Bool, true, false, IsTrue, List, [], ◌∷◌, length, get_or, take, map, fold, filter, count_by, Ordering, Less, Equal, Greater, ◌⊎◌, inl, inr, refl, sym, ap, ◌∙◌, subst, arith}
+-- Losing priorities fall, and entries compared at one of them.
+use Rattle.std.proofs.Common.{◌≡◌, ◌≢◌, ℕ, zero, suc, ◌+◌, ◌<◌, ◌≤◌, max, eqb, leb, nat_lt, cond, Bool, true, false, IsTrue, List, [], ◌∷◌, length, get_or, take, map, fold, filter, count_by, Ordering, Less, Equal, Greater, ◌⊎◌, inl, inr, refl, sym, ap, ◌∙◌, subst, arith}
 use Rattle.std.specs.Cmp.Lexicographic.{slice_cmp}
 use Rattle.std.specs.Ordering.{nat_cmp, ordering_then}
-use Rattle.std.proofs.lemmas.Bool.{cases_lt, cases_eq, and_from, cond-true, le-leb, lt-leb, lt-ltb, eq-eqb}
+use Rattle.std.proofs.lemmas.Bool.{cases_lt, cases_eq, cond-true, le-leb, lt-leb, lt-ltb, eq-eqb}
 use Rattle.std.proofs.lemmas.List.Sums.{sum_by-cons, get_or-le-sum_by}
 use Rattle.omega_game.specs.declared.player.Player.{Player}
-use Rattle.omega_game.specs.Bound.{bearers, below_falling, greatest, losing_priorities}
-use Rattle.omega_game.specs.Winning.{loses}
+use Rattle.omega_game.specs.Bound.{bearers, below_falling, borne_priorities, greatest, losing_priorities}
+use Rattle.omega_game.specs.Player.{loses}
 use Rattle.omega_lift.proofs.Counting.{counted_once}
 use Rattle.omega_lift.proofs.Order.{HeadsCompare, cases_heads, less_or_greater, cmp_greater}
 
@@ -72,7 +73,8 @@ among_filter test p (q ∷ qs) t (inr h) = go (test q) (among_filter test p qs t
 -- the losing priorities that are borne fall
 pub losing_fall : (player : Player) (bearing : List ℕ) → IsFalling (losing_priorities player bearing)
 losing_fall player bearing =
-    falling_filter (λ q. loses player q && nat_lt 0 (bearers bearing q)) (below_falling (greatest bearing + 1)) (falling_below (greatest bearing + 1)).1
+    falling_filter (loses player) (borne_priorities bearing)
+    (falling_filter (λ q. nat_lt 0 (bearers bearing q)) (below_falling (greatest bearing + 1)) (falling_below (greatest bearing + 1)).1)
 
 at_most_fold : (a : ℕ) (xs : List ℕ) → a ≤ fold max a xs
 at_most_fold a [] = omega arith
@@ -88,9 +90,9 @@ pub among_losing :
     (player : Player) (bearing : List ℕ) (v : ℕ) → v < length bearing → IsTrue (loses player (get_or bearing v 0))
     → IsAmong (get_or bearing v 0) (losing_priorities player bearing)
 among_losing player bearing v lt l =
-    among_filter (λ q. loses player q && nat_lt 0 (bearers bearing q)) p (below_falling (greatest bearing + 1))
-    (and_from (loses player p) (nat_lt 0 (bearers bearing p)) l (lt-ltb 0 (bearers bearing p) borne))
-    (among_below (greatest bearing + 1) p (let most = at_most_greatest 0 bearing v lt in omega arith))
+    among_filter (loses player) p (borne_priorities bearing) l
+    (among_filter (λ q. nat_lt 0 (bearers bearing q)) p (below_falling (greatest bearing + 1)) (lt-ltb 0 (bearers bearing p) borne)
+    (among_below (greatest bearing + 1) p (let most = at_most_greatest 0 bearing v lt in omega arith)))
   where
     p : ℕ
     p = get_or bearing v 0

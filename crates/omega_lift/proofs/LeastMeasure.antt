@@ -1,3 +1,4 @@
+-- The least sufficient measure is the allowance, and allowances exist, are one, and grow.
 use Rattle.std.proofs.Common.{◌≡◌, ◌≢◌, ℕ, ◌≤◌, None, Some, List, length, take, not, leb, cond, if◌then◌else◌, Bool, true, false, IsTrue, IsSome, is_gt, is_lt, Ordering, Less, Equal, Greater, ◌⊎◌, inl, inr, refl, sym, ap, ◌∙◌, subst, arith}
 use Rattle.std.specs.Cmp.{IsTotalOrder}
 use Rattle.std.specs.Cmp.Lexicographic.{slice_cmp}
@@ -7,7 +8,7 @@ use Rattle.std.proofs.lemmas.Bool.Decides.{nat_tests}
 use Rattle.std.proofs.lemmas.List.Sums.{sum_by-le-sum_by}
 use Rattle.omega_game.specs.declared.player.Player.{Player}
 use Rattle.omega_game.specs.Bound.{losing_priorities}
-use Rattle.omega_game.specs.Winning.{loses}
+use Rattle.omega_game.specs.Player.{loses}
 use Rattle.omega_lift.specs.Measure.{Measure, IsMeasure, IsAbove, IsAtMost, compare, compare_from, entries_from}
 use Rattle.omega_lift.specs.Allowance.{IsAllowance, suffices}
 use Rattle.omega_lift.specs.Least.{limits_of, cleared_after, raised, least_sufficient}

@@ -1,3 +1,4 @@
+-- The lemmas of lifting.
 pub mod Order
 pub mod Entries
 pub mod LeastMeasure

@@ -1,3 +1,4 @@
+-- Which places steps lead to, and a test of it.
 use Rattle.std.proofs.Common.{◌≡◌, ◌≢◌, ℕ, zero, suc, ◌<◌, ◌≤◌, eqb, leb, ◌&&◌, ◌||◌, Bool, true, false, Decides, Option, None, Some, List, [], ◌∷◌, ◌++◌, length, slice_get, Contains, ◌⊎◌, inl, inr, refl, sym, ap, ◌∙◌, subst, arith}
 use Rattle.std.proofs.lemmas.Bool.{cases_eq, cases_lt, leb-true, le-leb}
 use Rattle.std.proofs.lemmas.Bool.Decides.{Decides-and, Decides-or, Decides-eqb, Decides-by_or}

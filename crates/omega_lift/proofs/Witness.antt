@@ -1,3 +1,4 @@
+-- The table that a winning strategy gives, which no lifting run passes.
 use Rattle.std.proofs.Common.{◌≡◌, ◌≢◌, ℕ, ◌<◌, ◌≤◌, not, eqb, ◌&&◌, Bool, true, false, IsTrue, IsSome, is_gt, is_lt, Decides, Option, None, Some, List, [], ◌∷◌, ◌++◌, length, get_or, slice_get, take, set, map, Ordering, Less, Equal, Greater, ◌⊎◌, inl, inr, refl, sym, ap, ◌∙◌, subst, arith}
 use Rattle.std.specs.Cmp.Lexicographic.{slice_cmp}
 use Rattle.std.specs.Ordering.{nat_cmp}
@@ -6,7 +7,8 @@ use Rattle.std.proofs.lemmas.List.{length-map, get_or_default, get_or-map, get_o
 use Rattle.omega_game.specs.declared.player.Player.{Player}
 use Rattle.omega_game.specs.Bound.{bearers, losing_priorities}
 use Rattle.omega_game.specs.Game.{Node, IsGame, no_node, owner_at, priority_at, priorities, successors_at}
-use Rattle.omega_game.specs.Winning.{Chooses, InRegion, IsStrategy, IsWalk, IsClosedWalk, Leaves, Wins, end_of, greatest_on, loses}
+use Rattle.omega_game.specs.Winning.{Chooses, InRegion, IsStrategy, IsWalk, IsClosedWalk, Leaves, Wins, end_of, greatest_on}
+use Rattle.omega_game.specs.Player.{loses}
 use Rattle.omega_lift.specs.Measure.{Measure, IsMeasure, IsAtMost, entries_from, zero_measure}
 use Rattle.omega_lift.specs.Allowance.{IsAllowanceOf, IsLiftValue, measure_at, suffices}
 use Rattle.omega_lift.specs.Run.{Lifts, IsRun, IsTable, zero_table}

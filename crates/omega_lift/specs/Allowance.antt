@@ -1,8 +1,9 @@
+-- Allowances, the Prog(ρ, v, w) of Jurdziński (2000), and lift values.
 use Rattle.std.specs.Prelude.{◌≡◌, ◌≢◌, ℕ, Bool, true, false, not, IsTrue, Some, None, List, slice_index_or, if◌then◌else◌}
 use Rattle.std.specs.Ordering.{is_gt, is_lt}
 use Rattle.omega_game.specs.declared.player.Player.{Player}
 use Rattle.omega_game.specs.Game.{Node, HasEdge, owner_at, priorities, priority_at}
-use Rattle.omega_game.specs.Winning.{loses}
+use Rattle.omega_game.specs.Player.{loses}
 use Rattle.omega_lift.specs.Measure.{Measure, IsMeasure, IsAtMost, compare_from}
 
 -- x suffices at priority p towards y: at least y on the entries for priorities at least p, above it there if p loses. Top always does
@@ -23,12 +24,12 @@ pub record IsAllowance (player : Player) (priorities : List ℕ) (p : ℕ) (y x 
 abbrev pub measure_at : List Measure → ℕ → Measure
 measure_at table v = slice_index_or table v None
 
--- x is the allowance of v towards w under a table
+-- x is the allowance of v towards w under a table ρ: Prog(ρ, v, w) in the literature
 abbrev pub IsAllowanceOf : List Node → Player → List Measure → ℕ → ℕ → Measure → Type 0
 IsAllowanceOf nodes player table v w x =
     IsAllowance player (priorities nodes) (priority_at nodes v) (measure_at table w) x
 
--- x is the lift value of v: the least allowance over its successors if the player owns v, else the greatest
+-- x is the lift value of v, to which Lift(ρ, v) raises it in the literature: the least allowance over its successors if the player owns v, else the greatest
 pub record IsLiftValue (nodes : List Node) (player : Player) (table : List Measure) (v : ℕ) (x : Measure) : Type 0 where
   pub successor : ℕ
   pub listed : HasEdge nodes v successor

@@ -1,3 +1,4 @@
+-- The answer that a table gives: the places won, and the choices there.
 use Rattle.std.specs.Prelude.{◌≡◌, ◌≢◌, ℕ, ◌<◌, Bool, is_some, IsSome, Option, Some, None, List, length, map, slice_get}
 use Rattle.omega_game.specs.declared.player.Player.{Player}
 use Rattle.omega_game.specs.Game.{Node, owner_at, successors_at}

@@ -1,3 +1,4 @@
+-- The laws of lifting, each the contract of a public function.
 use Rattle.std.specs.Prelude.{◌≡◌, ◌≢◌, ◌==◌, ℕ, ◌<◌, ◌≤◌, ◌⊎◌, IsTrue, IsSome, Option, List, count_by, length}
 use Rattle.std.specs.declared.cmp.Ordering.TheVariants.{Greater, Less}
 use Rattle.std.specs.Cmp.{IsTotalOrder}

@@ -1,3 +1,4 @@
+-- The words of lifting, with those of games that they cite.
 pub use Rattle.omega_game.specs.Game
 pub use Rattle.omega_game.specs.Winning
 pub use Rattle.omega_game.specs.Bound

@@ -1,16 +1,17 @@
+-- The allowance by the entries that are kept, and when it exceeds a measure.
 use Rattle.std.proofs.Common.{◌≡◌, ℕ, Bool, true, false, cond, List, Some, None, Ordering, sym, refl, ap, ◌∙◌, subst, inl, inr}
 use Rattle.std.specs.Prelude.{◌↔◌, is_none, not, slice_index}
 use Rattle.std.specs.Ordering.{is_gt, is_lt}
 use Rattle.std.specs.declared.cmp.Ordering.TheVariants.{Less, Equal, Greater}
 use Rattle.std.proofs.lemmas.Bool.{false≢true, not-false, cases_Bool}
 use Rattle.omega_game.specs.declared.player.Player.{Player}
-use Rattle.omega_game.specs.Winning.{loses}
+use Rattle.omega_game.specs.Player.{loses}
 use Rattle.omega_lift.specs.Allowance.{IsAllowance, measure_at, suffices}
 use Rattle.omega_lift.specs.Laws.{AllowancesAreLeastSufficient, AllowancesExceed}
 use Rattle.omega_lift.specs.Least.{least_sufficient, limits_of}
 use Rattle.omega_lift.specs.Measure.{Measure, IsMeasure, compare_from, entries_from}
-use Rattle.omega_measure.specs.Due.{is_short}
-use Rattle.omega_measure.specs.Rows.{allowance_of}
+use Rattle.omega_measure.specs.layout.Due.{is_short}
+use Rattle.omega_measure.specs.layout.Rows.{allowance_of}
 use Rattle.omega_measure.specs.Table.{Content, Exceeds}
 
 -- to be short is not to suffice

@@ -1,16 +1,17 @@
+-- The content of a table of numbers: new, and after a raise.
 use Rattle.std.proofs.Common.{◌≡◌, ℕ, ◌-◌, ◌*◌, ◌<◌, Bool, true, false, List, Some, length, get_or, replicate, take, sym, ap, ◌∙◌, subst, arith, inl, inr}
 use Rattle.std.specs.Prelude.{slice_index}
 use Rattle.std.proofs.lemmas.Bool.{cases_eq}
 use Rattle.std.proofs.lemmas.List.{length-map, length-replicate, get_or-replicate, take-replicate, drop-replicate}
 use Rattle.omega_game.specs.Bound.{bearers, losing_priorities}
-use Rattle.omega_game.specs.Winning.{loses}
+use Rattle.omega_game.specs.Player.{loses}
 use Rattle.omega_lift.specs.Allowance.{measure_at}
 use Rattle.omega_lift.specs.Laws.{AllowancesAreLeastSufficient}
 use Rattle.omega_lift.specs.Least.{limits_of}
 use Rattle.omega_lift.specs.Measure.{AreEntries, Measure, IsMeasure, entries_from, zero_measure}
-use Rattle.omega_measure.specs.Plain.{content_of}
-use Rattle.omega_measure.specs.Rows.{AreRows, WritesMeasure, allowance_of, measure_in, row_of}
-use Rattle.omega_measure.specs.Shape.{Borne, width_of}
+use Rattle.omega_measure.specs.layout.Plain.{content_of}
+use Rattle.omega_measure.specs.layout.Rows.{AreRows, WritesMeasure, allowance_of, measure_in, row_of}
+use Rattle.omega_measure.specs.layout.Shape.{Borne, width_of}
 use Rattle.omega_measure.specs.Table.{Content, IsAllowanceIn, Raises, zero_content}
 use Rattle.omega_measure.proofs.Allowances.{allowance_is}
 use Rattle.omega_measure.proofs.Measures.{length-listed, listed-same, listed-written, measure_at-listed}

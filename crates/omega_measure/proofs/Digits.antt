@@ -1,3 +1,4 @@
+-- Digits of a number at places, and numbers compared by them.
 use Rattle.std.proofs.Common.{◌≡◌, ℕ, zero, suc, ◌+◌, ◌-◌, ◌*◌, ◌/◌, ◌%◌, ◌^◌, ◌<◌, ◌≤◌, cond, eqb, List, [], ◌∷◌, ◌++◌, Ordering, length, get_or, take, replicate, sym, refl, ap, ◌∙◌, arith, inl, inr}
 use Rattle.std.specs.Ordering.{nat_cmp, ordering_then}
 use Rattle.std.specs.declared.cmp.Ordering.TheVariants.{Less, Equal, Greater}
@@ -5,7 +6,7 @@ use Rattle.std.specs.Cmp.Lexicographic.{slice_cmp}
 use Rattle.std.proofs.lemmas.Bool.{cases_order, lt-ltb, le-ltb, eq-eqb, ne_eqb}
 use Rattle.std.proofs.lemmas.Nat.{pow_pos, pow-add, shr_high, shr_split, shr-shr, mod_below, mul-le, div_below}
 use Rattle.std.proofs.Math.Nat.{mul_assoc}
-use Rattle.omega_measure.specs.Cell.{front_order, value}
+use Rattle.omega_measure.specs.layout.Field.{front_order, value}
 
 -- ---- numbers
 

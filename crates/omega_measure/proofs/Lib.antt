@@ -1,4 +1,5 @@
-pub mod Groups
+-- The lemmas of tables of measures.
+pub mod Falling
 pub mod Listed
 pub mod Raising
 pub mod RowWrites

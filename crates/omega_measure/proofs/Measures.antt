@@ -1,3 +1,4 @@
+-- Lists of measures, a function of the place.
 use Rattle.std.proofs.Common.{◌≡◌, ◌≢◌, ℕ, ◌<◌, List, length, get_or, set, replicate, sym, ◌∙◌, arith, inl, inr, subst}
 use Rattle.std.specs.Prelude.{map, None}
 use Rattle.std.specs.List.{range_with_len}

@@ -1,3 +1,4 @@
+-- The measure that digits are: compared, cleared and raised.
 use Rattle.std.proofs.Common.{◌≡◌, ◌≢◌, ℕ, zero, suc, ◌+◌, ◌-◌, ◌<◌, ◌≤◌, Bool, true, false, List, [], ◌∷◌, ◌++◌, Option, Some, None, length, get_or, take, replicate, sym, refl, ap, ◌∙◌, arith, add-one}
 use Rattle.std.specs.Option.{option_map_or}
 use Rattle.std.specs.Ordering.{nat_cmp, ordering_then}
@@ -10,8 +11,8 @@ use Rattle.omega_game.specs.Bound.{bearers, losing_priorities}
 use Rattle.omega_game.specs.declared.player.Player.{Player}
 use Rattle.omega_lift.specs.Least.{limits_of, raised}
 use Rattle.omega_lift.specs.Measure.{IsMeasure, Measure}
-use Rattle.omega_measure.specs.Cell.{AreAtMost, measure_of}
-use Rattle.omega_measure.specs.Rows.{IsLastBelow, allowance_of, compare_kept}
+use Rattle.omega_measure.specs.layout.Field.{AreAtMost, measure_of}
+use Rattle.omega_measure.specs.layout.Rows.{IsLastBelow, allowance_of, compare_kept}
 use Rattle.omega_measure.proofs.Digits.{nat_cmp-greater, nat_cmp-less}
 use Rattle.omega_measure.proofs.PackedRows.{at_most_at, length-at_most}
 use Rattle.omega_measure.proofs.Raising.{raised_some}

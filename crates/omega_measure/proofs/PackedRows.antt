@@ -1,3 +1,4 @@
+-- A row of words as one number, whose digits are its fields.
 use Rattle.std.proofs.Common.{◌≡◌, ◌≢◌, ℕ, zero, suc, ◌+◌, ◌-◌, ◌*◌, ◌/◌, ◌^◌, ◌<◌, ◌≤◌, List, [], ◌∷◌, ◌++◌, Ordering, length, get_or, take, replicate, sym, refl, ap, ◌∙◌, subst, arith, inl, inr}
 use Rattle.std.specs.Ordering.{nat_cmp, ordering_then}
 use Rattle.std.specs.declared.cmp.Ordering.TheVariants.{Less, Equal, Greater}
@@ -6,10 +7,10 @@ use Rattle.std.proofs.lemmas.Bool.{cases_lt, cases_order}
 use Rattle.std.proofs.lemmas.Grind.{same_number_lists}
 use Rattle.std.proofs.lemmas.List.{length-map, get_or-map, length-append, length-take-le, length-replicate, get_or_append_left, get_or-append_right, get_or_at, get_or-take, get_or-replicate, get_or_past}
 use Rattle.std.proofs.lemmas.Nat.{pow-add}
-use Rattle.omega_measure.specs.declared.cell.Cell.{Cell}
-use Rattle.omega_measure.specs.Cell.{AreAtMost, AreCells, AreChained, ArePacked, IsInside, IsPackedRow, cell_places, digit_in, digits_in, entry_limits, front_order, last_cell, last_of, limits_in, top_cell, value, word_places}
+use Rattle.omega_measure.specs.declared.field.Field.{Field}
+use Rattle.omega_measure.specs.layout.Field.{AreAtMost, AreFields, AreChained, ArePacked, IsInside, IsPackedRow, field_places, digit_in, digits_in, entry_limits, front_order, last_field, last_of, limits_in, top_field, value, word_places}
 use Rattle.omega_measure.proofs.Digits.{AreWithin, front_ends, front_order-value, then_assoc, value-replaced}
-use Rattle.omega_measure.proofs.Packing.{cell_places-at, chained_from_start, digit_is, digits_within, front_in_word, gap_at, inside_at, length-word_places, limit_at, place_of, start, word_fits, word_places-at, words_within}
+use Rattle.omega_measure.proofs.Packing.{field_places-at, chained_from_start, digit_is, digits_within, front_in_word, gap_at, inside_at, length-word_places, limit_at, place_of, start, word_fits, word_places-at, words_within}
 
 -- ---- numbers at most their limits
 
@@ -78,22 +79,22 @@ front_order-next (d ∷ ds) (e ∷ es) (suc k) l m =
     then_assoc (nat_cmp d e) (slice_cmp nat_cmp (take k ds) (take k es)) (nat_cmp (get_or ds k 0 / 2 ^ 0) (get_or es k 0 / 2 ^ 0))
     ∙ ap (ordering_then (nat_cmp d e)) (front_order-next ds es k (omega arith) (omega arith))
 
--- ---- a row and its cells
+-- ---- a row and its fields
 
-limits_chained : (before : Cell) (limits : List ℕ) (cells : List Cell) → AreChained before limits cells → limits_in cells ≡ limits
+limits_chained : (before : Field) (limits : List ℕ) (fields : List Field) → AreChained before limits fields → limits_in fields ≡ limits
 limits_chained before [] [] chained = refl
-limits_chained before [] (cell ∷ cells) chained = absurd chained
+limits_chained before [] (field ∷ fields) chained = absurd chained
 limits_chained before (l ∷ limits) [] chained = absurd chained
-limits_chained before (l ∷ limits) (cell ∷ cells) chained = ap (λ m. m ∷ limits_in cells) chained.0.greatest ∙ ap (λ ms. l ∷ ms) (limits_chained cell limits cells chained.1)
+limits_chained before (l ∷ limits) (field ∷ fields) chained = ap (λ m. m ∷ limits_in fields) chained.0.greatest ∙ ap (λ ms. l ∷ ms) (limits_chained field limits fields chained.1)
 
-pub limits_packed : (limits : List ℕ) (cells : List Cell) → ArePacked limits cells → limits_in cells ≡ 1 ∷ limits
-limits_packed limits cells packed = limits_chained start (1 ∷ limits) cells (chained_from_start limits cells packed)
+pub limits_packed : (limits : List ℕ) (fields : List Field) → ArePacked limits fields → limits_in fields ≡ 1 ∷ limits
+limits_packed limits fields packed = limits_chained start (1 ∷ limits) fields (chained_from_start limits fields packed)
 
-last_of-start : (limits : List ℕ) (cells : List Cell) → ArePacked limits cells → last_of start cells ≡ last_cell cells
+last_of-start : (limits : List ℕ) (fields : List Field) → ArePacked limits fields → last_of start fields ≡ last_field fields
 last_of-start limits [] packed = absurd packed
-last_of-start limits (cell ∷ cells) packed = refl
+last_of-start limits (field ∷ fields) packed = refl
 
--- a number in the places of the words and in those of the cells, where one digit and one word are replaced
+-- a number in the places of the words and in those of the fields, where one digit and one word are replaced
 same_value :
     (v tw t s hw w d x by a b : ℕ) → t ≡ tw + s → s ≤ 64 → v / 2 ^ tw ≡ hw * 2 ^ 64 + w → x ≡ (w / 2 ^ s + by) * 2 ^ s
     → a + w * 2 ^ tw ≡ (v / 2 ^ tw + x) * 2 ^ tw → b + d * 2 ^ t ≡ (v / 2 ^ t + (d + by)) * 2 ^ t → a ≡ b
@@ -113,37 +114,37 @@ same_value v tw t s hw w d x by a b place room front is words digits =
     let second : b ≡ (hw * 2 ^ r + y) * (2 ^ tw * 2 ^ s) = omega (arith, digits, right, right_places) in
     omega (arith, first, second)
 
-module _ (n : ℕ) (cells : List Cell) (are : AreCells n cells) where
-  chain : AreChained start (limits_in cells) cells
-  chain = subst (λ ls. AreChained start ls cells) (sym (limits_packed (entry_limits cells) cells are.packed)) (chained_from_start (entry_limits cells) cells are.packed)
+module _ (n : ℕ) (fields : List Field) (are : AreFields n fields) where
+  chain : AreChained start (limits_in fields) fields
+  chain = subst (λ ls. AreChained start ls fields) (sym (limits_packed (entry_limits fields) fields are.packed)) (chained_from_start (entry_limits fields) fields are.packed)
 
-  last_in : (last_of start cells).word < n
-  last_in = subst (λ cell. cell.word < n) (sym (last_of-start (entry_limits cells) cells are.packed)) are.room
+  last_in : (last_of start fields).word < n
+  last_in = subst (λ field. field.word < n) (sym (last_of-start (entry_limits fields) fields are.packed)) are.room
 
-  pub cells_inside : (k : ℕ) → k < length cells → IsInside n (get_or cells k top_cell)
-  cells_inside k l = inside_at n start (limits_in cells) cells k chain last_in l
+  pub fields_inside : (k : ℕ) → k < length fields → IsInside n (get_or fields k top_field)
+  fields_inside k l = inside_at n start (limits_in fields) fields k chain last_in l
 
-  pub cells_some : 0 < length cells
-  cells_some = omega (arith, ap length (limits_packed (entry_limits cells) cells are.packed), length-map cells (λ cell. cell.limit))
+  pub fields_some : 0 < length fields
+  fields_some = omega (arith, ap length (limits_packed (entry_limits fields) fields are.packed), length-map fields (λ field. field.limit))
 
-  pub cell_wide : (k : ℕ) → k < length cells → get_or (limits_in cells) k 0 < 2 ^ (get_or cells k top_cell).bits
-  cell_wide k l = (limit_at n start (limits_in cells) cells k chain l).0
+  pub field_wide : (k : ℕ) → k < length fields → get_or (limits_in fields) k 0 < 2 ^ (get_or fields k top_field).bits
+  field_wide k l = (limit_at n start (limits_in fields) fields k chain l).0
 
   word_gap : (row : List ℕ) → length row ≡ n → (j s : ℕ) → j < n → s ≤ 64 → (i : ℕ) → i < j → get_or (word_places n) j 0 + s ≤ get_or (word_places n) i 0
   word_gap row size j s l room i m = omega (arith, word_places-at n j l, word_places-at n i (omega arith))
 
-  cell_gap : (k b : ℕ) → k < length cells → b ≤ (get_or cells k top_cell).bits → (i : ℕ) → i < k → get_or (cell_places n cells) k 0 + b ≤ get_or (cell_places n cells) i 0
-  cell_gap k b l few i m =
-      omega (arith, cell_places-at n cells k l, cell_places-at n cells i (omega arith), gap_at n start (limits_in cells) cells k i chain last_in l m)
+  field_gap : (k b : ℕ) → k < length fields → b ≤ (get_or fields k top_field).bits → (i : ℕ) → i < k → get_or (field_places n fields) k 0 + b ≤ get_or (field_places n fields) i 0
+  field_gap k b l few i m =
+      omega (arith, field_places-at n fields k l, field_places-at n fields i (omega arith), gap_at n start (limits_in fields) fields k i chain last_in l m)
 
   words_in : (row : List ℕ) → length row ≡ n → ((j : ℕ) → j < n → get_or row j 0 < 2 ^ 64) → AreWithin (64 * n) (word_places n) row
   words_in row size small = subst (λ m. AreWithin (64 * m) (word_places m) row) size (words_within row (λ j l. small j (omega (arith, l, size))))
 
-  digits_in_places : (ds : List ℕ) → AreAtMost (limits_in cells) ds → AreWithin (place_of n start) (cell_places n cells) ds
-  digits_in_places ds small = digits_within n start (limits_in cells) cells ds (omega (arith, are.room)) chain last_in small
+  digits_in_places : (ds : List ℕ) → AreAtMost (limits_in fields) ds → AreWithin (place_of n start) (field_places n fields) ds
+  digits_in_places ds small = digits_within n start (limits_in fields) fields ds (omega (arith, are.room)) chain last_in small
 
-  length-cell_places : length (cell_places n cells) ≡ length cells
-  length-cell_places = length-map cells (λ cell. 64 * (n - 1 - cell.word) + cell.shift)
+  length-field_places : length (field_places n fields) ≡ length fields
+  length-field_places = length-map fields (λ field. 64 * (n - 1 - field.word) + field.shift)
 
   -- the front of a row down to a word
   word_front : (row : List ℕ) → length row ≡ n → ((j : ℕ) → j < n → get_or row j 0 < 2 ^ 64) → (j : ℕ) → j < n → (h : ℕ) × (value (word_places n) row / 2 ^ (64 * (n - 1 - j)) ≡ h * 2 ^ 64 + get_or row j 0)
@@ -151,64 +152,64 @@ module _ (n : ℕ) (cells : List Cell) (are : AreCells n cells) where
       let front = front_ends (64 * n) (word_places n) row j 64 (words_in row size small) (omega (arith, length-word_places n)) (word_gap row size j 64 l (omega arith)) in
       (front.0, ap (λ m. value (word_places n) row / 2 ^ m) (sym (word_places-at n j l)) ∙ front.1)
 
-  -- what stands in the cells of a row that is the number of these digits
+  -- what stands in the fields of a row that is the number of these digits
   pub read_at :
-      (row ds : List ℕ) → length row ≡ n → ((j : ℕ) → j < n → get_or row j 0 < 2 ^ 64) → AreAtMost (limits_in cells) ds → value (word_places n) row ≡ value (cell_places n cells) ds
-      → (k : ℕ) → k < length cells → digit_in row (get_or cells k top_cell) ≡ get_or ds k 0
+      (row ds : List ℕ) → length row ≡ n → ((j : ℕ) → j < n → get_or row j 0 < 2 ^ 64) → AreAtMost (limits_in fields) ds → value (word_places n) row ≡ value (field_places n fields) ds
+      → (k : ℕ) → k < length fields → digit_in row (get_or fields k top_field) ≡ get_or ds k 0
   read_at row ds size small fits whole k l =
-      let cell = get_or cells k top_cell in
-      let inside = cells_inside k l in
-      let words = word_front row size small cell.word inside.word in
-      let digits = front_ends (place_of n start) (cell_places n cells) ds k cell.bits (digits_in_places ds fits) (omega (arith, length-cell_places)) (cell_gap k cell.bits l (omega arith)) in
-      let ends = ap (λ m. m / 2 ^ place_of n cell) whole ∙ ap (λ m. value (cell_places n cells) ds / 2 ^ m) (sym (cell_places-at n cells k l)) ∙ digits.1 in
-      let long = length-at_most (limits_in cells) ds fits in
-      let below = at_most_at (limits_in cells) ds k fits (omega (arith, long, length-map cells (λ c. c.limit))) in
-      digit_is (value (word_places n) row) (64 * (n - 1 - cell.word)) (place_of n cell) cell.shift cell.bits words.0 (get_or row cell.word 0) digits.0 (get_or ds k 0)
-      refl inside.within (omega (arith, below, cell_wide k l)) words.1 ends
+      let field = get_or fields k top_field in
+      let inside = fields_inside k l in
+      let words = word_front row size small field.word inside.word in
+      let digits = front_ends (place_of n start) (field_places n fields) ds k field.bits (digits_in_places ds fits) (omega (arith, length-field_places)) (field_gap k field.bits l (omega arith)) in
+      let ends = ap (λ m. m / 2 ^ place_of n field) whole ∙ ap (λ m. value (field_places n fields) ds / 2 ^ m) (sym (field_places-at n fields k l)) ∙ digits.1 in
+      let long = length-at_most (limits_in fields) ds fits in
+      let below = at_most_at (limits_in fields) ds k fits (omega (arith, long, length-map fields (λ c. c.limit))) in
+      digit_is (value (word_places n) row) (64 * (n - 1 - field.word)) (place_of n field) field.shift field.bits words.0 (get_or row field.word 0) digits.0 (get_or ds k 0)
+      refl inside.within (omega (arith, below, field_wide k l)) words.1 ends
 
   pub digits_are :
-      (row ds : List ℕ) → length row ≡ n → ((j : ℕ) → j < n → get_or row j 0 < 2 ^ 64) → AreAtMost (limits_in cells) ds → value (word_places n) row ≡ value (cell_places n cells) ds
-      → digits_in cells row ≡ ds
+      (row ds : List ℕ) → length row ≡ n → ((j : ℕ) → j < n → get_or row j 0 < 2 ^ 64) → AreAtMost (limits_in fields) ds → value (word_places n) row ≡ value (field_places n fields) ds
+      → digits_in fields row ≡ ds
   digits_are row ds size small fits whole =
-      same_number_lists (digits_in cells row) ds
-      (length-map cells (digit_in row) ∙ sym (length-map cells (λ c. c.limit)) ∙ sym (length-at_most (limits_in cells) ds fits))
+      same_number_lists (digits_in fields row) ds
+      (length-map fields (digit_in row) ∙ sym (length-map fields (λ c. c.limit)) ∙ sym (length-at_most (limits_in fields) ds fits))
       (λ k l.
-      let within : k < length cells = omega (arith, l, length-map cells (digit_in row)) in
-      get_or-map (digit_in row) cells k top_cell 0 within ∙ read_at row ds size small fits whole k within)
+      let within : k < length fields = omega (arith, l, length-map fields (digit_in row)) in
+      get_or-map (digit_in row) fields k top_field 0 within ∙ read_at row ds size small fits whole k within)
 
-  module _ (row : List ℕ) (size : length row ≡ n) (packed : IsPackedRow cells row) where
+  module _ (row : List ℕ) (size : length row ≡ n) (packed : IsPackedRow fields row) where
     small_words : (j : ℕ) → j < n → get_or row j 0 < 2 ^ 64
     small_words j l = packed.small j (omega (arith, size))
 
-    whole_row : value (word_places n) row ≡ value (cell_places n cells) (digits_in cells row)
-    whole_row = subst (λ m. value (word_places m) row ≡ value (cell_places m cells) (digits_in cells row)) size packed.whole
+    whole_row : value (word_places n) row ≡ value (field_places n fields) (digits_in fields row)
+    whole_row = subst (λ m. value (word_places m) row ≡ value (field_places m fields) (digits_in fields row)) size packed.whole
 
-    pub length-digits : length (digits_in cells row) ≡ length cells
-    length-digits = length-map cells (digit_in row)
+    pub length-digits : length (digits_in fields row) ≡ length fields
+    length-digits = length-map fields (digit_in row)
 
     -- a digit raised by `by` (0 or 1), and all behind it cleared
-    module _ (k by m z : ℕ) (l : k < length cells) (fits : get_or (digits_in cells row) k 0 + by ≤ get_or (limits_in cells) k 0) (free : 0 < k → get_or (digits_in cells row) 0 0 ≡ 0)
-        (behind : m + suc k ≡ length cells) (words_behind : z + suc (get_or cells k top_cell).word ≡ n) where
+    module _ (k by m z : ℕ) (l : k < length fields) (fits : get_or (digits_in fields row) k 0 + by ≤ get_or (limits_in fields) k 0) (free : 0 < k → get_or (digits_in fields row) 0 0 ≡ 0)
+        (behind : m + suc k ≡ length fields) (words_behind : z + suc (get_or fields k top_field).word ≡ n) where
       abbrev pub new_word : ℕ
-      new_word = (get_or row (get_or cells k top_cell).word 0 / 2 ^ (get_or cells k top_cell).shift + by) * 2 ^ (get_or cells k top_cell).shift
+      new_word = (get_or row (get_or fields k top_field).word 0 / 2 ^ (get_or fields k top_field).shift + by) * 2 ^ (get_or fields k top_field).shift
 
       abbrev pub new_row : List ℕ
-      new_row = take (get_or cells k top_cell).word row ++ new_word ∷ replicate z 0
+      new_row = take (get_or fields k top_field).word row ++ new_word ∷ replicate z 0
 
       abbrev pub new_digits : List ℕ
-      new_digits = take k (digits_in cells row) ++ (get_or (digits_in cells row) k 0 + by) ∷ replicate m 0
+      new_digits = take k (digits_in fields row) ++ (get_or (digits_in fields row) k 0 + by) ∷ replicate m 0
 
       pub word_small : new_word < 2 ^ 64
       word_small =
-          let cell = get_or cells k top_cell in
-          let inside = cells_inside k l in
-          let read = get_or-map (digit_in row) cells k top_cell 0 l in
-          word_fits (get_or row cell.word 0) cell.shift cell.bits by (small_words cell.word inside.word) inside.within (omega (arith, read, fits, cell_wide k l))
+          let field = get_or fields k top_field in
+          let inside = fields_inside k l in
+          let read = get_or-map (digit_in row) fields k top_field 0 l in
+          word_fits (get_or row field.word 0) field.shift field.bits by (small_words field.word inside.word) inside.within (omega (arith, read, fits, field_wide k l))
 
       new_small : (j : ℕ) → j < n → get_or new_row j 0 < 2 ^ 64
       new_small j j_in =
-          let word = (get_or cells k top_cell).word in
-          let front = length-take-le word row (omega (arith, size, (cells_inside k l).word)) in
+          let word = (get_or fields k top_field).word in
+          let front = length-take-le word row (omega (arith, size, (fields_inside k l).word)) in
           elim (cases_order j word) [
             | inl same ↦
                 let at = get_or_at (take word row) new_word (replicate z 0) 0 j (front ∙ sym same) in omega (arith, at, word_small)
@@ -225,64 +226,64 @@ module _ (n : ℕ) (cells : List Cell) (are : AreCells n cells) where
           ]
 
       pub length-new_row : length new_row ≡ n
-      length-new_row = length_replaced row (get_or cells k top_cell).word z new_word (words_behind ∙ sym size) ∙ size
+      length-new_row = length_replaced row (get_or fields k top_field).word z new_word (words_behind ∙ sym size) ∙ size
 
-      new_at_most : AreAtMost (limits_in cells) new_digits
-      new_at_most = at_most_replaced (limits_in cells) (digits_in cells row) k m (get_or (digits_in cells row) k 0 + by) packed.limits (behind ∙ sym length-digits) fits
+      new_at_most : AreAtMost (limits_in fields) new_digits
+      new_at_most = at_most_replaced (limits_in fields) (digits_in fields row) k m (get_or (digits_in fields row) k 0 + by) packed.limits (behind ∙ sym length-digits) fits
 
-      new_whole : value (word_places n) new_row ≡ value (cell_places n cells) new_digits
+      new_whole : value (word_places n) new_row ≡ value (field_places n fields) new_digits
       new_whole =
-          let cell = get_or cells k top_cell in
-          let inside = cells_inside k l in
-          let front = word_front row size small_words cell.word inside.word in
+          let field = get_or fields k top_field in
+          let inside = fields_inside k l in
+          let front = word_front row size small_words field.word inside.word in
           let v = value (word_places n) row in
-          let words_at = value-replaced (64 * n) (word_places n) row cell.word z new_word (words_in row size small_words) (words_behind ∙ sym (length-word_places n)) in
-          let words = subst (λ t. value (word_places n) new_row + get_or row cell.word 0 * 2 ^ t ≡ (v / 2 ^ t + new_word) * 2 ^ t) (word_places-at n cell.word inside.word) words_at in
-          let digits_at = value-replaced (place_of n start) (cell_places n cells) (digits_in cells row) k m (get_or (digits_in cells row) k 0 + by) (digits_in_places (digits_in cells row) packed.limits) (behind ∙ sym length-cell_places) in
-          let digits_t = subst (λ t. value (cell_places n cells) new_digits + get_or (digits_in cells row) k 0 * 2 ^ t ≡ (value (cell_places n cells) (digits_in cells row) / 2 ^ t + (get_or (digits_in cells row) k 0 + by)) * 2 ^ t) (cell_places-at n cells k l) digits_at in
-          let digits = subst (λ u. value (cell_places n cells) new_digits + get_or (digits_in cells row) k 0 * 2 ^ place_of n cell ≡ (u / 2 ^ place_of n cell + (get_or (digits_in cells row) k 0 + by)) * 2 ^ place_of n cell) (sym whole_row) digits_t in
-          same_value v (64 * (n - 1 - cell.word)) (place_of n cell) cell.shift front.0 (get_or row cell.word 0) (get_or (digits_in cells row) k 0) new_word by
-          (value (word_places n) new_row) (value (cell_places n cells) new_digits) refl (omega (arith, inside.room)) front.1 refl words digits
+          let words_at = value-replaced (64 * n) (word_places n) row field.word z new_word (words_in row size small_words) (words_behind ∙ sym (length-word_places n)) in
+          let words = subst (λ t. value (word_places n) new_row + get_or row field.word 0 * 2 ^ t ≡ (v / 2 ^ t + new_word) * 2 ^ t) (word_places-at n field.word inside.word) words_at in
+          let digits_at = value-replaced (place_of n start) (field_places n fields) (digits_in fields row) k m (get_or (digits_in fields row) k 0 + by) (digits_in_places (digits_in fields row) packed.limits) (behind ∙ sym length-field_places) in
+          let digits_t = subst (λ t. value (field_places n fields) new_digits + get_or (digits_in fields row) k 0 * 2 ^ t ≡ (value (field_places n fields) (digits_in fields row) / 2 ^ t + (get_or (digits_in fields row) k 0 + by)) * 2 ^ t) (field_places-at n fields k l) digits_at in
+          let digits = subst (λ u. value (field_places n fields) new_digits + get_or (digits_in fields row) k 0 * 2 ^ place_of n field ≡ (u / 2 ^ place_of n field + (get_or (digits_in fields row) k 0 + by)) * 2 ^ place_of n field) (sym whole_row) digits_t in
+          same_value v (64 * (n - 1 - field.word)) (place_of n field) field.shift front.0 (get_or row field.word 0) (get_or (digits_in fields row) k 0) new_word by
+          (value (word_places n) new_row) (value (field_places n fields) new_digits) refl (omega (arith, inside.room)) front.1 refl words digits
 
-      pub digits-new_row : digits_in cells new_row ≡ new_digits
+      pub digits-new_row : digits_in fields new_row ≡ new_digits
       digits-new_row = digits_are new_row new_digits length-new_row new_small new_at_most new_whole
 
       new_top : get_or new_digits 0 0 ≢ 0 → (i : ℕ) → 0 < i → get_or new_digits i 0 ≡ 0
       new_top set i some =
           elim (cases_lt 0 k) [
-            | inl later ↦ absurd (set (head_replaced (digits_in cells row) k m (get_or (digits_in cells row) k 0 + by) later (behind ∙ sym length-digits) ∙ free later))
+            | inl later ↦ absurd (set (head_replaced (digits_in fields row) k m (get_or (digits_in fields row) k 0 + by) later (behind ∙ sym length-digits) ∙ free later))
             | inr first ↦
                 let e : k ≡ 0 = omega arith in
-                subst (λ j. get_or (take j (digits_in cells row) ++ (get_or (digits_in cells row) k 0 + by) ∷ replicate m 0) i 0 ≡ 0) (sym e) (tail_zero (get_or (digits_in cells row) k 0 + by) m i some)
+                subst (λ j. get_or (take j (digits_in fields row) ++ (get_or (digits_in fields row) k 0 + by) ∷ replicate m 0) i 0 ≡ 0) (sym e) (tail_zero (get_or (digits_in fields row) k 0 + by) m i some)
           ]
 
-      pub packed-new_row : IsPackedRow cells new_row
+      pub packed-new_row : IsPackedRow fields new_row
       packed-new_row = record {
         small = λ j j_in. new_small j (omega (arith, j_in, length-new_row));
         whole =
-            subst (λ q. value (word_places q) new_row ≡ value (cell_places q cells) (digits_in cells new_row)) (sym length-new_row)
-            (new_whole ∙ ap (value (cell_places n cells)) (sym digits-new_row));
-        limits = subst (AreAtMost (limits_in cells)) (sym digits-new_row) new_at_most;
+            subst (λ q. value (word_places q) new_row ≡ value (field_places q fields) (digits_in fields new_row)) (sym length-new_row)
+            (new_whole ∙ ap (value (field_places n fields)) (sym digits-new_row));
+        limits = subst (AreAtMost (limits_in fields)) (sym digits-new_row) new_at_most;
         top = λ set i some. ap (λ ds. get_or ds i 0) digits-new_row ∙ new_top (λ e. set (ap (λ ds. get_or ds 0 0) digits-new_row ∙ e)) i some;
       }
 
-  -- two rows compare on the words down to a cell as their digits do
+  -- two rows compare on the words down to a field as their digits do
   pub front_order-digits :
-      (a b : List ℕ) → length a ≡ n → length b ≡ n → IsPackedRow cells a → IsPackedRow cells b → (k : ℕ) → k < length cells
-      → front_order (get_or cells k top_cell).word (get_or cells k top_cell).shift a b ≡ slice_cmp nat_cmp (take (suc k) (digits_in cells a)) (take (suc k) (digits_in cells b))
+      (a b : List ℕ) → length a ≡ n → length b ≡ n → IsPackedRow fields a → IsPackedRow fields b → (k : ℕ) → k < length fields
+      → front_order (get_or fields k top_field).word (get_or fields k top_field).shift a b ≡ slice_cmp nat_cmp (take (suc k) (digits_in fields a)) (take (suc k) (digits_in fields b))
   front_order-digits a b a_size b_size a_is b_is k l =
-      let cell = get_or cells k top_cell in
-      let inside = cells_inside k l in
+      let field = get_or fields k top_field in
+      let inside = fields_inside k l in
       let words =
-      front_order-value (64 * n) (word_places n) a b cell.word cell.shift (words_in a a_size (small_words a a_size a_is)) (words_in b b_size (small_words b b_size b_is))
-      (omega (arith, length-word_places n, inside.word)) (word_gap a a_size cell.word cell.shift inside.word (omega (arith, inside.room))) in
+      front_order-value (64 * n) (word_places n) a b field.word field.shift (words_in a a_size (small_words a a_size a_is)) (words_in b b_size (small_words b b_size b_is))
+      (omega (arith, length-word_places n, inside.word)) (word_gap a a_size field.word field.shift inside.word (omega (arith, inside.room))) in
       let digits =
-      front_order-value (place_of n start) (cell_places n cells) (digits_in cells a) (digits_in cells b) k 0 (digits_in_places (digits_in cells a) a_is.limits) (digits_in_places (digits_in cells b) b_is.limits)
-      (omega (arith, length-cell_places)) (cell_gap k 0 l (omega arith)) in
-      let place : get_or (word_places n) cell.word 0 + cell.shift ≡ get_or (cell_places n cells) k 0 + 0 = omega (arith, word_places-at n cell.word inside.word, cell_places-at n cells k l) in
+      front_order-value (place_of n start) (field_places n fields) (digits_in fields a) (digits_in fields b) k 0 (digits_in_places (digits_in fields a) a_is.limits) (digits_in_places (digits_in fields b) b_is.limits)
+      (omega (arith, length-field_places)) (field_gap k 0 l (omega arith)) in
+      let place : get_or (word_places n) field.word 0 + field.shift ≡ get_or (field_places n fields) k 0 + 0 = omega (arith, word_places-at n field.word inside.word, field_places-at n fields k l) in
       words
       ∙ ap (λ t. nat_cmp (value (word_places n) a / 2 ^ t) (value (word_places n) b / 2 ^ t)) place
-      ∙ ap (λ v. nat_cmp (v / 2 ^ (get_or (cell_places n cells) k 0 + 0)) (value (word_places n) b / 2 ^ (get_or (cell_places n cells) k 0 + 0))) (whole_row a a_size a_is)
-      ∙ ap (λ v. nat_cmp (value (cell_places n cells) (digits_in cells a) / 2 ^ (get_or (cell_places n cells) k 0 + 0)) (v / 2 ^ (get_or (cell_places n cells) k 0 + 0))) (whole_row b b_size b_is)
+      ∙ ap (λ v. nat_cmp (v / 2 ^ (get_or (field_places n fields) k 0 + 0)) (value (word_places n) b / 2 ^ (get_or (field_places n fields) k 0 + 0))) (whole_row a a_size a_is)
+      ∙ ap (λ v. nat_cmp (value (field_places n fields) (digits_in fields a) / 2 ^ (get_or (field_places n fields) k 0 + 0)) (v / 2 ^ (get_or (field_places n fields) k 0 + 0))) (whole_row b b_size b_is)
       ∙ sym digits
-      ∙ front_order-next (digits_in cells a) (digits_in cells b) k (omega (arith, length-digits a a_size a_is)) (omega (arith, length-digits b b_size b_is))
+      ∙ front_order-next (digits_in fields a) (digits_in fields b) k (omega (arith, length-digits a a_size a_is)) (omega (arith, length-digits b b_size b_is))

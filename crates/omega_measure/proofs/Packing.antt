@@ -1,3 +1,4 @@
+-- Fields one behind another, and as many bits as a limit needs.
 use Rattle.std.proofs.Common.{◌≡◌, ℕ, zero, suc, ◌+◌, ◌-◌, ◌*◌, ◌/◌, ◌%◌, ◌^◌, ◌<◌, ◌≤◌, List, [], ◌∷◌, ◌++◌, length, get_or, take, sym, refl, ap, ◌∙◌, subst, arith}
 use Rattle.std.specs.Int.Count.{count_leading_zeros}
 use Rattle.std.proofs.Math.Pow.{pow_mono}
@@ -5,8 +6,8 @@ use Rattle.std.proofs.lemmas.Nat.{leading_length, pow_pos, pow-add, mul-le, shr-
 use Rattle.std.specs.Prelude.{bit_and}
 use Rattle.std.proofs.Math.Nat.{mul_assoc}
 use Rattle.std.proofs.lemmas.List.{take_more, get_or-map}
-use Rattle.omega_measure.specs.declared.cell.Cell.{Cell}
-use Rattle.omega_measure.specs.Cell.{AreAtMost, AreChained, ArePacked, FollowsCell, IsInside, cell_places, last_cell, last_of, top_cell, word_places}
+use Rattle.omega_measure.specs.declared.field.Field.{Field}
+use Rattle.omega_measure.specs.layout.Field.{AreAtMost, AreChained, ArePacked, FollowsField, IsInside, field_places, last_field, last_of, top_field, word_places}
 use Rattle.omega_measure.proofs.Digits.{AreWithin, shifted}
 
 -- how many bits a number has
@@ -16,37 +17,37 @@ bits_of limit zeros fits is =
     let e : found.0 ≡ 32 - zeros = omega (arith, found.1, is) in
     (omega (arith, found.1, is), subst (λ m. limit < 2 ^ m) e found.2, subst (λ m. 2 ^ m ≤ 2 * limit + 1) e found.3)
 
--- one more cell
-chained-push : (before : Cell) (limits : List ℕ) (cells : List Cell) (limit : ℕ) (cell : Cell) → AreChained before limits cells → FollowsCell (last_of before cells) limit cell → AreChained before (limits ++ limit ∷ []) (cells ++ cell ∷ [])
-chained-push before [] [] limit cell chained follows = (follows, tt)
-chained-push before [] (x ∷ cells) limit cell chained follows = absurd chained
-chained-push before (l ∷ limits) [] limit cell chained follows = absurd chained
-chained-push before (l ∷ limits) (x ∷ cells) limit cell chained follows = (chained.0, chained-push x limits cells limit cell chained.1 follows)
+-- one more field
+chained-push : (before : Field) (limits : List ℕ) (fields : List Field) (limit : ℕ) (field : Field) → AreChained before limits fields → FollowsField (last_of before fields) limit field → AreChained before (limits ++ limit ∷ []) (fields ++ field ∷ [])
+chained-push before [] [] limit field chained follows = (follows, tt)
+chained-push before [] (x ∷ fields) limit field chained follows = absurd chained
+chained-push before (l ∷ limits) [] limit field chained follows = absurd chained
+chained-push before (l ∷ limits) (x ∷ fields) limit field chained follows = (chained.0, chained-push x limits fields limit field chained.1 follows)
 
-last_of-push : (before : Cell) (cells : List Cell) (cell : Cell) → last_of before (cells ++ cell ∷ []) ≡ cell
-last_of-push before [] cell = refl
-last_of-push before (x ∷ cells) cell = last_of-push x cells cell
+last_of-push : (before : Field) (fields : List Field) (field : Field) → last_of before (fields ++ field ∷ []) ≡ field
+last_of-push before [] field = refl
+last_of-push before (x ∷ fields) field = last_of-push x fields field
 
-packed-push : (limits : List ℕ) (cells : List Cell) (limit : ℕ) (cell : Cell) → ArePacked limits cells → FollowsCell (last_cell cells) limit cell → ArePacked (limits ++ limit ∷ []) (cells ++ cell ∷ [])
-packed-push limits [] limit cell packed follows = absurd packed
-packed-push limits (x ∷ cells) limit cell packed follows = (packed.0, chained-push x limits cells limit cell packed.1 follows)
+packed-push : (limits : List ℕ) (fields : List Field) (limit : ℕ) (field : Field) → ArePacked limits fields → FollowsField (last_field fields) limit field → ArePacked (limits ++ limit ∷ []) (fields ++ field ∷ [])
+packed-push limits [] limit field packed follows = absurd packed
+packed-push limits (x ∷ fields) limit field packed follows = (packed.0, chained-push x limits fields limit field packed.1 follows)
 
-pub last_cell-push : (cells : List Cell) (cell : Cell) → last_cell (cells ++ cell ∷ []) ≡ cell
-last_cell-push [] cell = refl
-last_cell-push (x ∷ cells) cell = last_of-push x cells cell
+pub last_field-push : (fields : List Field) (field : Field) → last_field (fields ++ field ∷ []) ≡ field
+last_field-push [] field = refl
+last_field-push (x ∷ fields) field = last_of-push x fields field
 
-pub packed_more : (limits : List ℕ) (i : ℕ) (cells : List Cell) (last cell : Cell) → i < length limits → ArePacked (take i limits) cells → last ≡ last_cell cells → FollowsCell last (get_or limits i 0) cell → ArePacked (take (i + 1) limits) (cells ++ cell ∷ [])
-packed_more limits i cells last cell l packed is follows =
-    subst (λ ls. ArePacked ls (cells ++ cell ∷ [])) (sym (take_more limits i 0 l))
-    (packed-push (take i limits) cells (get_or limits i 0) cell packed (subst (λ before. FollowsCell before (get_or limits i 0) cell) is follows))
+pub packed_more : (limits : List ℕ) (i : ℕ) (fields : List Field) (last field : Field) → i < length limits → ArePacked (take i limits) fields → last ≡ last_field fields → FollowsField last (get_or limits i 0) field → ArePacked (take (i + 1) limits) (fields ++ field ∷ [])
+packed_more limits i fields last field l packed is follows =
+    subst (λ ls. ArePacked ls (fields ++ field ∷ [])) (sym (take_more limits i 0 l))
+    (packed-push (take i limits) fields (get_or limits i 0) field packed (subst (λ before. FollowsField before (get_or limits i 0) field) is follows))
 
--- ---- cells one behind another
+-- ---- fields one behind another
 
--- a cell without bits, before the first
-abbrev pub start : Cell
+-- a field without bits, before the first
+abbrev pub start : Field
 start = record { word = 0; shift = 64; bits = 0; limit = 0 }
 
-top-follows : FollowsCell start 1 top_cell
+top-follows : FollowsField start 1 top_field
 top-follows = record {
   greatest = refl;
   wide = omega arith;
@@ -57,85 +58,85 @@ top-follows = record {
   behind = omega arith;
 }
 
-pub chained_from_start : (limits : List ℕ) (cells : List Cell) → ArePacked limits cells → AreChained start (1 ∷ limits) cells
+pub chained_from_start : (limits : List ℕ) (fields : List Field) → ArePacked limits fields → AreChained start (1 ∷ limits) fields
 chained_from_start limits [] packed = absurd packed
-chained_from_start limits (x ∷ cells) packed = (subst (λ cell. FollowsCell start 1 cell) (sym packed.0) top-follows, packed.1)
+chained_from_start limits (x ∷ fields) packed = (subst (λ field. FollowsField start 1 field) (sym packed.0) top-follows, packed.1)
 
-word-le-last : (before : Cell) (limits : List ℕ) (cells : List Cell) → before.shift < 64 → AreChained before limits cells → before.word ≤ (last_of before cells).word
+word-le-last : (before : Field) (limits : List ℕ) (fields : List Field) → before.shift < 64 → AreChained before limits fields → before.word ≤ (last_of before fields).word
 word-le-last before limits [] room chained = omega arith
-word-le-last before [] (cell ∷ cells) room chained = absurd chained
-word-le-last before (l ∷ limits) (cell ∷ cells) room chained =
-    let rest = word-le-last cell limits cells chained.0.room chained.1 in omega (arith, rest, chained.0.behind)
+word-le-last before [] (field ∷ fields) room chained = absurd chained
+word-le-last before (l ∷ limits) (field ∷ fields) room chained =
+    let rest = word-le-last field limits fields chained.0.room chained.1 in omega (arith, rest, chained.0.behind)
 
--- the place of a cell in a row of n words
-abbrev pub place_of : ℕ → Cell → ℕ
-place_of n cell = 64 * (n - 1 - cell.word) + cell.shift
+-- the place of a field in a row of n words
+abbrev pub place_of : ℕ → Field → ℕ
+place_of n field = 64 * (n - 1 - field.word) + field.shift
 
-place_behind : (n : ℕ) (before cell : Cell) (limit : ℕ) → before.word < n → cell.word < n → FollowsCell before limit cell → place_of n cell + cell.bits ≤ place_of n before
-place_behind n before cell limit b_in c_in follows = omega (arith, follows.behind)
+place_behind : (n : ℕ) (before field : Field) (limit : ℕ) → before.word < n → field.word < n → FollowsField before limit field → place_of n field + field.bits ≤ place_of n before
+place_behind n before field limit b_in c_in follows = omega (arith, follows.behind)
 
 module _ (n : ℕ) where
-  pub length-chained : (before : Cell) (limits : List ℕ) (cells : List Cell) → AreChained before limits cells → length cells ≡ length limits
+  pub length-chained : (before : Field) (limits : List ℕ) (fields : List Field) → AreChained before limits fields → length fields ≡ length limits
   length-chained before [] [] chained = refl
-  length-chained before [] (cell ∷ cells) chained = absurd chained
+  length-chained before [] (field ∷ fields) chained = absurd chained
   length-chained before (l ∷ limits) [] chained = absurd chained
-  length-chained before (l ∷ limits) (cell ∷ cells) chained = let rest = length-chained cell limits cells chained.1 in omega (arith, rest)
+  length-chained before (l ∷ limits) (field ∷ fields) chained = let rest = length-chained field limits fields chained.1 in omega (arith, rest)
 
-  pub inside_at : (before : Cell) (limits : List ℕ) (cells : List Cell) (k : ℕ) → AreChained before limits cells → (last_of before cells).word < n → k < length cells → IsInside n (get_or cells k top_cell)
+  pub inside_at : (before : Field) (limits : List ℕ) (fields : List Field) (k : ℕ) → AreChained before limits fields → (last_of before fields).word < n → k < length fields → IsInside n (get_or fields k top_field)
   inside_at before limits [] k chained last l = absurd (omega arith)
-  inside_at before [] (cell ∷ cells) k chained last l = absurd chained
-  inside_at before (limit ∷ limits) (cell ∷ cells) zero chained last l =
-      let word = word-le-last cell limits cells chained.0.room chained.1 in
+  inside_at before [] (field ∷ fields) k chained last l = absurd chained
+  inside_at before (limit ∷ limits) (field ∷ fields) zero chained last l =
+      let word = word-le-last field limits fields chained.0.room chained.1 in
       record { word = omega (arith, word, last); few = chained.0.few; within = chained.0.within; room = chained.0.room }
-  inside_at before (limit ∷ limits) (cell ∷ cells) (suc k) chained last l = inside_at cell limits cells k chained.1 last (omega arith)
+  inside_at before (limit ∷ limits) (field ∷ fields) (suc k) chained last l = inside_at field limits fields k chained.1 last (omega arith)
 
-  pub limit_at : (before : Cell) (limits : List ℕ) (cells : List Cell) (k : ℕ) → AreChained before limits cells → k < length cells → (get_or limits k 0 < 2 ^ (get_or cells k top_cell).bits) × ((get_or cells k top_cell).limit ≡ get_or limits k 0)
+  pub limit_at : (before : Field) (limits : List ℕ) (fields : List Field) (k : ℕ) → AreChained before limits fields → k < length fields → (get_or limits k 0 < 2 ^ (get_or fields k top_field).bits) × ((get_or fields k top_field).limit ≡ get_or limits k 0)
   limit_at before limits [] k chained l = absurd (omega arith)
-  limit_at before [] (cell ∷ cells) k chained l = absurd chained
-  limit_at before (limit ∷ limits) (cell ∷ cells) zero chained l = (chained.0.wide, chained.0.greatest)
-  limit_at before (limit ∷ limits) (cell ∷ cells) (suc k) chained l = limit_at cell limits cells k chained.1 (omega arith)
+  limit_at before [] (field ∷ fields) k chained l = absurd chained
+  limit_at before (limit ∷ limits) (field ∷ fields) zero chained l = (chained.0.wide, chained.0.greatest)
+  limit_at before (limit ∷ limits) (field ∷ fields) (suc k) chained l = limit_at field limits fields k chained.1 (omega arith)
 
-  gap_before : (before : Cell) (limits : List ℕ) (cells : List Cell) (k : ℕ) → before.word < n → AreChained before limits cells → (last_of before cells).word < n → k < length cells → place_of n (get_or cells k top_cell) + (get_or cells k top_cell).bits ≤ place_of n before
+  gap_before : (before : Field) (limits : List ℕ) (fields : List Field) (k : ℕ) → before.word < n → AreChained before limits fields → (last_of before fields).word < n → k < length fields → place_of n (get_or fields k top_field) + (get_or fields k top_field).bits ≤ place_of n before
   gap_before before limits [] k b_in chained last l = absurd (omega arith)
-  gap_before before [] (cell ∷ cells) k b_in chained last l = absurd chained
-  gap_before before (limit ∷ limits) (cell ∷ cells) zero b_in chained last l =
-      let word = word-le-last cell limits cells chained.0.room chained.1 in
-      place_behind n before cell limit b_in (omega (arith, word, last)) chained.0
-  gap_before before (limit ∷ limits) (cell ∷ cells) (suc k) b_in chained last l =
-      let word = word-le-last cell limits cells chained.0.room chained.1 in
-      let here = place_behind n before cell limit b_in (omega (arith, word, last)) chained.0 in
-      let rest = gap_before cell limits cells k (omega (arith, word, last)) chained.1 last (omega arith) in
+  gap_before before [] (field ∷ fields) k b_in chained last l = absurd chained
+  gap_before before (limit ∷ limits) (field ∷ fields) zero b_in chained last l =
+      let word = word-le-last field limits fields chained.0.room chained.1 in
+      place_behind n before field limit b_in (omega (arith, word, last)) chained.0
+  gap_before before (limit ∷ limits) (field ∷ fields) (suc k) b_in chained last l =
+      let word = word-le-last field limits fields chained.0.room chained.1 in
+      let here = place_behind n before field limit b_in (omega (arith, word, last)) chained.0 in
+      let rest = gap_before field limits fields k (omega (arith, word, last)) chained.1 last (omega arith) in
       omega (arith, here, rest)
 
-  pub gap_at : (before : Cell) (limits : List ℕ) (cells : List Cell) (k i : ℕ) → AreChained before limits cells → (last_of before cells).word < n → k < length cells → i < k → place_of n (get_or cells k top_cell) + (get_or cells k top_cell).bits ≤ place_of n (get_or cells i top_cell)
+  pub gap_at : (before : Field) (limits : List ℕ) (fields : List Field) (k i : ℕ) → AreChained before limits fields → (last_of before fields).word < n → k < length fields → i < k → place_of n (get_or fields k top_field) + (get_or fields k top_field).bits ≤ place_of n (get_or fields i top_field)
   gap_at before limits [] k i chained last l m = absurd (omega arith)
-  gap_at before [] (cell ∷ cells) k i chained last l m = absurd chained
-  gap_at before (limit ∷ limits) (cell ∷ cells) zero i chained last l m = absurd (omega arith)
-  gap_at before (limit ∷ limits) (cell ∷ cells) (suc k) zero chained last l m =
-      let word = word-le-last cell limits cells chained.0.room chained.1 in
-      gap_before cell limits cells k (omega (arith, word, last)) chained.1 last (omega arith)
-  gap_at before (limit ∷ limits) (cell ∷ cells) (suc k) (suc i) chained last l m = gap_at cell limits cells k i chained.1 last (omega arith) (omega arith)
+  gap_at before [] (field ∷ fields) k i chained last l m = absurd chained
+  gap_at before (limit ∷ limits) (field ∷ fields) zero i chained last l m = absurd (omega arith)
+  gap_at before (limit ∷ limits) (field ∷ fields) (suc k) zero chained last l m =
+      let word = word-le-last field limits fields chained.0.room chained.1 in
+      gap_before field limits fields k (omega (arith, word, last)) chained.1 last (omega arith)
+  gap_at before (limit ∷ limits) (field ∷ fields) (suc k) (suc i) chained last l m = gap_at field limits fields k i chained.1 last (omega arith) (omega arith)
 
-  pub cell_places-at : (cells : List Cell) (k : ℕ) → k < length cells → get_or (cell_places n cells) k 0 ≡ place_of n (get_or cells k top_cell)
-  cell_places-at cells k l = get_or-map (λ cell. place_of n cell) cells k top_cell 0 l
+  pub field_places-at : (fields : List Field) (k : ℕ) → k < length fields → get_or (field_places n fields) k 0 ≡ place_of n (get_or fields k top_field)
+  field_places-at fields k l = get_or-map (λ field. place_of n field) fields k top_field 0 l
 
   -- digits that keep to their limits have room
-  pub digits_within : (before : Cell) (limits : List ℕ) (cells : List Cell) (ds : List ℕ) → before.word < n → AreChained before limits cells → (last_of before cells).word < n → AreAtMost limits ds → AreWithin (place_of n before) (cell_places n cells) ds
+  pub digits_within : (before : Field) (limits : List ℕ) (fields : List Field) (ds : List ℕ) → before.word < n → AreChained before limits fields → (last_of before fields).word < n → AreAtMost limits ds → AreWithin (place_of n before) (field_places n fields) ds
   digits_within before [] [] [] b_in chained last small = tt
   digits_within before [] [] (d ∷ ds) b_in chained last small = absurd small
-  digits_within before [] (cell ∷ cells) ds b_in chained last small = absurd chained
+  digits_within before [] (field ∷ fields) ds b_in chained last small = absurd chained
   digits_within before (limit ∷ limits) [] ds b_in chained last small = absurd chained
-  digits_within before (limit ∷ limits) (cell ∷ cells) [] b_in chained last small = absurd small
-  digits_within before (limit ∷ limits) (cell ∷ cells) (d ∷ ds) b_in chained last small =
-      let word = word-le-last cell limits cells chained.0.room chained.1 in
-      let c_in : cell.word < n = omega (arith, word, last) in
-      let here = place_behind n before cell limit b_in c_in chained.0 in
-      let t = place_of n cell in
-      let room = mul-le (d + 1) (2 ^ t) (2 ^ cell.bits) (2 ^ t) (omega (arith, small.0, chained.0.wide)) (omega arith) in
-      let power = pow-add 2 cell.bits t in
-      let higher : cell.bits + t ≤ place_of n before = omega (arith, here) in
+  digits_within before (limit ∷ limits) (field ∷ fields) [] b_in chained last small = absurd small
+  digits_within before (limit ∷ limits) (field ∷ fields) (d ∷ ds) b_in chained last small =
+      let word = word-le-last field limits fields chained.0.room chained.1 in
+      let c_in : field.word < n = omega (arith, word, last) in
+      let here = place_behind n before field limit b_in c_in chained.0 in
+      let t = place_of n field in
+      let room = mul-le (d + 1) (2 ^ t) (2 ^ field.bits) (2 ^ t) (omega (arith, small.0, chained.0.wide)) (omega arith) in
+      let power = pow-add 2 field.bits t in
+      let higher : field.bits + t ≤ place_of n before = omega (arith, here) in
       let larger = pow_mono higher in
-      (omega (arith, here), omega (arith, room, power, larger), digits_within cell limits cells ds c_in chained.1 last small.1)
+      (omega (arith, here), omega (arith, room, power, larger), digits_within field limits fields ds c_in chained.1 last small.1)
 
 -- ---- the words of a row
 
@@ -195,14 +196,14 @@ word_fits w s b by small room fits =
     let front : y + by < 2 ^ (r + b) = omega (arith, product, power, shr_split y b, fits) in
     subst (λ m. (y + by) * 2 ^ s < 2 ^ m) (sym whole) (shl_below (y + by) (r + b) s front)
 
--- the last cell by its place
-pub last_cell-at : (cells : List Cell) (d : Cell) → 0 < length cells → get_or cells (length cells - 1) d ≡ last_cell cells
-last_cell-at [] d some = absurd (omega arith)
-last_cell-at (cell ∷ cells) d some = ap (λ k. get_or (cell ∷ cells) k d) (omega arith) ∙ at cell cells d
+-- the last field by its place
+pub last_field-at : (fields : List Field) (d : Field) → 0 < length fields → get_or fields (length fields - 1) d ≡ last_field fields
+last_field-at [] d some = absurd (omega arith)
+last_field-at (field ∷ fields) d some = ap (λ k. get_or (field ∷ fields) k d) (omega arith) ∙ at field fields d
   where
-    at : (before : Cell) (cells : List Cell) (d : Cell) → get_or (before ∷ cells) (length cells) d ≡ last_of before cells
+    at : (before : Field) (fields : List Field) (d : Field) → get_or (before ∷ fields) (length fields) d ≡ last_of before fields
     at before [] d = refl
-    at before (x ∷ cells) d = at x cells d
+    at before (x ∷ fields) d = at x fields d
 
 -- what a mask keeps
 pub masked : (x bits : ℕ) → bits < 64 → bit_and x (1 * 2 ^ bits % 2 ^ 64 - 1) ≡ x % 2 ^ bits

@@ -1,14 +1,15 @@
+-- What the calls of a table of numbers answer.
 use Rattle.std.proofs.Common.{◌≡◌, ℕ, ◌<◌, Bool, true, false, cond, List, Some, None, Ordering, length, get_or, sym, refl, ap, ◌∙◌, subst, arith}
 use Rattle.std.specs.Prelude.{◌↔◌, slice_index}
 use Rattle.std.specs.declared.cmp.Ordering.TheVariants.{Greater}
-use Rattle.omega_game.specs.Winning.{loses}
+use Rattle.omega_game.specs.Player.{loses}
 use Rattle.omega_lift.specs.Allowance.{measure_at}
 use Rattle.omega_lift.specs.Laws.{AllowancesAreLeastSufficient, AllowancesExceed}
 use Rattle.omega_lift.specs.Measure.{Measure, compare, compare_from, entries_from}
-use Rattle.omega_measure.specs.Due.{is_short}
-use Rattle.omega_measure.specs.Plain.{content_of}
-use Rattle.omega_measure.specs.Rows.{AreRows, compare_kept, measure_in}
-use Rattle.omega_measure.specs.Shape.{Borne, width_of}
+use Rattle.omega_measure.specs.layout.Due.{is_short}
+use Rattle.omega_measure.specs.layout.Plain.{content_of}
+use Rattle.omega_measure.specs.layout.Rows.{AreRows, compare_kept, measure_in}
+use Rattle.omega_measure.specs.layout.Shape.{Borne, width_of}
 use Rattle.omega_measure.specs.Table.{Content, Exceeds}
 use Rattle.omega_measure.proofs.Allowances.{due_from}
 use Rattle.omega_measure.proofs.Contents.{IsMeasure-content, length-content, measure_at-content}

@@ -1,3 +1,4 @@
+-- One row written over leaves the others.
 use Rattle.std.proofs.Common.{◌≡◌, ◌≢◌, ℕ, ◌+◌, ◌-◌, ◌*◌, ◌<◌, ◌≤◌, Bool, true, false, cond, List, Some, None, length, get_or, set, take, drop, sym, refl, ap, ◌∙◌, subst, arith, inl, inr}
 use Rattle.std.proofs.lemmas.Bool.{cases_order}
 use Rattle.std.proofs.lemmas.List.{length-set, length-take-le, length-drop, get_or-set_same, get_or-set_other, drop_at, take-take, take-append-le, drop-drop, drop-take}
@@ -6,7 +7,7 @@ use Rattle.std.proofs.lemmas.Nat.{mul-le}
 use Rattle.std.proofs.lemmas.Slice.{put_mid-paste}
 use borrow.Rule.Slice.PartMut.{put_mid}
 use lib.Seq.{paste}
-use Rattle.omega_measure.specs.Rows.{WritesMeasure, WritesRow, allowance_of, allowed, measure_in, row_of}
+use Rattle.omega_measure.specs.layout.Rows.{WritesMeasure, WritesRow, allowance_of, allowed, measure_in, row_of}
 
 -- the rows before that of v end where it begins
 pub rows_before : (u v width : ℕ) → u < v → u * width + width ≤ v * width
@@ -21,7 +22,7 @@ WritesRow-paste width old v s fits long =
     let start : v * width ≤ length old = omega arith in
     let front = take-paste old (v * width) s width start long in
     record {
-      cells = length-paste old (v * width) s width fits long;
+      count = length-paste old (v * width) s width fits long;
       written =
           row_of-slice width (paste old (v * width) s width) v ∙ ap (drop (v * width)) front
           ∙ drop_at (take (v * width) old) (take width s) (v * width) (length-take-le (v * width) old start);
@@ -61,7 +62,7 @@ pub WritesRow-put : {X : Type 0} (width : ℕ) (old : List X) (v k : ℕ) (row :
 WritesRow-put width old v k row size long fits =
     let same = put_mid-paste (v * width) k old row row width refl (sym size) (sym long) in
     let writes = subst (λ xs. WritesRow width old xs v (take width row)) (sym same) (WritesRow-paste width old v row fits (omega arith)) in
-    record { cells = writes.cells; written = refl; others = writes.others }
+    record { count = writes.count; written = refl; others = writes.others }
 
 pub measure_in-top : (width : ℕ) (tops : List Bool) (entries : List ℕ) (v : ℕ) → get_or tops v true ≡ true → measure_in width tops entries v ≡ None
 measure_in-top width tops entries v e = ap (λ b. cond b None (Some (row_of width entries v))) e
@@ -83,7 +84,7 @@ module _
   others : (u : ℕ) → u ≢ v → u < length tops → row_of (length limits) raised u ≡ row_of (length limits) entries u
   others u ne l =
       let within = rows_before u (length tops) (length limits) l in
-      raises.others u ne (omega (arith, within, copies.cells)) ∙ copies.others u ne (omega (arith, within))
+      raises.others u ne (omega (arith, within, copies.count)) ∙ copies.others u ne (omega (arith, within))
 
   towards : allowance_of strict kept limits (measure_in (length limits) tops entries w) ≡ allowed strict kept limits (row_of (length limits) copied v)
   towards = ap (allowance_of strict kept limits) (measure_in-below (length limits) tops entries w w_below) ∙ ap (allowed strict kept limits) (sym copies.written)
@@ -91,7 +92,7 @@ module _
   pub WritesMeasure-below : allowed strict kept limits (row_of (length limits) copied v) ≡ Some (row_of (length limits) raised v) → WritesMeasure (length limits) tops entries tops raised v (allowance_of strict kept limits (measure_in (length limits) tops entries w))
   WritesMeasure-below e = record {
     flags = refl;
-    cells = raises.cells ∙ copies.cells;
+    cells = raises.count ∙ copies.count;
     written = measure_in-below (length limits) tops raised v v_below ∙ sym (towards ∙ e);
     others = λ u ne l. measure_in-same (length limits) tops tops entries raised u refl (others u ne l);
   }
@@ -99,7 +100,7 @@ module _
   pub WritesMeasure-top : allowed strict kept limits (row_of (length limits) copied v) ≡ None → WritesMeasure (length limits) tops entries (set tops v true) raised v (allowance_of strict kept limits (measure_in (length limits) tops entries w))
   WritesMeasure-top e = record {
     flags = length-set tops v true;
-    cells = raises.cells ∙ copies.cells;
+    cells = raises.count ∙ copies.count;
     written = measure_in-top (length limits) (set tops v true) raised v (get_or-set_same tops v true true v_in) ∙ sym (towards ∙ e);
     others = λ u ne l. measure_in-same (length limits) tops (set tops v true) entries raised u (get_or-set_other tops v u true true ne) (others u ne l);
   }

@@ -1,3 +1,5 @@
+-- The words of tables of measures, with those of games and of lifting that they cite; what only the tables' layout needs is in layout.
+pub use Rattle.omega_text.specs.Cases
 pub use Rattle.omega_game.specs.Game
 pub use Rattle.omega_game.specs.Winning
 pub use Rattle.omega_game.specs.Bound
@@ -6,11 +8,6 @@ pub use Rattle.omega_lift.specs.Allowance
 pub use Rattle.omega_lift.specs.Run
 pub use Rattle.omega_lift.specs.Answer
 pub use Rattle.omega_lift.specs.Laws
-pub mod Groups
-pub mod Shape
+pub mod Limits
 pub mod Table
-pub mod Rows
-pub mod Plain
-pub mod Due
-pub mod Cell
-pub mod Packed
+pub mod layout

@@ -1,13 +1,14 @@
+-- Tables of measures: what one contains, which games have none, and how a measure is raised.
 use Rattle.std.specs.Prelude.{◌≡◌, ℕ, ◌*◌, Bool, true, List, length, nat_lt, slice_set, slice_index}
 use Rattle.omega_game.specs.declared.player.Player.{Player}
 use Rattle.omega_game.specs.Bound.{losing_priorities}
 use Rattle.omega_lift.specs.Measure.{Measure, IsAbove}
 use Rattle.omega_lift.specs.Allowance.{IsAllowance, measure_at}
 use Rattle.omega_lift.specs.Run.{IsTable, zero_table}
+use Rattle.omega_text.specs.Cases.{never, or_memory, or_task}
 use Rattle.omega_game.specs.declared.Refusal.{Refusal}
-use Rattle.omega_game.specs.declared.Refusal.TheVariants.{Automaton, Game, Io, Memory, Task, Text}
 use Rattle.omega_game.specs.declared.TaskFault.TheVariants.{TooWide}
-use Rattle.omega_measure.specs.declared.limits.TheConstants.{MOST_CELLS}
+use Rattle.omega_measure.specs.Limits.{most_cells}
 
 -- what a table contains: the player, the nodes' priorities by place, and a measure for each place
 pub record Content : Type 0 where
@@ -51,13 +52,9 @@ pub record Raises (old : Content) (v w : ℕ) (new : Content) : Type 0 where
 -- whether nodes times losing priorities borne are over the limit
 abbrev pub is_too_wide : Player → List ℕ → Bool
 is_too_wide player priorities =
-    nat_lt MOST_CELLS (length priorities * length (losing_priorities player priorities))
+    nat_lt most_cells (length priorities * length (losing_priorities player priorities))
 
 -- the refusal of a call that prepares a table: too many cells, or memory
 abbrev pub IsPrepareRefusal : Player → List ℕ → Refusal → Type 0
-IsPrepareRefusal player priorities (Text _) = ⊥
-IsPrepareRefusal player priorities (Game _) = ⊥
-IsPrepareRefusal player priorities (Automaton _) = ⊥
-IsPrepareRefusal player priorities (Task fault) = (fault ≡ TooWide) × (is_too_wide player priorities ≡ true)
-IsPrepareRefusal player priorities Memory = Unit {0}
-IsPrepareRefusal player priorities Io = ⊥
+IsPrepareRefusal player priorities =
+    or_task (λ fault. (fault ≡ TooWide) × (is_too_wide player priorities ≡ true)) (or_memory never)

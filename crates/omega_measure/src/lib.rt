@@ -1,9 +1,10 @@
 //! Tables of small progress measures (Jurdziński 2000), one measure for each node of a game.
 #![tactic(auto)]
 
-mod cell;
-mod cells;
 mod due;
+mod field;
+mod fields;
+mod kept;
 mod limits;
 mod losing;
 mod packed;
@@ -11,11 +12,9 @@ mod plain;
 mod rows;
 mod shape;
 mod table;
-#[cfg(test)]
-mod tests;
 mod words;
 
-pub use limits::MOST_CELLS;
+pub use limits::{MOST_CELLS, measure_limits_are_stated};
 pub use omega_game::{Game, Player, Refusal, TaskFault};
 pub use packed::PackedTable;
 pub use plain::PlainTable;

@@ -1,9 +1,9 @@
 ghost use Rattle.std.specs.Prelude.{◌≡◌, ℕ, ◌+◌, ◌<◌, length};
-ghost use Rattle.omega_measure.specs.Cell.{last_cell};
+ghost use Rattle.omega_measure.specs.layout.Field.{last_field};
 
-use crate::cell::Cell;
-use crate::cells::cells_of;
 use crate::due::is_short;
+use crate::field::Field;
+use crate::fields::fields_of;
 use crate::shape::Shape;
 use crate::table::MeasureTable;
 use crate::words::{compare_at, is_top_at, raise_at};
@@ -18,7 +18,7 @@ use std::marker::Model;
 #[derive(Drop)]
 pub struct PackedTable {
     shape: Shape,
-    cells: Vec<Cell>,
+    fields: Vec<Field>,
     size: usize,
     words: Vec<u64>,
 }
@@ -28,11 +28,11 @@ impl Model for PackedTable {
 
     ghost Value = { Content };
 
-    ghost use Rattle.omega_measure.specs.Packed.{ArePackedRows, packed_content};
+    ghost use Rattle.omega_measure.specs.layout.Packed.{ArePackedRows, packed_content};
 
-    ghost view = { λ s. packed_content s.shape s.cells.items s.size s.words.items };
+    ghost view = { λ s. packed_content s.shape s.fields.items s.size s.words.items };
 
-    ghost invariant = { λ s. ArePackedRows s.shape s.cells.items s.size s.words.items };
+    ghost invariant = { λ s. ArePackedRows s.shape s.fields.items s.size s.words.items };
 }
 
 impl MeasureTable for PackedTable {
@@ -40,12 +40,12 @@ impl MeasureTable for PackedTable {
 
     fn prepare(alloc: Global, game: &Game, player: Player) -> Result<PackedTable, Refusal> {
         let shape = Shape::prepare(alloc, game, player)?;
-        let cells = cells_of(alloc, shape.limits())?;
-        let size = row_size(&cells);
+        let fields = fields_of(alloc, shape.limits())?;
+        let size = row_size(&fields);
         let words = vec![in alloc; 0u64; shape.len() * size]?;
         Ok(PackedTable {
             shape,
-            cells,
+            fields,
             size,
             words,
         })
@@ -53,20 +53,20 @@ impl MeasureTable for PackedTable {
 
     #[inline(always)]
     fn is_top(&self, place: u32) -> bool {
-        is_top_at(&self.words, self.size, &self.cells, place as usize)
+        is_top_at(&self.words, self.size, &self.fields, place as usize)
     }
 
     #[inline(always)]
     fn compare(&self, a: u32, b: u32, p: u32) -> Ordering {
-        let cell = self.cells[self.shape.kept_from(p)];
-        compare_at(&self.words, self.size, cell, a as usize, b as usize)
+        let field = self.fields[self.shape.kept_from(p)];
+        compare_at(&self.words, self.size, field, a as usize, b as usize)
     }
 
     #[inline(always)]
     fn due(&self, v: u32, w: u32) -> bool {
-        let cell = self.cells[self.shape.kept(v)];
-        let order = compare_at(&self.words, self.size, cell, v as usize, w as usize);
-        let top = is_top_at(&self.words, self.size, &self.cells, v as usize);
+        let field = self.fields[self.shape.kept(v)];
+        let order = compare_at(&self.words, self.size, field, v as usize, w as usize);
+        let top = is_top_at(&self.words, self.size, &self.fields, v as usize);
         allowances_are_least_sufficient();
         allowances_exceed();
         is_short(order, top, self.shape.is_strict(v))
@@ -81,7 +81,7 @@ impl MeasureTable for PackedTable {
         raise_at(
             &mut self.words,
             size,
-            &self.cells,
+            &self.fields,
             kept,
             strict,
             v as usize,
@@ -91,54 +91,9 @@ impl MeasureTable for PackedTable {
 }
 
 /// How many words a row has.
-fn row_size(cells: &[Cell]) -> usize
-    requires { 0 < length cells.now }
-    ensures { result ≡ (last_cell cells.now).word + 1 }
+fn row_size(fields: &[Field]) -> usize
+    requires { 0 < length fields.now }
+    ensures { result ≡ (last_field fields.now).word + 1 }
 {
-    cells[cells.len() - 1].word as usize + 1
-}
-
-#[cfg(test)]
-mod tests {
-    use super::*;
-    use omega_game::GameBuilder;
-    use std::test::Fail;
-
-    /// The words of a row for a game in which the odd priorities from 1 on are borne by `bearers` nodes each, as far as
-    /// there are nodes, and each node is its own successor.
-    fn words_for(alloc: Global, nodes: u16, bearers: u16, player: Player) -> Result<usize, Refusal>
-        requires { 0 < bearers }
-    {
-        let mut builder = GameBuilder::new(alloc);
-        builder.add_node(0, 1, Player::Zero, 0)?;
-        for id in 1..nodes {
-            let priority = 2 * u32::from(id / bearers) + 1;
-            builder.add_node(u32::from(id), priority, Player::Zero, u32::from(id))?;
-        }
-        let table = PackedTable::prepare(alloc, &builder.finish()?, player)?;
-        Ok(table.size)
-    }
-
-    // A bit for top and one for each entry.
-    #[test]
-    fn sixty_four_bits_a_word(rt: HostRuntime) -> Result<(), Fail> {
-        assert_eq!(rt; words_for(rt.alloc(), 63, 1, Player::Zero)?, 1);
-        assert_eq!(rt; words_for(rt.alloc(), 64, 1, Player::Zero)?, 2);
-        assert_eq!(rt; words_for(rt.alloc(), 63, 1, Player::One)?, 1);
-        assert_eq!(rt; words_for(rt.alloc(), 64, 1, Player::One)?, 1);
-        Ok(())
-    }
-
-    // Four bits hold 15 and five hold 16. Twelve entries of five bits fit behind the bit for top and into each word
-    // behind the first, so that 25 take a third word, though two have bits enough.
-    #[test]
-    fn no_entry_lies_across_words(rt: HostRuntime) -> Result<(), Fail> {
-        assert_eq!(rt; words_for(rt.alloc(), 15 * 15, 15, Player::Zero)?, 1);
-        assert_eq!(rt; words_for(rt.alloc(), 16 * 15, 15, Player::Zero)?, 2);
-        assert_eq!(rt; words_for(rt.alloc(), 12 * 16, 16, Player::Zero)?, 1);
-        assert_eq!(rt; words_for(rt.alloc(), 13 * 16, 16, Player::Zero)?, 2);
-        assert_eq!(rt; words_for(rt.alloc(), 24 * 16, 16, Player::Zero)?, 2);
-        assert_eq!(rt; words_for(rt.alloc(), 25 * 16, 16, Player::Zero)?, 3);
-        Ok(())
-    }
+    fields[fields.len() - 1].word as usize + 1
 }

@@ -1,8 +1,8 @@
 ghost use Rattle.std.specs.Prelude.{◌≡◌, ◌≢◌, ℕ, ◌+◌, ◌*◌, ◌<◌, ◌≤◌, false, true, Some, None, length, take, slice_index, slice_index_or, IsTrue, MatchOption};
 ghost use Rattle.omega_lift.specs.Least.{raised};
-ghost use Rattle.omega_measure.specs.Rows.{AreAtLimits, IsLastBelow, WritesMeasure, WritesRow, allowance_of, allowed, compare_kept, measure_in, row_of};
+ghost use Rattle.omega_measure.specs.Limits.{most_cells};
+ghost use Rattle.omega_measure.specs.layout.Rows.{AreAtLimits, IsLastBelow, WritesMeasure, WritesRow, allowance_of, allowed, compare_kept, measure_in, row_of};
 
-use crate::limits::MOST_CELLS;
 use std::cmp::Ordering;
 
 /// The row of a place.
@@ -26,7 +26,7 @@ pub(crate) fn compare_at(
     requires first { a < length tops.now }
     requires second { b < length tops.now }
     requires cells { length entries.now ≡ length tops.now * width }
-    requires narrow { length tops.now * width ≤ MOST_CELLS }
+    requires narrow { length tops.now * width ≤ most_cells }
     requires within { kept ≤ width }
     ensures { result ≡ compare_kept kept (measure_in width tops.now entries.now a) (measure_in width tops.now entries.now b) }
 {

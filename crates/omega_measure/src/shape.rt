@@ -1,16 +1,17 @@
-ghost use Rattle.std.specs.Prelude.{◌≡◌, ℕ, ◌*◌, ◌<◌, ◌≤◌, false, length, map, slice_index, IsOk, IfOk, IfErr, IsOkUnless};
-ghost use Rattle.omega_game.specs.Bound.{losing_priorities};
+ghost use Rattle.std.specs.Prelude.{◌≡◌, ℕ, ◌*◌, ◌<◌, ◌≤◌, false, length, map, nat_lt, slice_index, IsOk, IfOk, IfErr, IsOkUnless};
 ghost use Rattle.omega_game.specs.Game.{priorities};
-ghost use Rattle.omega_game.specs.Winning.{loses};
+ghost use Rattle.omega_game.specs.Limits.{most_nodes};
+ghost use Rattle.omega_game.specs.Player.{loses};
 ghost use Rattle.omega_lift.specs.Least.{limits_of};
 ghost use Rattle.omega_lift.specs.Measure.{entries_from};
-ghost use Rattle.omega_measure.specs.Groups.{IsStrictlyFalling, count_from};
+ghost use Rattle.omega_measure.specs.Limits.{most_cells};
 ghost use Rattle.omega_measure.specs.Table.{IsPrepareRefusal, is_too_wide};
-ghost use Rattle.omega_measure.specs.Shape.{width_of};
+ghost use Rattle.omega_measure.specs.layout.Shape.{width_of};
 
+use crate::kept::{from_of, kept_from, kept_of};
 use crate::limits::MOST_CELLS;
-use crate::losing::{count_from, groups_of, is_losing, losing_falling};
-use omega_game::{Game, MOST_NODES, Player, Refusal, TaskFault};
+use crate::losing::losing_of;
+use omega_game::{Game, Player, PriorityCount, Refusal, TaskFault};
 use std::alloc::Global;
 use std::marker::Model;
 
@@ -22,17 +23,20 @@ pub(crate) struct Shape {
     priorities: Vec<u32>,
     losing: Vec<u32>,
     limits: Vec<u32>,
+    // How many entries are for priorities at least p, for each small p: a scan compares at each step, and a search
+    // would cost more than the comparison.
+    from: Vec<u32>,
     kept: Vec<u32>,
 }
 
 impl Model for Shape {
-    ghost use Rattle.omega_measure.specs.Shape.{Borne, IsShape};
+    ghost use Rattle.omega_measure.specs.layout.Shape.{Borne, IsShape};
 
     ghost Value = { Borne };
 
     ghost view = { λ s. record { player = s.player; priorities = s.priorities.items } };
 
-    ghost invariant = { λ s. IsShape s.player s.priorities.items s.losing.items s.limits.items s.kept.items };
+    ghost invariant = { λ s. IsShape s.player s.priorities.items s.losing.items s.limits.items s.from.items s.kept.items };
 }
 
 impl Shape {
@@ -43,16 +47,19 @@ impl Shape {
         ensures refused { IfErr result (IsPrepareRefusal player (priorities game.now)) }
     {
         let priorities = priorities_of(alloc, game)?;
-        let (losing, limits) = classes_of(alloc, &priorities, player)?;
-        if priorities.len() * losing.len() > MOST_CELLS {
+        let (losing, limits) = losing_of(alloc, game, player)?;
+        if is_too_wide(priorities.len(), losing.len()) {
             return Err(Refusal::Task(TaskFault::TooWide));
         }
-        let kept = kept_of(alloc, &priorities, &losing)?;
+        let small = small_priorities(game.priority_counts(), priorities.len() as u32);
+        let from = from_of(alloc, &losing, small)?;
+        let kept = kept_of(alloc, &priorities, &losing, &from)?;
         Ok(Shape {
             player,
             priorities,
             losing,
             limits,
+            from,
             kept,
         })
     }
@@ -60,7 +67,7 @@ impl Shape {
     /// How many places there are.
     pub(crate) fn len(&self) -> usize
         ensures count { result ≡ length self.now.priorities }
-        ensures few { result ≤ MOST_NODES }
+        ensures few { result ≤ most_nodes }
     {
         self.priorities.len()
     }
@@ -68,7 +75,7 @@ impl Shape {
     /// How many entries a measure below top has.
     pub(crate) fn width(&self) -> usize
         ensures width { result ≡ width_of self.now.player self.now.priorities }
-        ensures narrow { length self.now.priorities * result ≤ MOST_CELLS }
+        ensures narrow { length self.now.priorities * result ≤ most_cells }
     {
         self.losing.len()
     }
@@ -76,7 +83,7 @@ impl Shape {
     /// The greatest entries, that for the greatest priority first.
     pub(crate) fn limits(&self) -> &[u32]
         ensures limits { result.now ≡ limits_of self.now.player self.now.priorities }
-        ensures few { length result.now ≤ MOST_NODES }
+        ensures few { length result.now ≤ most_cells }
     {
         self.limits.as_slice()
     }
@@ -93,7 +100,7 @@ impl Shape {
     pub(crate) fn kept_from(&self, p: u32) -> usize
         ensures { result ≡ entries_from self.now.player self.now.priorities p }
     {
-        count_from(&self.losing, p)
+        kept_from(&self.losing, &self.from, p)
     }
 
     /// Whether the priority of a place loses.
@@ -101,14 +108,15 @@ impl Shape {
         requires { place < length self.now.priorities }
         ensures { result ≡ loses self.now.player (slice_index self.now.priorities place) }
     {
-        is_losing(self.player, self.priorities[place as usize])
+        self.player.loses(self.priorities[place as usize])
     }
 }
 
 /// The nodes' priorities by place.
 fn priorities_of(alloc: Global, game: &Game) -> Result<Vec<u32>, Refusal>
     ensures priorities { IfOk result (λ found. found.items ≡ priorities game.now) }
-    ensures few { IfOk result (λ found. length found.items ≤ MOST_NODES) }
+    ensures some { IfOk result (λ found. 0 < length found.items) }
+    ensures few { IfOk result (λ found. length found.items ≤ most_nodes) }
     ensures memory { IsOkUnless result Refusal.Memory }
 {
     let count = game.len() as u32;
@@ -119,33 +127,24 @@ fn priorities_of(alloc: Global, game: &Game) -> Result<Vec<u32>, Refusal>
     Ok(found)
 }
 
-/// The losing priorities that are borne, the greatest first, and how many nodes bear each.
-fn classes_of(
-    alloc: Global,
-    priorities: &[u32],
-    player: Player,
-) -> Result<(Vec<u32>, Vec<u32>), Refusal>
-    requires few { length priorities.now ≤ MOST_NODES }
-    ensures losing { IfOk result (λ found. found.0.items ≡ losing_priorities player priorities.now) }
-    ensures falling { IfOk result (λ found. IsStrictlyFalling found.0.items) }
-    ensures limits { IfOk result (λ found. found.1.items ≡ limits_of player priorities.now) }
-    ensures few { IfOk result (λ found. length found.0.items ≤ length priorities.now) }
-    ensures memory { IsOkUnless result Refusal.Memory }
+/// Whether so many nodes with so many entries each have more cells than a table may have.
+fn is_too_wide(nodes: usize, entries: usize) -> bool
+    requires { 0 < nodes }
+    ensures wide { result ≡ nat_lt most_cells (nodes * entries) }
+    ensures few { result ≡ false → entries ≤ most_cells }
 {
-    let borne = losing_falling(alloc, priorities, player)?;
-    groups_of(alloc, &borne)
+    match nodes.checked_mul(entries) {
+        Some(cells) => cells > MOST_CELLS,
+        None => true,
+    }
 }
 
-/// For each place how many of the falling numbers are at least its priority.
-fn kept_of(alloc: Global, priorities: &[u32], losing: &[u32]) -> Result<Vec<u32>, Refusal>
-    requires falling { IsStrictlyFalling losing.now }
-    requires few { length losing.now ≤ MOST_NODES }
-    ensures kept { IfOk result (λ kept. kept.items ≡ map (λ p. count_from p losing.now) priorities.now) }
-    ensures memory { IsOkUnless result Refusal.Memory }
+/// How many priorities, from 0 on, are looked up: as far as one is borne, and no more than there are nodes.
+fn small_priorities(counts: &[PriorityCount], nodes: u32) -> u32
+    ensures { result ≤ nodes }
 {
-    let mut kept = Vec::with_capacity(alloc, priorities.len())?;
-    for priority in priorities {
-        kept.push(count_from(losing, *priority) as u32)?;
+    match counts {
+        [greatest, ..] => greatest.priority.saturating_add(1).min(nodes),
+        [] => 0,
     }
-    Ok(kept)
 }

@@ -1,3 +1,4 @@
+-- Allowances grow with what they are towards.
 use Rattle.omega_lift.proofs.LeastMeasure.{allowance_is_monotone}
 use Rattle.omega_lift.proofs.allowances.allowances_are_monotone.Goals as goal
 

@@ -1,3 +1,4 @@
+-- Allowances grow strictly below top.
 use Rattle.omega_lift.proofs.LeastMeasure.{allowance_is_strict}
 use Rattle.omega_lift.proofs.allowances.allowances_are_strict.Goals as goal
 

@@ -1,3 +1,4 @@
+-- There is an allowance.
 use Rattle.omega_lift.proofs.LeastMeasure.{least_sufficient_is}
 use Rattle.omega_lift.proofs.allowances.allowances_exist.Goals as goal
 

@@ -1,3 +1,4 @@
+-- No place is won by both, since the regions are apart.
 use Rattle.omega_lift.proofs.Apart.{answers_apart}
 use Rattle.omega_lift.proofs.answers.answers_are_apart.Goals as goal
 

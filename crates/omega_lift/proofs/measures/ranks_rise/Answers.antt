@@ -1,3 +1,4 @@
+-- Ranks rise with measures.
 use Rattle.omega_lift.proofs.Ranks.{rank_rises}
 use Rattle.omega_lift.proofs.measures.ranks_rise.Goals as goal
 

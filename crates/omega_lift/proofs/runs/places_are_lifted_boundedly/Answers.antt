@@ -1,3 +1,4 @@
+-- Each place is lifted at most as often as the product.
 use Rattle.omega_lift.proofs.Lifting.{place_is_lifted_boundedly}
 use Rattle.omega_lift.proofs.runs.places_are_lifted_boundedly.Goals as goal
 

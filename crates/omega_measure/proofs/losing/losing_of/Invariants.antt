@@ -1,7 +1,12 @@
+-- So far the losing priorities and their limits are listed.
 use Rattle.std.proofs.Common.{◌≡◌, take}
-use Rattle.std.specs.Prelude.{filter}
-use Rattle.omega_game.specs.Winning.{loses}
+use Rattle.std.specs.Prelude.{map}
+use Rattle.omega_game.specs.Player.{loses}
+use Rattle.omega_measure.proofs.Listed.{counted}
 use Rattle.omega_measure.proofs.losing.losing_of.Given as goal
 
-abbrev pub invariant-loop-priority : goal.invariant-loop-priority
-invariant-loop-priority l = l.borne.items ≡ filter (loses l.player) (take l.priority-index l.priorities)
+abbrev pub invariant-loop-count : goal.invariant-loop-count
+invariant-loop-count l = record {
+  losing : l.losing.items ≡ map (λ count. count.priority) (counted (loses l.player) (take l.count-index l.counts));
+  limits : l.limits.items ≡ map (λ count. count.nodes) (counted (loses l.player) (take l.count-index l.counts));
+}

@@ -1,3 +1,4 @@
+-- The row is copied over the other.
 use Rattle.std.proofs.Common.{◌+◌, ◌-◌, ◌*◌, arith}
 use Rattle.omega_measure.proofs.RowWrites.{WritesRow-copied}
 use Rattle.omega_measure.proofs.rows.copy_row.Goals as goal

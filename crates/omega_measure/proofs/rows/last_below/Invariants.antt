@@ -1,4 +1,5 @@
-use Rattle.omega_measure.specs.Rows.{AreAtLimits}
+-- The entries passed are at their limits.
+use Rattle.omega_measure.specs.layout.Rows.{AreAtLimits}
 use Rattle.omega_measure.proofs.rows.last_below.Given as goal
 
 abbrev pub invariant-loop-at : goal.invariant-loop-at

@@ -1,3 +1,4 @@
+-- The place has the allowance, and the others their measures.
 use Rattle.std.proofs.Common.{true, false, ◌∙◌}
 use Rattle.std.proofs.lemmas.List.{get_or_default}
 use Rattle.omega_measure.proofs.RowWrites.{WritesMeasure-below, WritesMeasure-top}

@@ -1,3 +1,4 @@
+-- The row is the one that is raised, or none is.
 use Rattle.std.proofs.Common.{◌+◌, ◌-◌, length, get_or, set, arith}
 use Rattle.std.proofs.lemmas.List.{length-set}
 use Rattle.omega_measure.proofs.Raising.{raised_in_place, raised_none}

@@ -1,3 +1,4 @@
+-- One priority more.
 use Rattle.std.proofs.Common.{[], ◌∷◌, ◌++◌, sym, ap, ◌∙◌, arith}
 use Rattle.omega_game.specs.Game.{priority_at}
 use Rattle.omega_measure.proofs.Shapes.{priority_more}

@@ -1,3 +1,4 @@
+-- Only the row of the place is written.
 use Rattle.std.proofs.Common.{◌+◌, ◌-◌, ◌*◌, drop, arith}
 use Rattle.std.proofs.lemmas.List.{length-take, length-drop}
 use Rattle.omega_measure.proofs.RowWrites.{WritesRow-put}

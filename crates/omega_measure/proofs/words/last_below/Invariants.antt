@@ -1,7 +1,8 @@
+-- The fields passed are at their limits.
 use Rattle.std.proofs.Common.{suc}
-use Rattle.omega_measure.specs.Cell.{digits_in, limits_in}
-use Rattle.omega_measure.specs.Rows.{AreAtLimits}
+use Rattle.omega_measure.specs.layout.Field.{digits_in, limits_in}
+use Rattle.omega_measure.specs.layout.Rows.{AreAtLimits}
 use Rattle.omega_measure.proofs.words.last_below.Given as goal
 
 abbrev pub invariant-loop-at : goal.invariant-loop-at
-invariant-loop-at l = AreAtLimits (digits_in l.cells l.row) (limits_in l.cells) l.at (suc l.kept)
+invariant-loop-at l = AreAtLimits (digits_in l.fields l.row) (limits_in l.fields) l.at (suc l.kept)

@@ -1,3 +1,4 @@
+-- The order of the rows is that of the measures.
 use Rattle.std.proofs.Common.{length, ap, arith}
 use Rattle.omega_measure.proofs.PlainCalls.{compare_is, in_table}
 use Rattle.omega_measure.proofs.plain.PlainTableMeasureTable.compare.Goals as goal

@@ -1,3 +1,4 @@
+-- The flag says whether the measure is top.
 use Rattle.std.proofs.Common.{true, ◌∙◌, arith}
 use Rattle.std.proofs.lemmas.List.{get_or_default}
 use Rattle.omega_measure.proofs.PlainCalls.{in_table, top_iff}

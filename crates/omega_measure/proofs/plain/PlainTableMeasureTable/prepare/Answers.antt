@@ -1,3 +1,4 @@
+-- Rows of zeros are the measures of a new table.
 use Rattle.std.proofs.Common.{◌*◌, false, length, replicate, ap, ◌∙◌}
 use Rattle.omega_measure.specs.Table.{zero_content}
 use Rattle.omega_measure.proofs.Contents.{AreRows-zero, content-zero}
