@@ -1,18 +1,5 @@
-mod Order
-mod FirstBest
-mod Edges
-mod Due
-mod Flags
-mod Waking
-mod Answering
-mod Totals
-mod Attempts
-mod Lifting
-mod Starting
-mod Finishing
-mod Exactness
-mod Sweeping
-mod Queueing
-mod Dealing
-mod Solved
-mod Parting
+-- Lemmas by theme.
+mod schedules
+mod lifting
+mod answers
+mod runs

@@ -1,3 +1,4 @@
+-- Each node is in exactly one of the two players' answers.
 use Rattle.std.specs.Prelude.{◌≡◌, ◌⊎◌, ℕ, ◌<◌, Bool, true, false, Some, List, length, slice_get}
 use Rattle.omega_game.specs.declared.player.Player.TheVariants.{Zero, One}
 use Rattle.omega_game.specs.Game.{Node, IsGame}

@@ -1,8 +1,9 @@
-use Rattle.std.specs.Prelude.{◌≡◌, ◌↔◌, ℕ, ◌+◌, ◌≤◌, Bool, true, false, Option, Some, List, [], ◌∷◌, slice_get, sum}
+-- What is promised of all runs of a solver, however the budget is dealt out to them.
+use Rattle.std.specs.Prelude.{◌≡◌, ◌↔◌, ℕ, ◌+◌, ◌≤◌, Bool, true, false, Option, Some, List, [], ◌∷◌, length, slice_get, sum}
 use Rattle.omega_game.specs.declared.player.Player.{Player}
-use Rattle.omega_game.specs.Game.{Node, IsGame, priorities}
+use Rattle.omega_game.specs.Game.{Node, IsGame, owner_at, priorities}
 use Rattle.omega_game.specs.Bound.{bound_of}
-use Rattle.omega_game.specs.Winning.{InRegion, IsStrategy, Wins}
+use Rattle.omega_game.specs.Winning.{Chooses, InRegion, IsStrategy, Wins}
 use Rattle.omega_lift.specs.Answer.{AreChoices, won_in}
 use Rattle.omega_solve.specs.Solver.{State, IsFinished, IsReached, IsUnfinished, LiftsWithin, start_of}
 
@@ -20,15 +21,19 @@ abbrev pub DealsOut : State → List ℕ → State → Type 0
 DealsOut old [] new = old ≡ new
 DealsOut old (budget ∷ budgets) new = (next : State) × Runs old budget next × DealsOut next budgets new
 
--- an answer is exactly the nodes from which the player has a winning strategy, with one strategy for all
+-- an answer, with one entry for each node, is exactly the nodes from which the player has a winning strategy, with one
+-- strategy for all; it chooses exactly at those of them that the player owns
 pub record IsExact (nodes : List Node) (player : Player) (won : List Bool) (choices : List (Option ℕ)) : Type 0 where
+  pub entries : length won ≡ length nodes
   pub exactly : (v : ℕ) → (slice_get won v ≡ Some true) ↔ InRegion nodes player v
   pub strategy : IsStrategy nodes player choices
+  pub chosen : (v : ℕ) → slice_get won v ≡ Some true → owner_at nodes v ≡ player → (w : ℕ) × Chooses choices v w
+  pub only : (v w : ℕ) → Chooses choices v w → slice_get won v ≡ Some true
   pub wins : (v : ℕ) → InRegion nodes player v → Wins nodes player choices v
 
 -- a solver for the game and the player, once these budgets were dealt out: the lifts are those of a lifting run from the
 -- all-zero table, and at most the bound; budgets that together reach the bound suffice; and a solver that is done has an exact answer
-pub record Solves (nodes : List Node) (player : Player) (budgets : List ℕ) (solver : State) : Type 0 where
+pub record IsBoundedAndExact (nodes : List Node) (player : Player) (budgets : List ℕ) (solver : State) : Type 0 where
   pub same_nodes : solver.nodes ≡ nodes
   pub same_player : solver.player ≡ player
   pub reached : IsReached solver
@@ -44,4 +49,4 @@ pub record Solves (nodes : List Node) (player : Player) (budgets : List ℕ) (so
 abbrev pub Headline : Type 0
 Headline =
     (nodes : List Node) (player : Player) (budgets : List ℕ) (solver : State)
-    → IsGame nodes → DealsOut (start_of nodes player) budgets solver → Solves nodes player budgets solver
+    → IsGame nodes → DealsOut (start_of nodes player) budgets solver → IsBoundedAndExact nodes player budgets solver

@@ -1,3 +1,4 @@
+-- What contracts of the solver cite: its promises first, and behind them what only private contracts cite.
 pub use Rattle.omega_game.specs.Game
 pub use Rattle.omega_game.specs.Winning
 pub use Rattle.omega_game.specs.Bound
@@ -7,12 +8,11 @@ pub use Rattle.omega_lift.specs.Run
 pub use Rattle.omega_lift.specs.Answer
 pub use Rattle.omega_lift.specs.Laws
 pub use Rattle.omega_measure.specs.Table
+pub mod Limits
 pub mod Schedule
-pub mod Sweep
-pub mod Worklist
 pub mod Solver
-pub mod Successor
-pub mod Wake
-pub mod Progress
 pub mod Headline
+pub mod Within
 pub mod Determinacy
+pub mod solving
+pub mod schedules

@@ -1,3 +1,4 @@
+-- What every schedule keeps: which places are pending, and the number of takes.
 use Rattle.std.specs.Prelude.{◌≡◌, ℕ, ◌+◌, ◌<◌, Bool, true, false, List, count_by, length, replicate, slice_get, slice_set, Some}
 
 -- what a schedule keeps: for each place whether it is pending, and how many takes were made so far

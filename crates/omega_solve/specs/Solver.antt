@@ -1,3 +1,4 @@
+-- A solver as its callers see it, and the bounds of its lifts and takes.
 use Rattle.std.specs.Prelude.{◌≡◌, ℕ, ◌+◌, ◌*◌, ◌≤◌, Bool, false, List, length}
 use Rattle.omega_game.specs.declared.player.Player.{Player}
 use Rattle.omega_game.specs.Game.{Node, edge_count, priorities}
@@ -53,9 +54,9 @@ abbrev pub IsUnfinished : State → Type 0
 IsUnfinished state = (place : ℕ) × IsDue state.nodes state.player state.table.measures place
 
 -- the most lifts of a solver: the bound of its game for its player
-abbrev pub most_lifts : State → ℕ
-most_lifts state = bound_of state.player (priorities state.nodes)
+abbrev pub lift_bound : State → ℕ
+lift_bound state = bound_of state.player (priorities state.nodes)
 
 -- the most takes of a solver: one for each place, and one for each edge into a place with each of its lifts
-abbrev pub most_attempts : State → ℕ
-most_attempts state = length state.nodes + edge_count state.nodes * product_of state.player (priorities state.nodes)
+abbrev pub attempt_bound : State → ℕ
+attempt_bound state = length state.nodes + edge_count state.nodes * product_of state.player (priorities state.nodes)

@@ -2,9 +2,9 @@ ghost use Rattle.std.specs.Prelude.{◌≡◌, length};
 ghost use Rattle.omega_game.specs.Game.{IsGame, IsWithinLimits};
 ghost use Rattle.omega_lift.specs.Answer.{AreChoices, won_in};
 ghost use Rattle.omega_lift.specs.Run.{IsStable};
-ghost use Rattle.omega_solve.specs.Successor.{IsTableOf};
+ghost use Rattle.omega_solve.specs.solving.Successor.{IsTableOf};
 
-use crate::successor::choice_at;
+use crate::successor::chosen_successor;
 use omega_measure::{Game, MeasureTable, Player};
 
 /// The answer of a finished solver, by place.
@@ -35,6 +35,6 @@ pub(crate) fn fill_answer<T: MeasureTable>(
 {
     for place in 0..game.len() {
         won[place] = !table.is_top(place as u32);
-        choice[place] = choice_at(game, player, table, place as u32);
+        choice[place] = chosen_successor(game, player, table, place as u32);
     }
 }

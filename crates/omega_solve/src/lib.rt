@@ -3,22 +3,24 @@
 #![tactic(auto)]
 
 mod answer;
+mod found;
 mod laws;
+mod limits;
 mod outcome;
 mod schedule;
 mod solver;
 mod successor;
 mod sweep;
-#[cfg(test)]
-mod tests;
 mod wake;
 mod worklist;
 
 pub use answer::AnswerRef;
+pub use found::Found;
 pub use laws::{answers_part_the_game, headline};
+pub use limits::{MOST_LIFTS, lift_limits_are_stated};
 pub use omega_measure::{Game, MeasureTable, PackedTable, PlainTable, Player, Refusal, TaskFault};
 pub use outcome::Outcome;
 pub use schedule::Schedule;
-pub use solver::{MOST_LIFTS, Solver};
+pub use solver::Solver;
 pub use sweep::Sweep;
 pub use worklist::Worklist;

@@ -4,10 +4,8 @@ ghost use Rattle.omega_solve.specs.Schedule.{IsIdle, IsPending, Pending, all_pen
 use omega_measure::Refusal;
 use std::alloc::Global;
 
-#[cfg(test)]
-mod tests;
-
-/// The places that a solver has yet to look at, in an order of its own. No call but `prepare` takes memory.
+/// The places that a solver has yet to look at, in an order of its own. Only `prepare` answers that memory was refused, so
+/// that a schedule takes there all that it needs.
 pub trait Schedule: Drop {
     /// Which places are pending and how many takes were made, however they are kept.
     ghost waiting: { Self → Pending };

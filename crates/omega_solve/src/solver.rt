@@ -1,9 +1,11 @@
 ghost use Rattle.std.specs.Prelude.{◌≡◌, ◌↔◌, ℕ, ◌+◌, ◌-◌, ◌^◌, ◌<◌, ◌≤◌, true, false, is_some, length, slice_get, Some, IsTrue, IsOk, IsSome, IfOk, IfErr, IfSome, MatchOption};
 ghost use Rattle.omega_game.specs.Game.{priorities};
 ghost use Rattle.omega_measure.specs.Table.{IsPrepareRefusal, is_too_wide};
+ghost use Rattle.omega_solve.specs.Limits.{most_lifts};
 ghost use Rattle.omega_solve.specs.Solver.{start_of};
 
 use crate::answer::{AnswerRef, fill_answer};
+use crate::limits::MOST_LIFTS;
 use crate::outcome::Outcome;
 use crate::schedule::Schedule;
 use crate::successor::due_towards;
@@ -16,11 +18,9 @@ use omega_measure::{Game, MeasureTable, Player, Refusal};
 use std::alloc::Global;
 use std::marker::Model;
 
-/// The most lifts of one solver, and the greatest budget.
-pub const MOST_LIFTS: u64 = 1_099_511_627_776;
-
 /// A solver of a game for one player by lifting small progress measures (Jurdziński 2000), over any table of measures
-/// and any schedule of places. No call but `prepare` takes memory.
+/// and any schedule of places. Only `prepare` answers that memory was refused: table, schedule and buffers are made there.
+/// That no later call asks for memory is seen by runs in which it is refused, and not by contracts.
 #[derive(Drop)]
 pub struct Solver<'g, T: MeasureTable, S: Schedule> {
     game: &'g Game,
@@ -35,7 +35,7 @@ pub struct Solver<'g, T: MeasureTable, S: Schedule> {
 
 impl<'g, T: MeasureTable, S: Schedule> Model for Solver<'g, T, S> {
     ghost use Rattle.omega_solve.specs.Solver.{State, state_of};
-    ghost use Rattle.omega_solve.specs.Progress.{IsSolver};
+    ghost use Rattle.omega_solve.specs.solving.Progress.{IsSolver};
 
     ghost Value = { State };
 
@@ -45,15 +45,14 @@ impl<'g, T: MeasureTable, S: Schedule> Model for Solver<'g, T, S> {
 }
 
 impl<'g, T: MeasureTable, S: Schedule> Solver<'g, T, S> {
-    ghost use Rattle.omega_game.specs.Winning.{InRegion, IsStrategy, Wins};
     ghost use Rattle.omega_lift.specs.Answer.{AreChoices, won_in};
     ghost use Rattle.omega_lift.specs.Run.{IsDue};
-    ghost use Rattle.omega_solve.specs.declared.outcome.Outcome.TheVariants.{Done, Spent};
+    ghost use Rattle.omega_solve.specs.declared.outcome.Outcome.TheVariants.{Done};
     ghost use Rattle.omega_solve.specs.Headline.{IsExact, Runs};
     ghost use Rattle.omega_solve.specs.Schedule.{IsIdle, IsPending, with_taken};
-    ghost use Rattle.omega_solve.specs.Successor.{IsDueTowards};
-    ghost use Rattle.omega_solve.specs.Progress.{IsLifted};
-    ghost use Rattle.omega_solve.specs.Solver.{IsFinished, IsReached, IsUnfinished, LiftsWithin, most_attempts, most_lifts};
+    ghost use Rattle.omega_solve.specs.solving.Successor.{IsDueTowards};
+    ghost use Rattle.omega_solve.specs.solving.Progress.{IsLifted};
+    ghost use Rattle.omega_solve.specs.Solver.{IsFinished, IsReached, attempt_bound, lift_bound};
 
     /// A solver with every measure 0 and all places pending. 50 where the table would be too wide, or 60.
     pub fn prepare(
@@ -83,17 +82,13 @@ impl<'g, T: MeasureTable, S: Schedule> Solver<'g, T, S> {
 
     /// Makes lifts until none is due, at most the budget. A later run goes on from there; one that is done stays so.
     pub fn run(&mut self, budget: u64) -> Outcome
-        requires { self.old.lifts + budget ≤ 2 ^ 40 }
-        ensures game { self.new.nodes ≡ self.old.nodes }
-        ensures player { self.new.player ≡ self.old.player }
-        ensures ran { LiftsWithin self.old budget self.new }
-        ensures done { result ≡ Done → IsFinished self.new }
-        ensures spent { result ≡ Spent → self.new.lifts ≡ self.old.lifts + budget }
-        ensures unfinished { result ≡ Spent → IsUnfinished self.new }
+        requires { self.old.lifts + budget ≤ most_lifts }
+        ensures ran { Runs self.old budget self.new }
         ensures told { (self.new.done ≡ true) ↔ (result ≡ Done) }
-        // All but the outcome in one: the call of which `headline` speaks.
-        ensures call { Runs self.old budget self.new }
+        ensures reached { IsReached self.new }
+        ensures bounded { self.new.lifts ≤ lift_bound self.new }
     {
+        runs_are_bounded();
         if self.done {
             return Outcome::Done;
         }
@@ -116,7 +111,7 @@ impl<'g, T: MeasureTable, S: Schedule> Solver<'g, T, S> {
 
     /// How many further lifts the solver may make.
     pub fn room(&self) -> u64
-        ensures { result + self.now.lifts ≡ 2 ^ 40 }
+        ensures { result + self.now.lifts ≡ most_lifts }
     {
         MOST_LIFTS - self.lifts
     }
@@ -125,7 +120,7 @@ impl<'g, T: MeasureTable, S: Schedule> Solver<'g, T, S> {
     pub fn lifts(&self) -> u64
         ensures count { result ≡ self.now.lifts }
         ensures reached { IsReached self.now }
-        ensures bounded { self.now.lifts ≤ most_lifts self.now }
+        ensures bounded { result ≤ lift_bound self.now }
     {
         runs_are_bounded();
         self.lifts
@@ -136,7 +131,7 @@ impl<'g, T: MeasureTable, S: Schedule> Solver<'g, T, S> {
     pub fn attempts(&self) -> u64
         ensures count { result ≡ self.now.pending.taken }
         ensures lifts { self.now.lifts ≤ result }
-        ensures bounded { result ≤ most_attempts self.now }
+        ensures bounded { result ≤ attempt_bound self.now }
         ensures each { self.now.done ≡ true → length self.now.nodes ≤ result }
     {
         places_are_lifted_boundedly();
@@ -149,10 +144,6 @@ impl<'g, T: MeasureTable, S: Schedule> Solver<'g, T, S> {
         ensures finished { IsSome result → IsFinished self.now }
         ensures won { IfSome result (λ answer. answer.won.now ≡ won_in self.now.table.measures) }
         ensures chosen { IfSome result (λ answer. AreChoices self.now.nodes self.now.player self.now.table.measures answer.choice.now) }
-        ensures strategy { IfSome result (λ answer. IsStrategy self.now.nodes self.now.player answer.choice.now) }
-        ensures wins { IfSome result (λ answer. (v : ℕ) → slice_get answer.won.now v ≡ Some true → Wins self.now.nodes self.now.player answer.choice.now v) }
-        ensures exactly { IfSome result (λ answer. (v : ℕ) → (slice_get answer.won.now v ≡ Some true) ↔ InRegion self.now.nodes self.now.player v) }
-        // The last three in one, in the words of `headline`.
         ensures exact { IfSome result (λ answer. IsExact self.now.nodes self.now.player answer.won.now answer.choice.now) }
     {
         choices_are_a_strategy();
@@ -200,7 +191,7 @@ impl<'g, T: MeasureTable, S: Schedule> Solver<'g, T, S> {
         requires pending { IsPending self.old.pending place }
         requires done { self.old.done ≡ false }
         requires due { IsDueTowards self.old.nodes self.old.player self.old.table.measures place towards }
-        requires room { self.old.lifts < 2 ^ 40 }
+        requires room { self.old.lifts < most_lifts }
         ensures { IsLifted self.old place self.new }
     {
         allowances_are_unique();

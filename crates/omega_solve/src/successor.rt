@@ -2,7 +2,7 @@ ghost use Rattle.std.specs.Prelude.{◌≡◌, ◌≢◌, ◌↔◌, ◌<◌, �
 ghost use Rattle.std.specs.declared.cmp.Ordering.TheVariants.{Equal};
 ghost use Rattle.omega_game.specs.Game.{IsGame, owner_at, priority_at, successors_at};
 ghost use Rattle.omega_lift.specs.Run.{IsDue};
-ghost use Rattle.omega_solve.specs.Successor.{ExceedsToAll, IsChoiceAt, IsDueTowards, IsFirstBest, IsTableOf, KeepsToSome, order_from};
+ghost use Rattle.omega_solve.specs.solving.Successor.{ExceedsToAll, IsChoiceAt, IsDueTowards, IsFirstBest, IsTableOf, KeepsToSome, order_from};
 
 use omega_lift::{
     allowances_are_monotone, allowances_are_strict, allowances_exist, measures_are_ordered,
@@ -43,7 +43,7 @@ pub(crate) fn due_towards<T: MeasureTable>(
 
 /// The choice of an answer at a place: the first successor of least allowance where the player owns the place and its
 /// measure is below top. No lift is due at the place.
-pub(crate) fn choice_at<T: MeasureTable>(
+pub(crate) fn chosen_successor<T: MeasureTable>(
     game: &Game,
     player: Player,
     table: &T,

@@ -1,6 +1,6 @@
 ghost use Rattle.std.specs.Prelude.{◌≡◌, ℕ, ◌+◌, ◌<◌, ◌≤◌, length, IfOk};
 ghost use Rattle.std.specs.List.{range_with_len};
-ghost use Rattle.omega_solve.specs.Worklist.{ClosesGap, queued, slot_of};
+ghost use Rattle.omega_solve.specs.schedules.Worklist.{ClosesGap, queued, slot_of};
 
 use crate::schedule::Schedule;
 use omega_measure::Refusal;
@@ -23,7 +23,7 @@ pub struct Worklist {
 impl Model for Worklist {
     ghost use Rattle.omega_solve.specs.Schedule.{Pending};
     ghost use Rattle.std.specs.List.{range_with_len};
-    ghost use Rattle.omega_solve.specs.Worklist.{IsWorklist};
+    ghost use Rattle.omega_solve.specs.schedules.Worklist.{IsWorklist};
 
     ghost Value = { Pending };
 
@@ -37,7 +37,7 @@ impl Schedule for Worklist {
 
     fn prepare(alloc: Global, n: u32) -> Result<Self, Refusal> {
         Ok(Worklist {
-            ring: rising(alloc, n)?,
+            ring: numbers_below(alloc, n)?,
             first: 0,
             count: n as usize,
             pending: vec![in alloc; true; n as usize]?,
@@ -54,7 +54,7 @@ impl Schedule for Worklist {
     }
 
     fn take(&mut self, place: u32) {
-        let at = find(&self.ring, self.first, self.count, place);
+        let at = position_of(&self.ring, self.first, self.count, place);
         close_gap(&mut self.ring, self.first, at);
         self.first = slot(self.ring.len(), self.first, 1);
         self.count -= 1;
@@ -78,7 +78,7 @@ impl Schedule for Worklist {
 }
 
 /// The numbers below `n`.
-fn rising(alloc: Global, n: u32) -> Result<Vec<u32>, AllocError>
+fn numbers_below(alloc: Global, n: u32) -> Result<Vec<u32>, AllocError>
     ensures { IfOk result (λ ring. ring.items ≡ range_with_len 0 n) }
 {
     (0..n).collect(alloc)
@@ -94,7 +94,7 @@ fn slot(n: usize, first: usize, k: usize) -> usize
 }
 
 /// Where a place stands in the queue: at its front, as a rule.
-fn find(ring: &Vec<u32>, first: usize, count: usize, place: u32) -> usize
+fn position_of(ring: &Vec<u32>, first: usize, count: usize, place: u32) -> usize
     requires begins { first ≤ length ring.now.items }
     requires count { count ≤ length ring.now.items }
     requires stands { (k : ℕ) × (k < count) × (queued ring.now.items first k ≡ place) }

@@ -1,4 +1,5 @@
-use Rattle.omega_solve.proofs.Parting.{parted}
+-- Two answers part the game, from the laws of lifting and of regions.
+use Rattle.omega_solve.proofs.answers.Parting.{parted}
 use Rattle.omega_solve.proofs.laws.answers_part_the_game.Goals as goal
 
 pub returns : goal.returns

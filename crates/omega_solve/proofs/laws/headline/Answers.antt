@@ -1,4 +1,5 @@
-use Rattle.omega_solve.proofs.Solved.{solved}
+-- The headline, from the laws of lifting.
+use Rattle.omega_solve.proofs.runs.Solved.{solved}
 use Rattle.omega_solve.proofs.laws.headline.Goals as goal
 
 pub returns : goal.returns

@@ -1,14 +1,15 @@
+-- The first best of the successors looked at goes on to the next.
 use Rattle.std.proofs.Common.{◌≡◌, arith, ap, subst, sym, ◌∙◌, ℕ, List, slice_index, Some}
 use Rattle.std.specs.List.{slice_get}
 use Rattle.std.proofs.lemmas.Option.{slice_get-get_or}
 use Rattle.omega_game.specs.Game.{priority_at}
 use Rattle.std.specs.Ordering.{ordering_index}
 use Rattle.std.proofs.lemmas.Bool.{eqb-true, eqb-false}
-use Rattle.omega_solve.specs.Successor.{order_from}
-use Rattle.omega_solve.proofs.Due.{order_total}
-use Rattle.omega_solve.proofs.Order.{same_from_index}
-use Rattle.omega_solve.proofs.Edges.{edge_at, edge_index}
-use Rattle.omega_solve.proofs.FirstBest.{first_best_more, first_best_same}
+use Rattle.omega_solve.specs.solving.Successor.{order_from}
+use Rattle.omega_solve.proofs.lifting.Due.{order_total}
+use Rattle.omega_solve.proofs.lifting.Order.{same_from_index}
+use Rattle.omega_solve.proofs.lifting.Edges.{edge_at, edge_index}
+use Rattle.omega_solve.proofs.lifting.FirstBest.{first_best_more, first_best_same}
 use Rattle.omega_solve.proofs.successor.best_successor.Goals as goal
 use Rattle.omega_solve.proofs.successor.best_successor.Goals.{then-eq, else-eq}
 

@@ -1,7 +1,8 @@
+-- The best successor decides whether a lift is due.
 use Rattle.std.proofs.Common.{arith, refl}
 use Rattle.std.proofs.lemmas.Bool.{false≢true}
-use Rattle.omega_solve.proofs.Due.{other_due, other_not_due, owned_due, owned_not_due, table_entries}
-use Rattle.omega_solve.proofs.Edges.{edge_at}
+use Rattle.omega_solve.proofs.lifting.Due.{other_due, other_not_due, owned_due, owned_not_due, table_entries}
+use Rattle.omega_solve.proofs.lifting.Edges.{edge_at}
 use Rattle.omega_solve.proofs.successor.due_towards.Goals as goal
 
 pub returns-then-exceeds_to_all : goal.returns-then-exceeds_to_all

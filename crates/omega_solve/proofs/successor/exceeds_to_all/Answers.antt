@@ -1,6 +1,7 @@
+-- The allowances exceed towards all successors looked at, or one does not.
 use Rattle.std.proofs.Common.{arith, subst, ℕ}
 use Rattle.omega_measure.specs.Table.{Exceeds}
-use Rattle.omega_solve.proofs.Edges.{edge_index, index_listed}
+use Rattle.omega_solve.proofs.lifting.Edges.{edge_index, index_listed}
 use Rattle.omega_solve.proofs.successor.exceeds_to_all.Goals as goal
 
 pub due-requires-clause-towards : goal.due-requires-clause-towards

@@ -1,3 +1,4 @@
+-- The allowances towards the successors so far exceed the measure.
 use Rattle.std.proofs.Common.{ℕ, ◌<◌, slice_index}
 use Rattle.omega_measure.specs.Table.{Exceeds}
 use Rattle.omega_solve.proofs.successor.exceeds_to_all.Given as goal

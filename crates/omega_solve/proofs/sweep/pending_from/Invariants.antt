@@ -1,3 +1,4 @@
+-- No place so far is pending.
 use Rattle.std.proofs.Common.{◌≡◌, ℕ, ◌<◌, ◌≤◌, false, slice_get, Some}
 use Rattle.omega_solve.proofs.sweep.pending_from.Given as goal
 

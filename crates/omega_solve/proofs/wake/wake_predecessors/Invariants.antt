@@ -1,4 +1,5 @@
-use Rattle.omega_solve.specs.Wake.{Wakes}
+-- The predecessors so far are woken.
+use Rattle.omega_solve.specs.solving.Wake.{Wakes}
 use Rattle.omega_solve.proofs.wake.wake_predecessors.Given as goal
 
 abbrev pub invariant-loop-predecessor : goal.invariant-loop-predecessor

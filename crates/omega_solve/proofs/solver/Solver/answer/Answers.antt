@@ -1,10 +1,11 @@
+-- The buffers of a solver that is done hold an exact answer.
 use Rattle.std.proofs.Common.{◌≡◌, ◌∙◌, List, Bool, Option, ℕ, ap, subst, sym, true}
 use Rattle.omega_lift.specs.Laws.{ChoicesAreAStrategy, ChoicesWin, RegionsStayBelowTop}
 use Rattle.omega_solve.specs.Headline.{IsExact}
 use Rattle.omega_solve.specs.Solver.{State}
-use Rattle.omega_solve.specs.Progress.{IsSolver}
-use Rattle.omega_solve.proofs.Exactness.{answer_exact}
-use Rattle.omega_solve.proofs.Finishing.{finished_idle}
+use Rattle.omega_solve.specs.solving.Progress.{IsSolver}
+use Rattle.omega_solve.proofs.answers.Exactness.{answer_exact}
+use Rattle.omega_solve.proofs.lifting.Finishing.{finished_idle}
 use Rattle.omega_solve.proofs.solver.Solver.answer.Goals as goal
 
 -- the buffers of a solver that is done hold an exact answer
@@ -31,12 +32,3 @@ returns-clause-exact g c =
     (subst (λ (choices : List (Option ℕ)). IsExact state.nodes state.player c.self.inside.won.items choices) (sym c.deref-2.ensures.value)
     (exact state c.self.inside.won.items c.self.inside.choice.items c.choices_are_a_strategy.ensures c.choices_win.ensures
     c.regions_stay_below_top.ensures kept done))
-
-pub returns-clause-strategy : goal.returns-clause-strategy
-returns-clause-strategy g c = (returns-clause-exact g c).strategy
-
-pub returns-clause-wins : goal.returns-clause-wins
-returns-clause-wins g c v at = (returns-clause-exact g c).wins v (((returns-clause-exact g c).exactly v).0 at)
-
-pub returns-clause-exactly : goal.returns-clause-exactly
-returns-clause-exactly g c = (returns-clause-exact g c).exactly

@@ -1,7 +1,8 @@
+-- The takes are bounded, and none is left out once the solver is done.
 use Rattle.std.proofs.Common.{ap, arith, subst}
 use Rattle.omega_solve.specs.Solver.{State}
-use Rattle.omega_solve.specs.Progress.{IsSolver}
-use Rattle.omega_solve.proofs.Finishing.{takes_bounded, takes_each}
+use Rattle.omega_solve.specs.solving.Progress.{IsSolver}
+use Rattle.omega_solve.proofs.lifting.Finishing.{takes_bounded, takes_each}
 use Rattle.omega_solve.proofs.solver.Solver.attempts.Goals as goal
 
 pub returns-clause-bounded : goal.returns-clause-bounded

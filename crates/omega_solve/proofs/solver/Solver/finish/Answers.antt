@@ -1,3 +1,4 @@
+-- No lift is due where the answer is told.
 use Rattle.std.proofs.Common.{sym, subst}
 use Rattle.omega_solve.specs.Solver.{State}
 use Rattle.omega_solve.specs.Solver.{IsFinished}

@@ -1,15 +1,17 @@
-use Rattle.std.proofs.Common.{◌+◌, ◌<◌, ◌^◌, ◌∙◌, ap, arith, length, subst, sym}
+-- A lift is one towards the successor given, and keeps what a solver keeps.
+use Rattle.std.proofs.Common.{◌+◌, ◌<◌, ◌∙◌, ap, arith, length, subst, sym}
 use Rattle.omega_solve.specs.Solver.{State, state_of}
-use Rattle.omega_solve.specs.Progress.{IsLifted}
+use Rattle.omega_solve.specs.solving.Progress.{IsLifted}
 use Rattle.omega_game.specs.Game.{predecessors_of}
+use Rattle.omega_solve.specs.Limits.{most_lifts}
 use Rattle.omega_solve.specs.Schedule.{IsPending, Pending}
-use Rattle.omega_solve.specs.Wake.{Wakes}
-use Rattle.omega_solve.specs.Successor.{IsDueTowards}
-use Rattle.omega_solve.proofs.Due.{allowance_in, table_entries}
-use Rattle.omega_solve.proofs.Edges.{edge_leaves}
-use Rattle.omega_solve.proofs.Finishing.{takes_fit}
-use Rattle.omega_solve.proofs.Lifting.{one_lifted, solving_lifted}
-use Rattle.omega_solve.proofs.Starting.{answered_open}
+use Rattle.omega_solve.specs.solving.Wake.{Wakes}
+use Rattle.omega_solve.specs.solving.Successor.{IsDueTowards}
+use Rattle.omega_solve.proofs.lifting.Due.{allowance_in, table_entries}
+use Rattle.omega_solve.proofs.lifting.Edges.{edge_leaves}
+use Rattle.omega_solve.proofs.lifting.Finishing.{takes_fit}
+use Rattle.omega_solve.proofs.lifting.Lifting.{one_lifted, solving_lifted}
+use Rattle.omega_solve.proofs.lifting.Starting.{answered_open}
 use Rattle.omega_solve.proofs.solver.Solver.lift.Goals as goal
 
 pub raise-requires-clause-towards : goal.raise-requires-clause-towards
@@ -55,7 +57,7 @@ invariant_of-self g c =
       solving = solving_lifted state c.args.place c.args.towards content woken c.allowances_are_unique.ensures c.runs_keep_tables.ensures
           c.self.invariant.solving due
           (subst (λ (s : State). IsPending s.pending c.args.place) (sym c.self.view_is) c.requires.pending)
-          (subst (λ (s : State). s.lifts < 2 ^ 40) (sym c.self.view_is) c.requires.room)
+          (subst (λ (s : State). s.lifts < most_lifts) (sym c.self.view_is) c.requires.room)
           c.raise.ensures wakes;
       answered = answered_open _ c.self.inside.won.items c.self.inside.choice.items
           (ap (λ (s : State). s.done) c.self.view_is ∙ c.requires.done)

@@ -1,8 +1,9 @@
+-- Where no place is pending, no lift is due.
 use Rattle.std.proofs.Common.{◌<◌, length, subst}
 use Rattle.std.specs.Option.{MatchOption}
 use Rattle.omega_solve.specs.Solver.{State}
 use Rattle.omega_solve.specs.Solver.{IsFinished}
-use Rattle.omega_solve.proofs.Finishing.{looked}
+use Rattle.omega_solve.proofs.lifting.Finishing.{looked}
 use Rattle.omega_solve.proofs.solver.Solver.next.Goals as goal
 
 pub returns-clause-finished : goal.returns-clause-finished

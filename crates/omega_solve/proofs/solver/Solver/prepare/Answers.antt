@@ -1,10 +1,11 @@
+-- A new solver keeps what a solver keeps.
 use Rattle.std.proofs.Common.{◌≡◌, ◌∙◌, false, ap, length, refl, subst, sym}
 use Rattle.omega_game.specs.Game.{priorities}
 use Rattle.omega_measure.specs.Table.{Content, zero_content}
 use Rattle.omega_solve.specs.Schedule.{Pending, all_pending}
 use Rattle.omega_solve.specs.Solver.{State, start_of, state_of}
-use Rattle.omega_solve.specs.Progress.{IsSolving}
-use Rattle.omega_solve.proofs.Starting.{answered_open, solving_start}
+use Rattle.omega_solve.specs.solving.Progress.{IsSolving}
+use Rattle.omega_solve.proofs.lifting.Starting.{answered_open, solving_start}
 use Rattle.omega_solve.proofs.solver.Solver.prepare.Goals as goal
 
 pub invariant_of-result : goal.invariant_of-result

@@ -1,22 +1,18 @@
-use Rattle.std.proofs.Common.{◌≡◌, ◌∙◌, ap, arith, refl, subst, sym, true}
+-- A run goes on lift by lift, and ends with none due or with its budget used up.
+use Rattle.std.proofs.Common.{◌≡◌, ◌∙◌, ap, arith, subst, sym, true}
 use Rattle.omega_solve.specs.Solver.{State}
-use Rattle.omega_solve.specs.Progress.{IsSolver}
-use Rattle.omega_solve.proofs.Finishing.{finished_idle}
-use Rattle.omega_solve.proofs.Flags.{waits_taken}
-use Rattle.omega_solve.proofs.Dealing.{call_done, call_over}
-use Rattle.omega_solve.proofs.Lifting.{lifts_more}
+use Rattle.omega_solve.specs.solving.Progress.{IsSolver}
+use Rattle.omega_solve.proofs.lifting.Finishing.{finished_idle, reached_bounded, solving_reached}
+use Rattle.omega_solve.proofs.schedules.Flags.{waits_taken}
+use Rattle.omega_solve.proofs.runs.Dealing.{call_done, call_over, call_reaches, call_spent}
+use Rattle.omega_solve.proofs.lifting.Lifting.{lifts_more}
 use Rattle.omega_solve.proofs.solver.Solver.run.Goals as goal
 
-pub returns-then-self-clause-done : goal.returns-then-self-clause-done
-returns-then-self-clause-done g c same =
+pub returns-then-self-clause-ran : goal.returns-then-self-clause-ran
+returns-then-self-clause-ran g c =
     let kept = subst (λ (s : State). IsSolver s c.self.inside.won.items c.self.inside.choice.items) c.self.view_is c.self.invariant in
     let done : c.args.self.now.done ≡ true = sym (ap (λ (s : State). s.done) c.self.view_is) ∙ c.if-self.true in
-    finished_idle c.args.self.now kept.solving (kept.answered.idle done)
-
-pub returns-then-self-clause-call : goal.returns-then-self-clause-call
-returns-then-self-clause-call g c =
-    call_over c.args.self.now c.args.budget (sym (ap (λ (s : State). s.done) c.self.view_is) ∙ c.if-self.true)
-    (returns-then-self-clause-done g c refl)
+    call_over c.args.self.now c.args.budget done (finished_idle c.args.self.now kept.solving (kept.answered.idle done))
 
 pub loop-place-smaller-in-None : goal.loop-place-smaller-in-None
 loop-place-smaller-in-None g c =
@@ -35,11 +31,33 @@ loop-place-preserved g c =
       goes_on = c.lift.ensures.same_done ∙ kept.goes_on;
     }
 
-pub returns-clause-done : goal.returns-clause-done
-returns-clause-done g c done = rw c.finish.ensures c.in_default.ensures.finished
+pub returns-then-made-budget-clause-ran : goal.returns-then-made-budget-clause-ran
+returns-then-made-budget-clause-ran g c =
+    let kept = c.loop-place.invariant in
+    let due = c.in-Some-due_towards.ensures in
+    call_spent c.args.self.now c.loop-place.self c.loop-place.made c.args.budget kept.same_nodes kept.same_player kept.lifted kept.counted
+    c.if-made-budget.true kept.goes_on (c.in-Some.place, (due.value, due.lifts))
 
-pub returns-clause-call : goal.returns-clause-call
-returns-clause-call g c =
+pub returns-then-made-budget-clause-reached : goal.returns-then-made-budget-clause-reached
+returns-then-made-budget-clause-reached g c =
+    let kept = subst (λ (s : State). IsSolver s c.self.inside.won.items c.self.inside.choice.items) c.self.view_is c.self.invariant in
+    call_reaches c.args.self.now c.loop-place.self c.args.budget (solving_reached c.args.self.now kept.solving)
+    (returns-then-made-budget-clause-ran g c)
+
+pub returns-then-made-budget-clause-bounded : goal.returns-then-made-budget-clause-bounded
+returns-then-made-budget-clause-bounded g c =
+    reached_bounded c.loop-place.self c.runs_are_bounded.ensures (returns-then-made-budget-clause-reached g c)
+
+pub returns-clause-ran : goal.returns-clause-ran
+returns-clause-ran g c =
     let kept = c.loop-place.invariant in
     call_done c.args.self.now c.loop-place.self c.finish.new.self c.loop-place.made c.args.budget
     kept.same_nodes kept.same_player kept.lifted kept.within c.in_default.ensures.finished c.finish.ensures
+
+pub returns-clause-reached : goal.returns-clause-reached
+returns-clause-reached g c =
+    let kept = subst (λ (s : State). IsSolver s c.self.inside.won.items c.self.inside.choice.items) c.self.view_is c.self.invariant in
+    call_reaches c.args.self.now c.finish.new.self c.args.budget (solving_reached c.args.self.now kept.solving) (returns-clause-ran g c)
+
+pub returns-clause-bounded : goal.returns-clause-bounded
+returns-clause-bounded g c = reached_bounded c.finish.new.self c.runs_are_bounded.ensures (returns-clause-reached g c)

@@ -1,10 +1,11 @@
+-- A take of a place where no lift is due keeps what a solver keeps.
 use Rattle.std.proofs.Common.{◌∙◌, ap, subst, sym}
 use Rattle.omega_solve.specs.Solver.{State}
 use Rattle.omega_lift.specs.Run.{IsDue}
 use Rattle.omega_solve.specs.Schedule.{IsPending}
-use Rattle.omega_solve.proofs.Finishing.{takes_fit}
-use Rattle.omega_solve.proofs.Lifting.{solving_settled}
-use Rattle.omega_solve.proofs.Starting.{answered_open}
+use Rattle.omega_solve.proofs.lifting.Finishing.{takes_fit}
+use Rattle.omega_solve.proofs.lifting.Lifting.{solving_settled}
+use Rattle.omega_solve.proofs.lifting.Starting.{answered_open}
 use Rattle.omega_solve.proofs.solver.Solver.settle.Goals as goal
 
 pub take-requires-clause-counted : goal.take-requires-clause-counted

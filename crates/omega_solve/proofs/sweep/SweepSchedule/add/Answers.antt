@@ -1,8 +1,9 @@
+-- A sweep stands at a pending place after an add.
 use Rattle.std.proofs.Common.{◌<◌, arith, inl, inr, length, subst, sym}
 use Rattle.std.proofs.lemmas.Bool.{cases_lt}
 use Rattle.omega_solve.specs.Schedule.{Pending}
-use Rattle.omega_solve.proofs.Flags.{added_pending, not_pending, pending_added, waits_room}
-use Rattle.omega_solve.proofs.Sweeping.{sweep_added}
+use Rattle.omega_solve.proofs.schedules.Flags.{added_pending, not_pending, pending_added, waits_room}
+use Rattle.omega_solve.proofs.schedules.Sweeping.{sweep_added}
 use Rattle.omega_solve.proofs.sweep.SweepSchedule.add.Goals as goal
 
 pub overflow_add-self : goal.overflow_add-self

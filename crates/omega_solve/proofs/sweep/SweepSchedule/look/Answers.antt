@@ -1,6 +1,7 @@
+-- A sweep stands at a pending place if there is one.
 use Rattle.std.proofs.Common.{arith, subst}
 use Rattle.omega_solve.specs.Schedule.{IsIdle, Pending}
-use Rattle.omega_solve.proofs.Flags.{idle_none}
+use Rattle.omega_solve.proofs.schedules.Flags.{idle_none}
 use Rattle.omega_solve.proofs.sweep.SweepSchedule.look.Goals as goal
 
 pub returns-then-self-eq0 : goal.returns-then-self-eq0

@@ -1,5 +1,6 @@
+-- A new sweep stands at place 0.
 use Rattle.std.proofs.Common.{arith}
-use Rattle.omega_solve.proofs.Sweeping.{sweep_start}
+use Rattle.omega_solve.proofs.schedules.Sweeping.{sweep_start}
 use Rattle.omega_solve.proofs.sweep.SweepSchedule.prepare.Goals as goal
 
 pub invariant_of-result : goal.invariant_of-result

@@ -1,7 +1,8 @@
+-- A sweep stands at a pending place after a take.
 use Rattle.std.proofs.Common.{arith, subst, sym}
 use Rattle.omega_solve.specs.Schedule.{IsPending, Pending, with_taken}
-use Rattle.omega_solve.proofs.Flags.{pending_taken, waits_none, waits_taken}
-use Rattle.omega_solve.proofs.Sweeping.{sweep_taken}
+use Rattle.omega_solve.proofs.schedules.Flags.{pending_taken, waits_none, waits_taken}
+use Rattle.omega_solve.proofs.schedules.Sweeping.{sweep_taken}
 use Rattle.omega_solve.proofs.sweep.SweepSchedule.take.Goals as goal
 
 pub overflow_sub-self : goal.overflow_sub-self

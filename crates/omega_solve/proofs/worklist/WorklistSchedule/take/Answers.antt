@@ -1,7 +1,8 @@
+-- The queue has the place that was taken no more.
 use Rattle.std.proofs.Common.{◌≡◌, ◌-◌, ◌∙◌, ℕ, ap, length, subst, sym}
 use Rattle.omega_solve.specs.Schedule.{IsPending, Pending, with_taken}
-use Rattle.omega_solve.specs.Worklist.{IsWorklist, slot_of}
-use Rattle.omega_solve.proofs.Queueing.{worklist_taken}
+use Rattle.omega_solve.specs.schedules.Worklist.{IsWorklist, slot_of}
+use Rattle.omega_solve.proofs.schedules.Queueing.{worklist_taken}
 use Rattle.omega_solve.proofs.worklist.WorklistSchedule.take.Goals as goal
 
 pub invariant_of-self : goal.invariant_of-self
@@ -12,5 +13,5 @@ invariant_of-self c =
     let first : c.slot-self-inside.result ≡ slot_of (length ring.items) c.self.inside.first 1 =
     c.slot-self-inside.ensures ∙ ap (λ (n : ℕ). slot_of n c.self.inside.first 1) (c.len.ensures ∙ ring.ok.0) in
     subst (λ (f : ℕ). IsWorklist (with_taken pending c.args.place) ring.items f (c.self.inside.count - 1)) (sym first)
-    (worklist_taken pending c.self.inside.ring.items ring.items c.self.inside.first c.self.inside.count c.find-at.result c.args.place
-    c.self.invariant waiting c.find-at.ensures.inside c.find-at.ensures.stands c.close_gap.ensures)
+    (worklist_taken pending c.self.inside.ring.items ring.items c.self.inside.first c.self.inside.count c.position_of-at.result c.args.place
+    c.self.invariant waiting c.position_of-at.ensures.inside c.position_of-at.ensures.stands c.close_gap.ensures)

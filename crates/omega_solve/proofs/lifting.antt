@@ -1,0 +1,10 @@
+-- What a solver keeps: lifts that are due, the lifts made, and how many takes there are.
+pub mod Order
+pub mod FirstBest
+pub mod Edges
+pub mod Due
+pub mod Lifting
+pub mod Starting
+pub mod Finishing
+pub mod Totals
+pub mod Attempts

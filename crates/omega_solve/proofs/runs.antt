@@ -1,0 +1,4 @@
+-- What runs within budgets come to.
+pub mod Dealing
+pub mod Solved
+pub mod Within

@@ -1,5 +1,0 @@
-use Rattle.std.proofs.Common.{◌≡◌, length}
-use Rattle.omega_solve.proofs.schedule.tests.follow.Given as goal
-
-abbrev pub invariant-loop-step : goal.invariant-loop-step
-invariant-loop-step g l = length (g.S.Schedule.waiting l.schedule).flags ≡ l.places

@@ -1,0 +1,3 @@
+-- What only the two schedules cite.
+pub mod Sweep
+pub mod Worklist

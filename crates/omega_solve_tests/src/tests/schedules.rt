@@ -1,0 +1,80 @@
+ghost use Rattle.std.specs.Prelude.{◌≡◌, length};
+ghost use Rattle.omega_solve.specs.Schedule.{all_pending};
+
+use omega_solve::{Schedule, Sweep, Worklist};
+use std::process::Abort;
+use std::test::Fail;
+
+/// Takes a schedule of so many places through steps, after which none is pending. A digit is the place to look at, which
+/// is taken out; one behind a `+` is made pending.
+fn follow<S: Schedule, R: Abort>(rt: &R, schedule: &mut S, places: u32, steps: &[u8])
+    requires { length (S.waiting schedule.old).flags ≡ places }
+    ensures { length (S.waiting schedule.new).flags ≡ places }
+{
+    let mut adds = false;
+    for step in steps {
+        if *step == b'+' {
+            adds = true;
+            continue;
+        }
+        let place = u32::from(step.wrapping_sub(b'0'));
+        if adds {
+            assert!(rt; place < places);
+            schedule.add(place);
+        } else {
+            let front = schedule.look().expect(rt, "a pending place");
+            assert_eq!(rt; front, place);
+            assert!(rt; schedule.takes() < 100);
+            schedule.take(front);
+        }
+        adds = false;
+    }
+    assert_eq!(rt; schedule.look(), None);
+}
+
+/// Takes out a place that is not the one to look at, and then the others in turn.
+fn take_behind<S: Schedule, R: Abort>(rt: &R, schedule: &mut S)
+    requires { S.waiting schedule.old ≡ all_pending 4 }
+{
+    schedule.take(2);
+    assert_eq!(rt; schedule.takes(), 1);
+    follow(rt, schedule, 4, b"013");
+    assert_eq!(rt; schedule.takes(), 4);
+}
+
+/// The first round of a sweep over ten places, and steps that follow it.
+const SWEEPS: [&[u8]; 3] = [
+    // A place that is added before the next one is looked at first.
+    b"0123456789+9+22+559",
+    // Places up to the last one taken wait for the next round.
+    b"0123456789+2+92+2+5+1+7+4457912",
+    // A round is ended first.
+    b"0123456789+88+3+9+1+89138",
+];
+
+#[test]
+fn a_sweep_goes_round_and_round(rt: HostRuntime) -> Result<(), Fail> {
+    let mut sweep = Sweep::prepare(rt.alloc(), 4)?;
+    follow(&rt, &mut sweep, 4, b"01+1+0+22301+3+223");
+    for steps in &SWEEPS {
+        let mut sweep = Sweep::prepare(rt.alloc(), 10)?;
+        follow(&rt, &mut sweep, 10, *steps);
+    }
+    Ok(())
+}
+
+#[test]
+fn a_worklist_is_first_in_first_out(rt: HostRuntime) -> Result<(), Fail> {
+    let mut worklist = Worklist::prepare(rt.alloc(), 4)?;
+    follow(&rt, &mut worklist, 4, b"01+1+0+22310+3+2+332");
+    Ok(())
+}
+
+#[test]
+fn a_place_behind_the_front_is_taken(rt: HostRuntime) -> Result<(), Fail> {
+    let mut sweep = Sweep::prepare(rt.alloc(), 4)?;
+    take_behind(&rt, &mut sweep);
+    let mut worklist = Worklist::prepare(rt.alloc(), 4)?;
+    take_behind(&rt, &mut worklist);
+    Ok(())
+}
