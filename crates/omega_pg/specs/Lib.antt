@@ -1,20 +1,5 @@
-pub mod Automaton
-pub mod BadSolution
-pub mod Building
-pub mod Canonical
-pub mod Grammar
-pub mod Laws
-pub mod Reader
-pub mod Reading
-pub mod Refusing
-pub mod Run
-pub mod Solution
-pub mod SolutionAutomaton
-pub mod SolutionLaws
-pub mod SolutionLines
-pub mod SolutionReader
-pub mod SolutionReading
-pub mod SolutionText
+-- What contracts of game texts and solution texts cite.
 pub mod Symbols
-pub mod Syntax
-pub mod Text
+pub mod game
+pub mod reader
+pub mod solution

@@ -1,63 +1,11 @@
 //! What holds of every text, for callers' proofs: each call does nothing and states one law.
 
-ghost use Rattle.omega_pg.specs.Laws.{CanonicalTextsAreRead, GamesAreNotRefused, GamesOfTextsAreOne, RefusalsAreOne, SyntaxFaultsAreFirst, TextsAreReadOrRefused};
-
-use omega_game::{games_are_determined, games_exist, games_have_no_fault, games_keep_limits};
-use omega_text::{
-    cut_or_fault, cuts_are_one, cuts_have_no_fault, ends_are_gaps, faults_are_one,
-    names_are_longest, numbers_are_longest, signs_are_longest, tokens_follow, words_are_longest,
+pub use crate::game::laws::{
+    canonical_texts_are_read, games_are_not_refused, games_of_texts_are_one, refusals_are_one,
+    syntax_faults_are_first, texts_are_read_or_refused,
 };
-
-/// A text stands for at most one game.
-pub fn games_of_texts_are_one()
-    ensures { GamesOfTextsAreOne }
-{
-    cuts_are_one();
-    games_are_determined();
-}
-
-/// A text has at most one refusal.
-pub fn refusals_are_one()
-    ensures { RefusalsAreOne }
-{
-    cuts_are_one();
-    cuts_have_no_fault();
-    faults_are_one();
-}
-
-/// A text that stands for a game has no refusal.
-pub fn games_are_not_refused()
-    ensures { GamesAreNotRefused }
-{
-    cuts_are_one();
-    cuts_have_no_fault();
-    games_have_no_fault();
-}
-
-/// A text stands for a game or has a refusal.
-pub fn texts_are_read_or_refused()
-    ensures { TextsAreReadOrRefused }
-{
-    cut_or_fault();
-    games_exist();
-    games_keep_limits();
-}
-
-/// A text of the grammar begins through each token before the place of a syntax fault, and through no other.
-pub fn syntax_faults_are_first()
-    ensures { SyntaxFaultsAreFirst }
-{
-    cuts_are_one();
-}
-
-/// The canonical text of a game, within the limit of texts, stands for that game.
-pub fn canonical_texts_are_read()
-    ensures { CanonicalTextsAreRead }
-{
-    tokens_follow();
-    ends_are_gaps();
-    numbers_are_longest();
-    words_are_longest();
-    signs_are_longest();
-    names_are_longest();
-}
+pub use crate::solution::laws::{
+    reasons_are_exact, solution_refusals_are_one, solution_syntax_faults_are_first,
+    solution_texts_are_read_or_refused, solutions_are_not_refused, solutions_of_texts_are_one,
+    written_solutions_are_read,
+};

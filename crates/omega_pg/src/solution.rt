@@ -1,3 +1,13 @@
+//! A solution of a game, and its text: read, written, and what holds of every one.
+
+pub(crate) mod laws;
+mod lines;
+mod reader;
+pub(crate) mod reading;
+mod stage;
+mod syntax;
+pub(crate) mod writing;
+
 use omega_game::{Player, Seq, Strategy};
 
 /// For each place of a game its winner, and for each player a strategy.

@@ -1,0 +1,13 @@
+-- Lemmas of the texts of games.
+pub mod Built
+pub mod Changes
+pub mod Decided
+pub mod Grammar
+pub mod Listed
+pub mod Players
+pub mod RoundTrip
+pub mod Shown
+pub mod Spelled
+pub mod Texts
+pub mod WellFormed
+pub mod Written

@@ -1,5 +1,0 @@
-use Rattle.omega_pg.proofs.GameTexts.{refusals_one}
-use Rattle.omega_pg.proofs.laws.refusals_are_one.Goals as goal
-
-pub returns : goal.returns
-returns c = refusals_one c.cuts_are_one.ensures c.cuts_have_no_fault.ensures c.faults_are_one.ensures

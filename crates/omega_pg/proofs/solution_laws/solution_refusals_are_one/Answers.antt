@@ -1,5 +1,0 @@
-use Rattle.omega_pg.proofs.SolutionsApart.{solution_refusals_one}
-use Rattle.omega_pg.proofs.solution_laws.solution_refusals_are_one.Goals as goal
-
-pub returns : goal.returns
-returns c = solution_refusals_one c.cuts_are_one.ensures c.cuts_have_no_fault.ensures c.faults_are_one.ensures

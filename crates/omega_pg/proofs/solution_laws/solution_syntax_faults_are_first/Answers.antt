@@ -1,6 +1,0 @@
-use Rattle.omega_pg.specs.SolutionText.{SpellsSolution}
-use Rattle.omega_pg.proofs.Places.{faults_first}
-use Rattle.omega_pg.proofs.solution_laws.solution_syntax_faults_are_first.Goals as goal
-
-pub returns : goal.returns
-returns c nodes source place front rest token refused cut = faults_first SpellsSolution c.cuts_are_one.ensures source place front rest token refused.1 cut

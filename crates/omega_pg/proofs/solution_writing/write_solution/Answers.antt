@@ -1,8 +1,0 @@
-use Rattle.omega_pg.specs.Solution.{line_at}
-use Rattle.omega_pg.proofs.Solutions.{lines_more, solution_front}
-use Rattle.omega_pg.proofs.solution_writing.write_solution.Goals as goal
-
-pub loop-place-preserved : goal.loop-place-preserved
-loop-place-preserved c =
-    lines_more (line_at c.args.game.now c.args.solution.now) c.loop-place.place (solution_front c.args.game.now) _ _
-    c.loop-place.invariant c.in_ok-write_line.ensures.ok

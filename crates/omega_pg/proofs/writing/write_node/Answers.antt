@@ -1,8 +1,0 @@
-use Rattle.std.proofs.Common.{◌<◌, length}
-use Rattle.std.proofs.lemmas.List.Elements.{All-same}
-use Rattle.omega_pg.proofs.Listed.{successors_are_places}
-use Rattle.omega_pg.proofs.writing.write_node.Goals as goal
-
-pub write_listed-requires : goal.write_listed-requires
-write_listed-requires c =
-    All-same (λ place. place < length c.args.game.now) _ _ c.successors.ensures (successors_are_places c.args.game.now c.args.place c.requires.game)

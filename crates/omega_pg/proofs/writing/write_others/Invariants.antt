@@ -1,6 +1,0 @@
-use Rattle.std.proofs.Common.{◌≡◌, ◌++◌, map, take}
-use Rattle.omega_pg.specs.Canonical.{identifier_at, listed_behind}
-use Rattle.omega_pg.proofs.writing.write_others.Given as goal
-
-abbrev pub invariant-loop-place : goal.invariant-loop-place
-invariant-loop-place l = l.out.items ≡ l.fn.out.items ++ listed_behind (map (identifier_at l.game) (take l.place-index l.places))

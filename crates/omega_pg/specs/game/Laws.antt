@@ -1,0 +1,34 @@
+-- What holds of game texts, whatever reads or writes them.
+use Rattle.std.specs.Prelude.{◌≡◌, ℕ, ◌≤◌, ◌⊎◌, List, length}
+use Rattle.omega_text.specs.Limits.{most_text}
+use Rattle.omega_text.specs.declared.refusal.Refusal.{Refusal}
+use Rattle.omega_game.specs.Game.{Node, IsGame, IsWithinLimits}
+use Rattle.omega_pg.specs.game.Canonical.{canonical}
+use Rattle.omega_pg.specs.game.Refusing.{IsRefusal}
+use Rattle.omega_pg.specs.game.Text.{IsGameText}
+
+-- a text stands for at most one game
+abbrev pub GamesOfTextsAreOne : Type 0
+GamesOfTextsAreOne =
+    (source : List ℕ) (one other : List Node) → IsGameText source one → IsGameText source other → one ≡ other
+
+-- a text has at most one refusal
+abbrev pub RefusalsAreOne : Type 0
+RefusalsAreOne =
+    (source : List ℕ) (one other : Refusal) → IsRefusal source one → IsRefusal source other → one ≡ other
+
+-- a text that stands for a game has no refusal
+abbrev pub GamesAreNotRefused : Type 0
+GamesAreNotRefused =
+    (source : List ℕ) (game : List Node) (refusal : Refusal) → IsGameText source game → IsRefusal source refusal → ⊥
+
+-- a text stands for a game or has a refusal
+abbrev pub TextsAreReadOrRefused : Type 0
+TextsAreReadOrRefused =
+    (source : List ℕ) → ((game : List Node) × IsGameText source game) ⊎ ((refusal : Refusal) × IsRefusal source refusal)
+
+-- the canonical text of a game, within the limit of texts, stands for that game
+abbrev pub CanonicalTextsAreRead : Type 0
+CanonicalTextsAreRead =
+    (nodes : List Node) → IsGame nodes → IsWithinLimits nodes → length (canonical nodes) ≤ most_text
+    → IsGameText (canonical nodes) nodes

@@ -1,0 +1,4 @@
+-- What only the reader of game texts keeps and promises.
+pub mod Automaton
+pub mod Built
+pub mod Reader

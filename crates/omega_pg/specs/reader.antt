@@ -1,0 +1,2 @@
+-- What only readers keep and promise, whatever they read.
+pub mod Run

@@ -1,0 +1,9 @@
+-- The texts of solutions: what is a text, of which solution, why not, the written form, and what holds of all.
+pub mod BadSolution
+pub mod Canonical
+pub mod Grammar
+pub mod Laws
+pub mod Refusing
+pub mod Solution
+pub mod Text
+pub mod reader

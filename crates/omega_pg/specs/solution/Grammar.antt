@@ -1,0 +1,42 @@
+-- The grammar of solution texts, as a spelling: the symbols by which a header and lines are written.
+use Rattle.std.specs.Prelude.{◌≡◌, ℕ, Option, Some, None, List, [], ◌∷◌, ◌++◌}
+use Rattle.std.specs.List.{flat_map}
+use Rattle.omega_game.specs.declared.player.Player.{Player}
+use Rattle.omega_game.specs.declared.player.Player.TheVariants.{Zero}
+use Rattle.omega_text.specs.Syntax.{Syntax}
+use Rattle.omega_text.specs.declared.pg.kind.PgKind.{PgKind}
+use Rattle.omega_pg.specs.Symbols.{Symbol, pg_syntax, number, paritysol, semicolon}
+use Rattle.omega_game.specs.Player.{player_number}
+
+-- what a text says of a node: its identifier, its winner, and the identifier of a successor or none
+pub record Line : Type 0 where
+  pub identifier : ℕ
+  pub winner : Player
+  pub successor : Option ℕ
+
+-- what stands past the end of lines
+abbrev pub no_line : Line
+no_line = record { identifier = 0; winner = Zero; successor = None }
+
+-- a solution text as it is written: the number of its header, and its lines
+pub record RawSolution : Type 0 where
+  pub greatest : ℕ
+  pub lines : List Line
+
+-- successor?
+abbrev pub choice_symbols : Option ℕ → List Symbol
+choice_symbols None = []
+choice_symbols (Some id) = number id ∷ []
+
+-- line: identifier winner successor? `;`
+abbrev pub line_symbols : Line → List Symbol
+line_symbols line =
+    number line.identifier ∷ number (player_number line.winner) ∷ (choice_symbols line.successor ++ semicolon ∷ [])
+
+-- solution: `paritysol` number `;` line*
+abbrev pub SpellsSolution : List Symbol → RawSolution → Type 0
+SpellsSolution symbols raw = symbols ≡ paritysol ∷ number raw.greatest ∷ semicolon ∷ flat_map line_symbols raw.lines
+
+-- the syntax of solution texts
+abbrev pub solution_syntax : Syntax PgKind Symbol RawSolution
+solution_syntax = pg_syntax SpellsSolution

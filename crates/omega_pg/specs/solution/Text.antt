@@ -1,0 +1,31 @@
+-- Which solution of a game a text stands for.
+use Rattle.std.specs.Prelude.{ℕ, ◌≤◌, List, length, map, option_map}
+use Rattle.std.specs.List.{range_with_len}
+use Rattle.omega_text.specs.Limits.{most_text}
+use Rattle.omega_game.specs.Game.{Node, node_at, owner_at, greatest_identifier}
+use Rattle.omega_text.specs.Syntax.{IsTextOf}
+use Rattle.omega_pg.specs.solution.Grammar.{Line, RawSolution, solution_syntax}
+use Rattle.omega_pg.specs.solution.Solution.{IsSolution, choices_of, winner_at}
+use Rattle.omega_game.specs.Winning.{choice_at}
+use Rattle.omega_pg.specs.declared.solution.Solution.{Solution}
+
+-- the line of the node at a place: the choice of its owner stands there by its identifier
+abbrev pub line_at : List Node → Solution → ℕ → Line
+line_at nodes solution v = record {
+  identifier = (node_at nodes v).identifier;
+  winner = winner_at solution v;
+  successor = option_map (λ w. (node_at nodes w).identifier) (choice_at (choices_of solution (owner_at nodes v)) v);
+}
+
+-- what is written of a solution: the greatest identifier, and a line for each node in rising order
+abbrev pub raw_solution : List Node → Solution → RawSolution
+raw_solution nodes solution = record {
+  greatest = greatest_identifier nodes;
+  lines = map (line_at nodes solution) (range_with_len 0 (length nodes));
+}
+
+-- the text stands for the solution of the game
+pub record IsSolutionText (nodes : List Node) (source : List ℕ) (solution : Solution) : Type 0 where
+  pub short : length source ≤ most_text
+  pub writes : IsTextOf solution_syntax source (raw_solution nodes solution)
+  pub fits : IsSolution nodes solution

@@ -1,0 +1,8 @@
+//! The text of a game: read, written, and what holds of every one.
+
+pub(crate) mod laws;
+mod reader;
+pub(crate) mod reading;
+mod stage;
+mod syntax;
+pub(crate) mod writing;

@@ -1,0 +1,70 @@
+//! What holds of every text of a game, for callers' proofs: each call does nothing and states one law.
+
+ghost use Rattle.omega_pg.specs.game.Grammar.{game_syntax};
+ghost use Rattle.omega_pg.specs.game.Laws.{CanonicalTextsAreRead, GamesAreNotRefused, GamesOfTextsAreOne, RefusalsAreOne, TextsAreReadOrRefused};
+ghost use Rattle.omega_text.specs.Syntax.{SyntaxFaultsAreFirst};
+
+use super::syntax::GameSyntax;
+use omega_game::{games_exist, games_have_no_fault, games_keep_limits, specifications_have_one_game};
+use omega_text::PgKind;
+use omega_text::laws::{
+    cuts_are_one, text_faults_are_one, texts_are_read_or_faulty, texts_have_no_fault,
+};
+use omega_text::pg::laws::{
+    ends_are_gaps, names_are_longest, numbers_are_longest, signs_are_longest, tokens_follow,
+    words_are_longest,
+};
+
+/// A text stands for at most one game.
+pub fn games_of_texts_are_one()
+    ensures { GamesOfTextsAreOne }
+{
+    cuts_are_one::<PgKind>();
+    specifications_have_one_game();
+}
+
+/// A text has at most one refusal.
+pub fn refusals_are_one()
+    ensures { RefusalsAreOne }
+{
+    cuts_are_one::<PgKind>();
+    text_faults_are_one::<GameSyntax>();
+    texts_have_no_fault::<GameSyntax>();
+}
+
+/// A text that stands for a game has no refusal.
+pub fn games_are_not_refused()
+    ensures { GamesAreNotRefused }
+{
+    cuts_are_one::<PgKind>();
+    texts_have_no_fault::<GameSyntax>();
+    games_have_no_fault();
+}
+
+/// A text stands for a game or has a refusal.
+pub fn texts_are_read_or_refused()
+    ensures { TextsAreReadOrRefused }
+{
+    texts_are_read_or_faulty::<GameSyntax>();
+    games_exist();
+    games_keep_limits();
+}
+
+/// A text of the grammar begins through each token before the place of a syntax fault, and through no other.
+pub fn syntax_faults_are_first()
+    ensures { SyntaxFaultsAreFirst game_syntax }
+{
+    omega_text::laws::syntax_faults_are_first::<GameSyntax>();
+}
+
+/// The canonical text of a game, within the limit of texts, stands for that game.
+pub fn canonical_texts_are_read()
+    ensures { CanonicalTextsAreRead }
+{
+    tokens_follow();
+    ends_are_gaps();
+    numbers_are_longest();
+    words_are_longest();
+    signs_are_longest();
+    names_are_longest();
+}

@@ -1,0 +1,201 @@
+ghost use Rattle.std.specs.Prelude.{◌≡◌, ◌≤◌, ◌↔◌, IfOk, IsOkUnless, IsTrue, All};
+ghost use Rattle.omega_text.specs.pg.Forms.{IsQuoted};
+ghost use Rattle.omega_text.specs.Limits.{most_number};
+ghost use Rattle.omega_game.specs.Game.{IsNameByte};
+ghost use Rattle.omega_pg.specs.Symbols.{between_quotes};
+
+use crate::game::stage::Stage;
+use omega_game::{GameBuilder, Player, Refusal};
+use omega_text::{PgKind, Token, TokenReader};
+use std::alloc::Global;
+
+/// What was read of a game text so far.
+#[derive(Drop)]
+pub(crate) struct Reader {
+    pub(crate) stage: Stage,
+    /// The number of the header, if one was read.
+    pub(crate) header: Option<u32>,
+    /// The specifications, of which the last is open where the stage says so.
+    pub(crate) builder: GameBuilder,
+    /// Whether an identifier is above the header's number.
+    pub(crate) header_too_small: bool,
+}
+
+impl Reader {
+    ghost use Rattle.omega_pg.specs.game.reader.Automaton.{IsReady, Takes, after_comma, after_name, after_number, after_semicolon, after_word, initial};
+    ghost use Rattle.omega_pg.specs.game.reader.Reader.{state_of};
+    ghost use Rattle.omega_game.specs.Game.{IsNameByte};
+
+    pub(crate) fn new(alloc: Global) -> Self
+        ensures { state_of result ≡ initial }
+    {
+        Reader {
+            stage: Stage::Start,
+            header: None,
+            builder: GameBuilder::new(alloc),
+            header_too_small: false,
+        }
+    }
+
+    /// Takes a number, unless no text goes on so.
+    #[tactic(auto, using(crate::proofs::games::Changes::length_with_last, crate::proofs::games::Players::player_found, crate::proofs::games::Players::no_player_found))]
+    pub(crate) fn take_number(&mut self, number: u32) -> Result<bool, Refusal>
+        requires ready { IsReady (state_of self.old) }
+        requires number { number ≤ most_number }
+        ensures takes { IfOk result (λ taken. Takes taken (after_number self.old.stage (state_of self.old) number) (state_of self.new)) }
+        ensures memory { IsOkUnless result Refusal.Memory }
+    {
+        match self.stage {
+            Stage::Start | Stage::Headed | Stage::Ended => {
+                self.stage = Stage::Identifier { id: number };
+            }
+            Stage::Word => {
+                self.stage = Stage::Number { header: number };
+            }
+            Stage::Identifier { id } => {
+                self.stage = Stage::Priority {
+                    id,
+                    priority: number,
+                };
+            }
+            Stage::Priority { id, priority } => {
+                let Some(owner) = Player::of_number(number) else {
+                    return Ok(false);
+                };
+                self.stage = Stage::Owner {
+                    id,
+                    priority,
+                    owner,
+                };
+            }
+            Stage::Owner {
+                id,
+                priority,
+                owner,
+            } => {
+                self.builder.add_node(id, priority, owner, number)?;
+                self.header_too_small = self.header_too_small
+                    || self.header.is_some_and(|header| header < id);
+                self.stage = Stage::Listed;
+            }
+            Stage::Comma => {
+                self.builder.add_successor(number)?;
+                self.stage = Stage::Listed;
+            }
+            Stage::Number { .. } | Stage::Listed | Stage::Named => return Ok(false),
+        }
+        Ok(true)
+    }
+
+    /// Takes the word `parity`, unless no text goes on so.
+    pub(crate) fn take_word(&mut self) -> bool
+        ensures { Takes result (after_word self.old.stage (state_of self.old)) (state_of self.new) }
+    {
+        match self.stage {
+            Stage::Start => {
+                self.stage = Stage::Word;
+                true
+            }
+            _ => false,
+        }
+    }
+
+    /// Takes a semicolon, unless no text goes on so.
+    pub(crate) fn take_semicolon(&mut self) -> bool
+        requires { IsReady (state_of self.old) }
+        ensures { Takes result (after_semicolon self.old.stage (state_of self.old)) (state_of self.new) }
+    {
+        match self.stage {
+            Stage::Number { header } => {
+                self.header = Some(header);
+                self.stage = Stage::Headed;
+                true
+            }
+            Stage::Listed | Stage::Named => {
+                self.stage = Stage::Ended;
+                true
+            }
+            _ => false,
+        }
+    }
+
+    /// Takes a comma, unless no text goes on so.
+    pub(crate) fn take_comma(&mut self) -> bool
+        requires { IsReady (state_of self.old) }
+        ensures { Takes result (after_comma self.old.stage (state_of self.old)) (state_of self.new) }
+    {
+        match self.stage {
+            Stage::Listed => {
+                self.stage = Stage::Comma;
+                true
+            }
+            _ => false,
+        }
+    }
+
+    /// Takes a name without its quotes, unless no text goes on so.
+    #[tactic(auto, using(crate::proofs::games::Changes::length_with_last))]
+    pub(crate) fn take_name(&mut self, name: &[u8]) -> Result<bool, Refusal>
+        requires ready { IsReady (state_of self.old) }
+        requires bytes { All IsNameByte name.now }
+        ensures takes { IfOk result (λ taken. Takes taken (after_name self.old.stage (state_of self.old) name.now) (state_of self.new)) }
+        ensures memory { IsOkUnless result Refusal.Memory }
+    {
+        match self.stage {
+            Stage::Listed => {
+                self.builder.set_name(name)?;
+                self.stage = Stage::Named;
+                Ok(true)
+            }
+            _ => Ok(false),
+        }
+    }
+}
+
+impl TokenReader<PgKind> for Reader {
+    ghost use Rattle.omega_pg.specs.Symbols.{symbol_of, symbols_of};
+    ghost use Rattle.omega_pg.specs.game.Grammar.{game_syntax};
+    ghost use Rattle.omega_pg.specs.game.reader.Automaton.{IsReached, IsReady, Takes, step};
+    ghost use Rattle.omega_pg.specs.game.reader.Reader.{state_of};
+    ghost use Rattle.omega_pg.specs.declared.game.stage.Stage.TheVariants.{Ended};
+    ghost use Rattle.omega_text.specs.Lexeme.{lexeme_of};
+    ghost use Rattle.omega_text.specs.Syntax.{TokensBegin, TokensComplete};
+    ghost use Rattle.omega_text.specs.pg.Forms.{Spells};
+
+    ghost becomes = { λ _ lexemes reader. IsReached (symbols_of lexemes) (state_of reader) };
+
+    ghost begins = { TokensBegin game_syntax };
+
+    ghost completes = { TokensComplete game_syntax };
+
+    fn take(&mut self, token: &Token<'_, PgKind>) -> Result<bool, Refusal>
+        requires ready { IsReady (state_of self.old) }
+        requires token { Spells token.now.kind token.now.value token.now.text.now }
+        ensures takes { IfOk result (λ taken. Takes taken (step (state_of self.old) (symbol_of (lexeme_of token.now))) (state_of self.new)) }
+        ensures memory { IsOkUnless result Refusal.Memory }
+    {
+        match token.kind {
+            PgKind::Number => self.take_number(token.value),
+            PgKind::Parity => Ok(self.take_word()),
+            PgKind::ParitySol => Ok(false),
+            PgKind::Semicolon => Ok(self.take_semicolon()),
+            PgKind::Comma => Ok(self.take_comma()),
+            PgKind::Name => self.take_name(name_between_quotes(token.text)),
+        }
+    }
+
+    fn is_complete(&self) -> bool
+        ensures { IsTrue result ↔ (self.now.stage ≡ Ended) }
+    {
+        self.stage == Stage::Ended
+    }
+}
+
+/// The name between two quotes.
+fn name_between_quotes(text: &[u8]) -> &[u8]
+    requires { IsQuoted text.now }
+    ensures name { result.now ≡ between_quotes text.now }
+    ensures bytes { All IsNameByte result.now }
+{
+    &text[1..text.len() - 1]
+}

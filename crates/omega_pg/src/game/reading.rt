@@ -1,0 +1,48 @@
+ghost use Rattle.std.specs.Prelude.{◌≡◌, ◌<◌, length, None, IfOk, IfErr};
+ghost use Rattle.omega_game.specs.Building.{IsGameOf, fault_with};
+ghost use Rattle.omega_game.specs.Game.{IsWithinLimits};
+ghost use Rattle.omega_pg.specs.game.reader.Built.{IsBuiltRefusal};
+ghost use Rattle.omega_pg.specs.game.Refusing.{IsReadRefusal};
+ghost use Rattle.omega_pg.specs.game.Text.{IsGameText};
+
+use crate::game::reader::Reader;
+use omega_game::{Game, GameBuilder, GameFault, Refusal};
+use omega_text::{PgKind, read_text};
+use std::alloc::Global;
+
+/// The game that a text of PGSolver's format stands for. 1 to 4, 10 to 14 or 60: the refusal of the text, or memory.
+///
+/// The bytes are read once, from the left. A fault of tokens comes before one of syntax wherever it stands, and both
+/// before a fault of what is written.
+///
+/// No text has both a game and a refusal, or two of either, and each has one: laws `games_of_texts_are_one`,
+/// `refusals_are_one`, `games_are_not_refused`, `texts_are_read_or_refused`. Of the place of 3 there is
+/// `syntax_faults_are_first`.
+pub fn read_game(alloc: Global, bytes: &[u8]) -> Result<Game, Refusal>
+    ensures game { IfOk result (IsGameText bytes.now) }
+    ensures refused { IfErr result (IsReadRefusal bytes.now) }
+{
+    let Reader {
+        builder,
+        header_too_small,
+        ..
+    } = read_text::<PgKind, Reader>(Reader::new(alloc), bytes)?;
+    built(builder, header_too_small)
+}
+
+/// The game of specifications, of which one is above the number of the header if that is `too_small`.
+fn built(builder: GameBuilder, too_small: bool) -> Result<Game, Refusal>
+    requires { 0 < length builder }
+    ensures game { IfOk result (IsGameOf builder) }
+    ensures limits { IfOk result IsWithinLimits }
+    ensures faultless { IfOk result (λ _. fault_with too_small builder ≡ None) }
+    ensures refused { IfErr result (IsBuiltRefusal too_small builder) }
+{
+    match builder.finish() {
+        Err(Refusal::Game(GameFault::TooManyNodes | GameFault::TooManyEdges)) if too_small => {
+            Err(Refusal::Game(GameFault::HeaderTooSmall))
+        }
+        Ok(_game) if too_small => Err(Refusal::Game(GameFault::HeaderTooSmall)),
+        other => other,
+    }
+}

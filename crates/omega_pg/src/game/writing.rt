@@ -1,0 +1,101 @@
+ghost use Rattle.std.specs.Prelude.{◌≡◌, ◌<◌, ◌++◌, All, IfOk, IsOkUnless, OnOk, codes, decimal, length, map, option_map};
+ghost use Rattle.omega_game.specs.Building.{specified};
+ghost use Rattle.omega_game.specs.Game.{IsGame, node_at, identifier_at};
+ghost use Rattle.omega_pg.specs.game.Canonical.{canonical, header_line, listed, listed_behind, name_part, node_line};
+
+use omega_game::{Game, Refusal};
+use omega_text::write_number;
+use std::alloc::Global;
+
+/// The canonical text of a game. 60 alone.
+///
+/// If it has at most `MOST_TEXT` bytes, it is read back to the same game, by the law `canonical_texts_are_read`. The
+/// cost is linear in the text.
+pub fn write_game(alloc: Global, game: &Game) -> Result<Vec<u8>, Refusal>
+    ensures text { IfOk result (λ text. text.items ≡ canonical game.now) }
+    ensures memory { IsOkUnless result Refusal.Memory }
+{
+    let nodes = game.len();
+    let mut out = Vec::with_capacity(alloc, 32 + 16 * nodes + 4 * game.edges())?;
+    write_header(game.id(nodes as u32 - 1), &mut out)?;
+    for place in 0..nodes as u32 {
+        write_node(game, place, &mut out)?;
+    }
+    Ok(out)
+}
+
+/// Appends the line of the header.
+fn write_header(number: u32, out: &mut Vec<u8>) -> Result<(), Refusal>
+    ensures ok { OnOk result (out.new.items ≡ out.old.items ++ header_line number) }
+    ensures memory { IsOkUnless result Refusal.Memory }
+{
+    out.extend_from_slice(b"parity ")?;
+    write_number(u128::from(number), out)?;
+    out.extend_from_slice(b";\n")?;
+    Ok(())
+}
+
+/// Appends the line of the node at a place.
+fn write_node(game: &Game, place: u32, out: &mut Vec<u8>) -> Result<(), Refusal>
+    requires game { IsGame game.now }
+    requires place { place < length game.now }
+    ensures ok { OnOk result (out.new.items ≡ out.old.items ++ node_line (specified game.now (node_at game.now place))) }
+    ensures memory { IsOkUnless result Refusal.Memory }
+{
+    write_part(game.id(place), out)?;
+    write_part(game.priority(place), out)?;
+    write_part(game.owner(place).number(), out)?;
+    write_listed(game, game.successors(place), out)?;
+    write_name(game.name(place), out)?;
+    out.extend_from_slice(b";\n")?;
+    Ok(())
+}
+
+/// Appends a number and a space.
+pub(crate) fn write_part(number: u32, out: &mut Vec<u8>) -> Result<(), Refusal>
+    ensures ok { OnOk result (out.new.items ≡ out.old.items ++ (decimal number ++ codes " ")) }
+    ensures memory { IsOkUnless result Refusal.Memory }
+{
+    write_number(u128::from(number), out)?;
+    out.push(b' ')?;
+    Ok(())
+}
+
+/// Appends the identifiers of nodes at places, with a comma between each two.
+fn write_listed(game: &Game, places: &[u32], out: &mut Vec<u8>) -> Result<(), Refusal>
+    requires { All (λ place. place < length game.now) places.now }
+    ensures ok { OnOk result (out.new.items ≡ out.old.items ++ listed (map (identifier_at game.now) places.now)) }
+    ensures memory { IsOkUnless result Refusal.Memory }
+{
+    if let [first, others @ ..] = places {
+        write_number(u128::from(game.id(*first)), out)?;
+        write_others(game, others, out)?;
+    }
+    Ok(())
+}
+
+/// Appends the identifiers of nodes at places, with a comma before each.
+fn write_others(game: &Game, places: &[u32], out: &mut Vec<u8>) -> Result<(), Refusal>
+    requires { All (λ place. place < length game.now) places.now }
+    ensures ok { OnOk result (out.new.items ≡ out.old.items ++ listed_behind (map (identifier_at game.now) places.now)) }
+    ensures memory { IsOkUnless result Refusal.Memory }
+{
+    for place in places {
+        out.push(b',')?;
+        write_number(u128::from(game.id(*place)), out)?;
+    }
+    Ok(())
+}
+
+/// Appends a space and the name between quotes, if there is one.
+fn write_name(name: Option<&[u8]>, out: &mut Vec<u8>) -> Result<(), Refusal>
+    ensures ok { OnOk result (out.new.items ≡ out.old.items ++ name_part (option_map (λ name. name.now) name.entry)) }
+    ensures memory { IsOkUnless result Refusal.Memory }
+{
+    if let Some(name) = name {
+        out.extend_from_slice(b" \"")?;
+        out.extend_from_slice(name)?;
+        out.push(b'"')?;
+    }
+    Ok(())
+}

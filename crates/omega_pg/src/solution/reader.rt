@@ -1,0 +1,149 @@
+ghost use Rattle.std.specs.Prelude.{◌≡◌, ◌↔◌, IfOk, IsOkUnless, IsTrue};
+ghost use Rattle.omega_pg.specs.solution.reader.Automaton.{stage_after_number, stage_after_word};
+
+use crate::solution::lines::Lines;
+use crate::solution::stage::Stage;
+use omega_game::{Game, Player, Refusal};
+use omega_text::{PgKind, Token, TokenReader};
+use std::alloc::Global;
+
+/// What was read so far of a text of a game's solution.
+#[derive(Drop)]
+pub(crate) struct Reader<'g> {
+    pub(crate) game: &'g Game,
+    pub(crate) stage: Stage,
+    /// The number of the header.
+    pub(crate) greatest: u32,
+    pub(crate) lines: Lines,
+}
+
+impl<'g> Reader<'g> {
+    ghost use Rattle.omega_pg.specs.solution.reader.Automaton.{State, after_semicolon, initial};
+    ghost use Rattle.omega_pg.specs.solution.reader.Reading.{GoesOn, Keeps, KeepsNext};
+
+    pub(crate) fn new(alloc: Global, game: &'g Game) -> Self
+        ensures game { result.game.now ≡ game.now }
+        ensures keeps { Keeps game.now initial result.stage result.greatest result.lines }
+    {
+        Reader {
+            game,
+            stage: Stage::Start,
+            greatest: 0,
+            lines: Lines::new(alloc),
+        }
+    }
+
+    /// Goes on to a stage, if there is one.
+    fn go_on(&mut self, next: Option<Stage>) -> bool
+        ensures goes { GoesOn result next self.old.stage self.old.greatest self.old.lines self.new.stage self.new.greatest self.new.lines }
+        ensures game { self.new.game.now ≡ self.old.game.now }
+    {
+        match next {
+            Some(stage) => {
+                self.stage = stage;
+                true
+            }
+            None => false,
+        }
+    }
+
+    /// Takes a semicolon, unless no text goes on so.
+    fn take_semicolon(&mut self) -> Result<bool, Refusal>
+        ensures takes { IfOk result (λ taken. (state : State) → Keeps self.old.game.now state self.old.stage self.old.greatest self.old.lines
+            → KeepsNext taken self.old.game.now (after_semicolon state.stage state) self.new.stage self.new.greatest self.new.lines) }
+        ensures game { self.new.game.now ≡ self.old.game.now }
+        ensures memory { IsOkUnless result Refusal.Memory }
+    {
+        match self.stage {
+            Stage::Number { greatest } => {
+                self.greatest = greatest;
+                self.stage = Stage::Ended;
+                Ok(true)
+            }
+            Stage::Winner { id, winner } => {
+                self.lines.add(self.game, id, winner, None)?;
+                self.stage = Stage::Ended;
+                Ok(true)
+            }
+            Stage::Chosen {
+                id,
+                winner,
+                successor,
+            } => {
+                self.lines.add(self.game, id, winner, Some(successor))?;
+                self.stage = Stage::Ended;
+                Ok(true)
+            }
+            _ => Ok(false),
+        }
+    }
+}
+
+impl TokenReader<PgKind> for Reader<'_> {
+    ghost use Rattle.omega_pg.specs.Symbols.{symbol_of};
+    ghost use Rattle.omega_pg.specs.solution.Grammar.{solution_syntax};
+    ghost use Rattle.omega_pg.specs.solution.reader.Automaton.{State, step};
+    ghost use Rattle.omega_pg.specs.solution.reader.Reader.{HasBecome};
+    ghost use Rattle.omega_pg.specs.solution.reader.Reading.{Keeps, KeepsNext};
+    ghost use Rattle.omega_pg.specs.declared.solution.stage.Stage.TheVariants.{Ended};
+    ghost use Rattle.omega_text.specs.Lexeme.{lexeme_of};
+    ghost use Rattle.omega_text.specs.Syntax.{TokensBegin, TokensComplete};
+
+    ghost becomes = { HasBecome };
+
+    ghost begins = { TokensBegin solution_syntax };
+
+    ghost completes = { TokensComplete solution_syntax };
+
+    fn take(&mut self, token: &Token<'_, PgKind>) -> Result<bool, Refusal>
+        ensures takes { IfOk result (λ taken. (state : State) → Keeps self.old.game.now state self.old.stage self.old.greatest self.old.lines
+            → KeepsNext taken self.old.game.now (step state (symbol_of (lexeme_of token.now))) self.new.stage self.new.greatest self.new.lines) }
+        ensures game { self.new.game.now ≡ self.old.game.now }
+        ensures memory { IsOkUnless result Refusal.Memory }
+    {
+        match token.kind {
+            PgKind::Number => Ok(self.go_on(after_number(self.stage, token.value))),
+            PgKind::ParitySol => Ok(self.go_on(after_word(self.stage))),
+            PgKind::Semicolon => self.take_semicolon(),
+            PgKind::Parity => Ok(false),
+            PgKind::Comma => Ok(false),
+            PgKind::Name => Ok(false),
+        }
+    }
+
+    fn is_complete(&self) -> bool
+        ensures { IsTrue result ↔ (self.now.stage ≡ Ended) }
+    {
+        self.stage == Stage::Ended
+    }
+}
+
+/// Where a number leads.
+#[tactic(auto, using(crate::proofs::games::Players::player_found, crate::proofs::games::Players::no_player_found))]
+fn after_number(stage: Stage, number: u32) -> Option<Stage>
+    ensures { result ≡ stage_after_number stage number }
+{
+    match stage {
+        Stage::Word => Some(Stage::Number { greatest: number }),
+        Stage::Ended => Some(Stage::Identifier { id: number }),
+        Stage::Identifier { id } => {
+            Player::of_number(number).map(|winner| Stage::Winner { id, winner })
+        }
+        Stage::Winner { id, winner } => Some(Stage::Chosen {
+            id,
+            winner,
+            successor: number,
+        }),
+        Stage::Start | Stage::Number { .. } | Stage::Chosen { .. } => None,
+    }
+}
+
+/// Where the word `paritysol` leads.
+fn after_word(stage: Stage) -> Option<Stage>
+    ensures { result ≡ stage_after_word stage }
+{
+    match stage {
+        Stage::Start => Some(Stage::Word),
+        _ => None,
+    }
+}

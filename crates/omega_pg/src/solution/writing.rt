@@ -1,0 +1,77 @@
+ghost use Rattle.std.specs.Prelude.{◌≡◌, ◌<◌, ◌++◌, IfOk, IfSome, IsOkUnless, OnOk, length, option_map};
+ghost use Rattle.omega_game.specs.Game.{IsGame, identifier_at};
+ghost use Rattle.omega_pg.specs.solution.Solution.{IsSolution, choices_of, winner_at};
+ghost use Rattle.omega_game.specs.Winning.{choice_at};
+ghost use Rattle.omega_pg.specs.solution.Text.{line_at};
+ghost use Rattle.omega_pg.specs.solution.Canonical.{choice_part, solution_line, solution_text};
+
+use crate::game::writing::write_part;
+use crate::solution::Solution;
+use omega_game::{Game, Player, Refusal};
+use omega_text::write_number;
+use std::alloc::Global;
+
+/// The text of a solution of the game. 60 alone.
+///
+/// If it has at most `MOST_TEXT` bytes, it is read back to the same solution, by the law `written_solutions_are_read`.
+/// The cost is linear in the nodes.
+pub fn write_solution(alloc: Global, game: &Game, solution: &Solution) -> Result<Vec<u8>, Refusal>
+    requires { IsSolution game.now solution.now }
+    ensures text { IfOk result (λ text. text.items ≡ solution_text game.now solution.now) }
+    ensures memory { IsOkUnless result Refusal.Memory }
+{
+    let nodes = game.len();
+    let mut out = Vec::with_capacity(alloc, 32 + 16 * nodes)?;
+    out.extend_from_slice(b"paritysol ")?;
+    write_number(u128::from(game.id(nodes as u32 - 1)), &mut out)?;
+    out.extend_from_slice(b";\n")?;
+    for place in 0..nodes as u32 {
+        write_line(game, solution, place, &mut out)?;
+    }
+    Ok(out)
+}
+
+/// Appends the line of the node at a place.
+fn write_line(
+    game: &Game,
+    solution: &Solution,
+    place: u32,
+    out: &mut Vec<u8>,
+) -> Result<(), Refusal>
+    requires solution { IsSolution game.now solution.now }
+    requires game { IsGame game.now }
+    requires place { place < length game.now }
+    ensures ok { OnOk result (out.new.items ≡ out.old.items ++ solution_line (line_at game.now solution.now place)) }
+    ensures memory { IsOkUnless result Refusal.Memory }
+{
+    write_part(game.id(place), out)?;
+    let winner = solution.winners.as_slice()[place as usize];
+    write_number(u128::from(winner.number()), out)?;
+    write_choice(game, choice_of(solution, game.owner(place), place), out)?;
+    out.extend_from_slice(b";\n")?;
+    Ok(())
+}
+
+/// The choice of a player at a place.
+fn choice_of(solution: &Solution, player: Player, place: u32) -> Option<u32>
+    requires { place < length (choices_of solution.now player) }
+    ensures { result ≡ choice_at (choices_of solution.now player) place }
+{
+    match player {
+        Player::Zero => solution.zero.choice.as_slice()[place as usize],
+        Player::One => solution.one.choice.as_slice()[place as usize],
+    }
+}
+
+/// Appends a space and the identifier of a chosen place, if there is one.
+fn write_choice(game: &Game, choice: Option<u32>, out: &mut Vec<u8>) -> Result<(), Refusal>
+    requires { IfSome choice (λ place. place < length game.now) }
+    ensures ok { OnOk result (out.new.items ≡ out.old.items ++ choice_part (option_map (identifier_at game.now) choice)) }
+    ensures memory { IsOkUnless result Refusal.Memory }
+{
+    if let Some(place) = choice {
+        out.push(b' ')?;
+        write_number(u128::from(game.id(place)), out)?;
+    }
+    Ok(())
+}
