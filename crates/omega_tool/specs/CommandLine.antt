@@ -2,8 +2,8 @@
 use Rattle.std.specs.Prelude.{◌≡◌, ◌≢◌, ◌≤◌, ◌⊎◌, List, Option, Some, None, ℕ, codes, string_bytes, option_map}
 use Rattle.std.specs.Str.Parse.{IsNumeral, digits_value}
 use Rattle.omega_game.specs.declared.player.Player.{Player}
-use Rattle.omega_pg.specs.Symbols.{player_number}
-use Rattle.omega_solve.specs.declared.solver.TheConstants.{MOST_LIFTS}
+use Rattle.omega_game.specs.Player.{player_number}
+use Rattle.omega_solve.specs.Limits.{most_lifts}
 use Rattle.omega_text.specs.Limits.{most_number}
 use Rattle.omega_tool.specs.declared.command.Command.TheVariants as command
 use Rattle.omega_tool.specs.declared.command.Format.{Format}
@@ -44,8 +44,8 @@ Gives reads (Some text) (Some value) = reads text value
 
 -- the budget: by default the greatest
 abbrev pub GivesBudget : Option (List ℕ) → ℕ → Type 0
-GivesBudget None budget = budget ≡ MOST_LIFTS
-GivesBudget (Some text) budget = IsNumberText MOST_LIFTS text budget
+GivesBudget None budget = budget ≡ most_lifts
+GivesBudget (Some text) budget = IsNumberText most_lifts text budget
 
 -- the text of an option, if it is given
 abbrev pub text_of : Name → Options → Option (List ℕ)
@@ -68,11 +68,11 @@ id_of name.Game = codes "game"
 -- the subcommand of this name, with these options, asks for the line
 abbrev pub Asks : List ℕ → Options → Line → Type 0
 Asks subcommand options (line.Run (command.Show format) budget) =
-    (subcommand ≡ codes "show") × Gives IsFormatText (text_of name.Format options) (Some format) × (budget ≡ MOST_LIFTS)
+    (subcommand ≡ codes "show") × Gives IsFormatText (text_of name.Format options) (Some format) × (budget ≡ most_lifts)
 Asks subcommand options (line.Run (command.Check format) budget) =
-    (subcommand ≡ codes "check") × Gives IsFormatText (text_of name.Format options) (Some format) × (budget ≡ MOST_LIFTS)
+    (subcommand ≡ codes "check") × Gives IsFormatText (text_of name.Format options) (Some format) × (budget ≡ most_lifts)
 Asks subcommand options (line.Run (command.Canon format) budget) =
-    (subcommand ≡ codes "canon") × Gives IsFormatText (text_of name.Format options) (Some format) × (budget ≡ MOST_LIFTS)
+    (subcommand ≡ codes "canon") × Gives IsFormatText (text_of name.Format options) (Some format) × (budget ≡ most_lifts)
 Asks subcommand options (line.Run (command.Solve player from) budget) =
     (subcommand ≡ codes "solve") × Gives IsPlayerText (text_of name.Player options) player
     × Gives (IsNumberText most_number) (text_of name.From options) from × GivesBudget (text_of name.Budget options) budget
@@ -87,12 +87,12 @@ Asks subcommand options (line.Fault text) = ⊥
 -- ---- what is wrong with a subcommand or an option
 
 -- the subcommand takes the option
-abbrev pub Takes : List ℕ → Name → Type 0
-Takes subcommand name.Format = (subcommand ≡ codes "show") ⊎ (subcommand ≡ codes "check") ⊎ (subcommand ≡ codes "canon")
-Takes subcommand name.Player = subcommand ≡ codes "solve"
-Takes subcommand name.From = subcommand ≡ codes "solve"
-Takes subcommand name.Budget = subcommand ≡ codes "solve"
-Takes subcommand name.Game = subcommand ≡ codes "verify"
+abbrev pub HasOption : List ℕ → Name → Type 0
+HasOption subcommand name.Format = (subcommand ≡ codes "show") ⊎ (subcommand ≡ codes "check") ⊎ (subcommand ≡ codes "canon")
+HasOption subcommand name.Player = subcommand ≡ codes "solve"
+HasOption subcommand name.From = subcommand ≡ codes "solve"
+HasOption subcommand name.Budget = subcommand ≡ codes "solve"
+HasOption subcommand name.Game = subcommand ≡ codes "verify"
 
 -- the option has to be given
 abbrev pub IsRequired : Name → Type 0
@@ -107,7 +107,7 @@ abbrev pub StandsForNothing : Name → List ℕ → Type 0
 StandsForNothing name.Format text = (format : Format) → IsFormatText text format → ⊥
 StandsForNothing name.Player text = (player : Player) → IsPlayerText text player → ⊥
 StandsForNothing name.From text = (number : ℕ) → IsNumberText most_number text number → ⊥
-StandsForNothing name.Budget text = (number : ℕ) → IsNumberText MOST_LIFTS text number → ⊥
+StandsForNothing name.Budget text = (number : ℕ) → IsNumberText most_lifts text number → ⊥
 StandsForNothing name.Game text = ⊥
 
 -- the mistake is that the option is missing, or that its text stands for nothing
@@ -130,6 +130,6 @@ pub record IsUnknown (subcommand : List ℕ) : Type 0 where
 abbrev pub IsMistake : List ℕ → Options → Mistake → Type 0
 IsMistake subcommand options mistake.Unknown = IsUnknown subcommand
 IsMistake subcommand options mistake.Memory = Unit {0}
-IsMistake subcommand options (mistake.Missing option) = Takes subcommand option × IsFaulty option options (mistake.Missing option)
+IsMistake subcommand options (mistake.Missing option) = HasOption subcommand option × IsFaulty option options (mistake.Missing option)
 IsMistake subcommand options (mistake.Value option text reason) =
-    Takes subcommand option × IsFaulty option options (mistake.Value option text reason)
+    HasOption subcommand option × IsFaulty option options (mistake.Value option text reason)

@@ -3,7 +3,7 @@ use Rattle.std.specs.Prelude.{◌≡◌, ◌+◌, ◌<◌, ◌⊎◌, [], List, 
 use Rattle.std.specs.Io.KnownBytes.{Appends, Keeps}
 use Rattle.omega_text.specs.declared.refusal.Refusal.{Refusal}
 use Rattle.omega_text.specs.declared.refusal.Refusal.TheVariants.{Io, Memory}
-use Rattle.omega_solve.specs.declared.solver.TheConstants.{MOST_LIFTS}
+use Rattle.omega_solve.specs.Limits.{most_lifts}
 use Rattle.omega_tool.specs.declared.command.Command.{Command}
 use Rattle.omega_tool.specs.declared.command.Command.TheVariants as command
 use Rattle.omega_tool.specs.declared.exit.Exit.{Exit}
@@ -39,9 +39,9 @@ pub record IsRefusedRun (command : Command) (budget : ℕ) (refusal : Refusal) (
   pub failed : refusal ≡ Io → before.failed_reads + before.failed_writes < after.failed_reads + after.failed_writes
 
 -- a run of the command ended so
-abbrev pub Runs : Command → ℕ → Result Exit Refusal → Streams → Streams → Type 0
-Runs command budget (Ok exit) before after = Completes command budget before.unread after.unread before.held after.held exit
-Runs command budget (Err refusal) before after = IsRefusedRun command budget refusal before after
+abbrev pub Performs : Command → ℕ → Result Exit Refusal → Streams → Streams → Type 0
+Performs command budget (Ok exit) before after = Completes command budget before.unread after.unread before.held after.held exit
+Performs command budget (Err refusal) before after = IsRefusedRun command budget refusal before after
 
 -- the text was written, or where a write failed, a beginning of it
 abbrev pub Prints : List ℕ → Result Exit Refusal → (held holds : Option (List ℕ)) → (failed failures : ℕ) → Type 0
@@ -50,14 +50,14 @@ Prints text (Err refusal) held holds failed failures = (refusal ≡ Io) × (fail
 
 -- the file was read as some text of a game and the solution verified against it, or the file was refused and nothing read or written
 abbrev pub Verifies : (List ℕ → Type 0) → (Refusal → Type 0) → Result Exit Refusal → Streams → Streams → Type 0
-Verifies reads refuses (Ok exit) before after = (game : List ℕ) × reads game × Runs (command.Verify game) MOST_LIFTS (Ok exit) before after
+Verifies reads refuses (Ok exit) before after = (game : List ℕ) × reads game × Performs (command.Verify game) most_lifts (Ok exit) before after
 Verifies reads refuses (Err refusal) before after =
-    ((game : List ℕ) × reads game × Runs (command.Verify game) MOST_LIFTS (Err refusal) before after)
+    ((game : List ℕ) × reads game × Performs (command.Verify game) most_lifts (Err refusal) before after)
     ⊎ (refuses refusal × (after ≡ before))
 
 -- what the line asks for was done, and ended so, where files are read so and refused so by their names
 abbrev pub Obeys : (List ℕ → List ℕ → Type 0) → (List ℕ → Refusal → Type 0) → Line → Result Exit Refusal → Streams → Streams → Type 0
-Obeys reads refuses (Run command budget) outcome before after = Runs command budget outcome before after
+Obeys reads refuses (Run command budget) outcome before after = Performs command budget outcome before after
 Obeys reads refuses (Verify file) outcome before after = Verifies (reads (string_bytes file)) (refuses (string_bytes file)) outcome before after
 Obeys reads refuses (Help text) outcome before after =
     (after.unread ≡ before.unread) × Prints (string_bytes text) outcome before.held after.held before.failed_writes after.failed_writes

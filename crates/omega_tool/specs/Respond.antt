@@ -3,7 +3,7 @@ use Rattle.std.specs.Prelude.{◌≡◌, List, Option, ℕ}
 use Rattle.std.specs.Io.KnownBytes.{Consumes, IsAtEnd}
 use Rattle.omega_text.specs.Cases.{or_io, or_memory}
 use Rattle.omega_text.specs.declared.refusal.Refusal.{Refusal}
-use Rattle.omega_pg.specs.Refusing.{IsRefusal}
+use Rattle.omega_pg.specs.game.Refusing.{IsRefusal}
 use Rattle.omega_tool.specs.declared.command.Command.{Command}
 use Rattle.omega_tool.specs.declared.command.Command.TheVariants.{Canon, Check, Empty, Game, Show, Solve, Verify}
 use Rattle.omega_tool.specs.declared.command.Format.TheVariants.{Hoa, Pg}

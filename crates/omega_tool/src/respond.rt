@@ -1,5 +1,5 @@
 ghost use Rattle.std.specs.Prelude.{◌≡◌, ◌+◌, ◌-◌, ◌^◌, ◌<◌, ◌≤◌, IfOk, IfErr};
-ghost use Rattle.omega_solve.specs.declared.solver.TheConstants.{MOST_LIFTS};
+ghost use Rattle.omega_solve.specs.Limits.{most_lifts};
 ghost use Rattle.omega_tool.specs.Line.{IsOffered};
 ghost use Rattle.omega_tool.specs.Respond.{IsRunRefusal, Responds};
 ghost use Rattle.omega_tool.specs.transfer.Failures.{failures_of};
@@ -27,7 +27,7 @@ pub fn respond<R: Input>(
     budget: u64,
 ) -> Result<(Exit, Vec<u8>), Refusal>
     requires offered { IsOffered command.now }
-    requires budget { budget ≤ MOST_LIFTS }
+    requires budget { budget ≤ most_lifts }
     requires reads { R.failed input.old < 2 ^ 64 - 1 }
     ensures answered { IfOk result (λ made. Responds command.now budget (R.remaining input.old) (R.remaining input.new) made.0 made.1.items) }
     ensures refused { IfErr result (IsRunRefusal command.now budget (R.remaining input.old) (R.remaining input.new)) }

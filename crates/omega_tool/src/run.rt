@@ -1,5 +1,5 @@
 ghost use Rattle.std.specs.Prelude.{◌≡◌, ◌+◌, ◌-◌, ◌^◌, ◌<◌, ◌≤◌, IfOk, IfErr, OnErr};
-ghost use Rattle.omega_solve.specs.declared.solver.TheConstants.{MOST_LIFTS};
+ghost use Rattle.omega_solve.specs.Limits.{most_lifts};
 ghost use Rattle.std.specs.Io.KnownBytes.{Keeps};
 ghost use Rattle.omega_tool.specs.Line.{IsOffered};
 ghost use Rattle.omega_tool.specs.Respond.{IsRunRefusal};
@@ -27,7 +27,7 @@ pub fn run_command<R: Input, W: Output>(
     budget: u64,
 ) -> Result<Exit, Refusal>
     requires offered { IsOffered command.now }
-    requires budget { budget ≤ MOST_LIFTS }
+    requires budget { budget ≤ most_lifts }
     requires reads { R.failed input.old < 2 ^ 64 - 1 }
     requires writes { W.failed output.old < 2 ^ 64 - 1 }
 

@@ -2,9 +2,10 @@
 use Rattle.std.specs.Prelude.{◌≡◌, ◌⊎◌, List, ℕ, codes}
 use Rattle.omega_text.specs.declared.refusal.Refusal.{Refusal}
 use Rattle.omega_game.specs.Game.{Node}
-use Rattle.omega_pg.specs.Refusing.{IsRefusal}
-use Rattle.omega_pg.specs.SolutionText.{IsSolutionRefusal, IsSolutionText}
-use Rattle.omega_pg.specs.Text.{IsGameText}
+use Rattle.omega_pg.specs.game.Refusing.{IsRefusal}
+use Rattle.omega_pg.specs.solution.Refusing.{IsSolutionRefusal}
+use Rattle.omega_pg.specs.solution.Text.{IsSolutionText}
+use Rattle.omega_pg.specs.game.Text.{IsGameText}
 use Rattle.omega_pg.specs.declared.solution.Solution.{Solution}
 use Rattle.omega_tool.specs.declared.exit.Exit.{Exit}
 use Rattle.omega_tool.specs.declared.exit.Exit.TheVariants.{Done, No}

@@ -1,6 +1,6 @@
 ghost use Rattle.std.specs.Prelude.{◌≡◌, IfOk, IfErr};
-ghost use Rattle.omega_pg.specs.Refusing.{IsReadRefusal};
-ghost use Rattle.omega_pg.specs.Text.{IsGameText};
+ghost use Rattle.omega_pg.specs.game.Refusing.{IsReadRefusal};
+ghost use Rattle.omega_pg.specs.game.Text.{IsGameText};
 
 use omega_game::{Game, Refusal};
 use omega_pg::read_game;

@@ -1,6 +1,5 @@
 ghost use Rattle.std.specs.Prelude.{◌≡◌, ◌++◌, OnOk, IsOkUnless};
 ghost use Rattle.omega_text.specs.declared.refusal.Refusal.TheVariants.{Memory};
-ghost use Rattle.omega_pg.specs.Symbols.{player_number};
 ghost use Rattle.omega_tool.specs.answers.PlayerText.{player_text};
 
 use omega_game::{Player, Refusal};
@@ -12,14 +11,5 @@ pub fn append_player(player: Player, out: &mut Vec<u8>) -> Result<(), Refusal>
     ensures memory { IsOkUnless result Memory }
 {
     out.extend_from_slice(b"player ")?;
-    write_number(player_number(player), out)
-}
-
-fn player_number(player: Player) -> u128
-    ensures { result ≡ player_number player }
-{
-    match player {
-        Player::Zero => 0,
-        Player::One => 1,
-    }
+    write_number(u128::from(player.number()), out)
 }

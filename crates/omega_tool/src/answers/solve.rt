@@ -1,5 +1,5 @@
 ghost use Rattle.std.specs.Prelude.{◌≡◌, ◌≤◌, ◌⊎◌, IfOk, IfErr, Some, None};
-ghost use Rattle.omega_solve.specs.declared.solver.TheConstants.{MOST_LIFTS};
+ghost use Rattle.omega_solve.specs.Limits.{most_lifts};
 ghost use Rattle.omega_text.specs.declared.refusal.Refusal.TheVariants.{Memory};
 ghost use Rattle.omega_tool.specs.answers.solve.Refusing.{IsSolveRefusal};
 ghost use Rattle.omega_tool.specs.answers.solve.Solving.{IsSolveAnswer, SolvesPart, SolvesWhole};
@@ -7,12 +7,12 @@ ghost use Rattle.omega_tool.specs.steps.GameRefusal.{IsGameRefusal};
 
 mod answer_text;
 mod both;
-mod found;
 mod one;
 
 use super::game_text::game_of;
 use both::solve_both;
-use omega_game::{Game, Player, Refusal, TaskFault, regions_of_parts};
+use omega_game::{Game, Player, Refusal, TaskFault};
+use omega_region::regions_of_parts;
 use omega_solve::{MeasureTable, Schedule};
 use one::solve_one;
 use std::alloc::Global;
@@ -26,7 +26,7 @@ pub fn solve<T: MeasureTable, S: Schedule>(
     from: Option<u32>,
     budget: u64,
 ) -> Result<Vec<u8>, Refusal>
-    requires { budget ≤ MOST_LIFTS }
+    requires { budget ≤ most_lifts }
     ensures answer { IfOk result (λ output. IsSolveAnswer text.items asked from budget output.items) }
     ensures refused { IfErr result (λ refusal. (refusal ≡ Memory) ⊎ IsSolveRefusal text.items asked from budget refusal) }
 {
@@ -45,13 +45,12 @@ fn solve_part<T: MeasureTable, S: Schedule>(
     identifier: u32,
     budget: u64,
 ) -> Result<Vec<u8>, Refusal>
-    requires { budget ≤ MOST_LIFTS }
+    requires { budget ≤ most_lifts }
     ensures answer { IfOk result (λ output. SolvesPart game asked identifier budget output.items) }
     ensures refused { IfErr result (IsGameRefusal game asked (Some identifier) budget) }
 {
     regions_of_parts();
-    // Called for what its contract says: the nodes are a game's, within the limits.
-    let _nodes = game.len();
+    game.keeps_limits();
     let place = match game.place_of(identifier) {
         Some(place) => place,
         None => return Err(Refusal::Task(TaskFault::UnknownNode)),
@@ -68,7 +67,7 @@ fn solve_whole<T: MeasureTable, S: Schedule>(
     asked: Option<Player>,
     budget: u64,
 ) -> Result<Vec<u8>, Refusal>
-    requires { budget ≤ MOST_LIFTS }
+    requires { budget ≤ most_lifts }
     ensures answer { IfOk result (λ output. SolvesWhole game.now asked budget output.items) }
     ensures refused { IfErr result (IsGameRefusal game.now asked None budget) }
 {

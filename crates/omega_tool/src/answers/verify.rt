@@ -1,8 +1,9 @@
 ghost use Rattle.std.specs.Prelude.{◌≡◌, ◌≤◌, ◌⊎◌, ◌↔◌, IfOk, IfErr, IsOkUnless, IsTrue, length};
 ghost use Rattle.omega_text.specs.declared.refusal.Refusal.TheVariants.{Memory};
-ghost use Rattle.omega_game.specs.declared.limits.TheConstants.{MOST_NODES};
-ghost use Rattle.omega_pg.specs.Solution.{IsSolution, choices_of};
-ghost use Rattle.omega_pg.specs.SolutionText.{IsReadSolutionRefusal, IsSolutionText};
+ghost use Rattle.omega_game.specs.Limits.{most_nodes};
+ghost use Rattle.omega_pg.specs.solution.Solution.{IsSolution, choices_of};
+ghost use Rattle.omega_pg.specs.solution.Refusing.{IsReadSolutionRefusal};
+ghost use Rattle.omega_pg.specs.solution.Text.{IsSolutionText};
 ghost use Rattle.omega_tool.specs.answers.Verify.{IsVerifyAnswer, IsVerifyRefusal};
 ghost use Rattle.omega_tool.specs.answers.solve.Solution.{WinsAsGiven, WinsGiven};
 ghost use Rattle.omega_tool.specs.steps.Verdict.{given_to, is_given, verdict_exit, verdict_text};
@@ -67,8 +68,7 @@ fn wins_given(
     ensures wins { IfOk result (λ answer. IsTrue answer ↔ WinsGiven game.now solution.now player) }
     ensures memory { IsOkUnless result Memory }
 {
-    // Called for what its contract says: the nodes are a game's, within the limits.
-    let _nodes = game.len();
+    game.keeps_limits();
     let places = given_to(alloc, player, solution.winners.as_slice())?;
     let strategy = strategy_of(solution, player);
     check_strategy(alloc, game, player, places.as_slice(), strategy)
@@ -86,7 +86,7 @@ fn strategy_of(solution: &Solution, player: Player) -> &Strategy
 
 /// The places of the nodes given to a player. 60 alone.
 fn given_to(alloc: Global, player: Player, winners: &[Player]) -> Result<Vec<u32>, Refusal>
-    requires { length winners.now ≤ MOST_NODES }
+    requires { length winners.now ≤ most_nodes }
     ensures places { IfOk result (λ places. places.items ≡ given_to player winners.now) }
     ensures memory { IsOkUnless result Memory }
 {

@@ -72,8 +72,7 @@ fn player_in<'a>(options: &Options<'a>) -> Result<Option<Player>, Mistake<'a>>
         return Ok(None);
     };
     match number_in(text, 1) {
-        Ok(0) => Ok(Some(Player::Zero)),
-        Ok(_) => Ok(Some(Player::One)),
+        Ok(number) => Ok(Player::of_number(number as u32)),
         Err(reason) => Err(Mistake::Value(Name::Player, text, reason)),
     }
 }

@@ -1,8 +1,8 @@
 -- What `canon` answers for a game text.
 use Rattle.std.specs.Prelude.{◌≡◌, List, ℕ}
 use Rattle.omega_game.specs.Game.{Node}
-use Rattle.omega_pg.specs.Canonical.{canonical}
-use Rattle.omega_pg.specs.Text.{IsGameText}
+use Rattle.omega_pg.specs.game.Canonical.{canonical}
+use Rattle.omega_pg.specs.game.Text.{IsGameText}
 
 -- what `canon` answers: the text stands for a game, and its canonical text is written
 pub record IsCanonAnswer (text output : List ℕ) : Type 0 where

@@ -3,9 +3,8 @@ use Rattle.std.specs.Prelude.{◌≡◌, ◌++◌, ◌^◌, List, ℕ, codes, de
 use Rattle.omega_game.specs.declared.player.Player.{Player}
 use Rattle.omega_game.specs.declared.player.Player.TheVariants.{One, Zero}
 use Rattle.omega_game.specs.Bound.{bound_of}
-use Rattle.omega_game.specs.Game.{Node, edge_count, priorities}
-use Rattle.omega_pg.specs.Canonical.{greatest_identifier}
-use Rattle.omega_pg.specs.Text.{IsGameText}
+use Rattle.omega_game.specs.Game.{Node, edge_count, priorities, greatest_identifier}
+use Rattle.omega_pg.specs.game.Text.{IsGameText}
 use Rattle.omega_tool.specs.answers.PlayerText.{player_text}
 
 -- a bound as it is written: in decimal, or that it takes more than 128 bits

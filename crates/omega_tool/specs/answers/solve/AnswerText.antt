@@ -1,26 +1,24 @@
 -- The answer text for one player, and when it answers rightly.
-use Rattle.std.specs.Prelude.{◌≡◌, ◌↔◌, ◌++◌, ◌≤◌, List, Option, false, ℕ, IsSome, Contains, codes, decimal, option_map}
+use Rattle.std.specs.Prelude.{◌≡◌, ◌↔◌, ◌++◌, List, Option, false, ℕ, IsSome, Contains, codes, decimal, option_map}
 use Rattle.std.specs.List.{flat_map}
 use Rattle.std.specs.List.Sorted.{IsStrictlyIncreasing}
 use Rattle.omega_game.specs.declared.player.Player.{Player}
-use Rattle.omega_game.specs.Bound.{bound_of}
 use Rattle.omega_game.specs.Game.{Node, node_at, owner_at, priorities}
-use Rattle.omega_game.specs.Winning.{Chooses, InRegion, IsStrategy, Wins}
+use Rattle.omega_game.specs.Winning.{Chooses, InRegion, IsStrategy, Wins, choice_at}
 use Rattle.omega_measure.specs.Table.{is_too_wide}
-use Rattle.omega_pg.specs.Solution.{choice_at}
-use Rattle.omega_pg.specs.SolutionText.{choice_part}
-use Rattle.omega_tool.specs.answers.solve.Lifting.{EndsAfter}
+use Rattle.omega_pg.specs.solution.Canonical.{choice_part}
+use Rattle.omega_solve.specs.Within.{EndsWithin}
 use Rattle.omega_tool.specs.answers.PlayerText.{player_text}
 
 -- the line of a node won: its identifier, and that of the chosen successor if there is a choice
-abbrev pub node_line : List Node → ℕ → Option ℕ → List ℕ
-node_line nodes v choice =
+abbrev pub answer_line : List Node → ℕ → Option ℕ → List ℕ
+answer_line nodes v choice =
     decimal (node_at nodes v).identifier
     ++ choice_part (option_map (λ w. (node_at nodes w).identifier) choice) ++ codes ";\n"
 
 -- the line of a node won, with its choice
 abbrev pub won_line : List Node → List (Option ℕ) → ℕ → List ℕ
-won_line nodes choices v = node_line nodes v (choice_at choices v)
+won_line nodes choices v = answer_line nodes v (choice_at choices v)
 
 -- the line of the player: how many lifts were made
 abbrev pub lifts_line : Player → ℕ → List ℕ
@@ -46,7 +44,5 @@ pub record IsAnswerOf (nodes : List Node) (player : Player) (budget : ℕ) (outp
   pub won : List ℕ
   pub choices : List (Option ℕ)
   pub written : output ≡ answer_text player lifts nodes won choices
-  pub within : lifts ≤ budget
-  pub bounded : lifts ≤ bound_of player (priorities nodes)
-  pub ended : EndsAfter nodes player lifts
+  pub ended : EndsWithin nodes player budget lifts
   pub won_exactly : WinsExactly nodes player won choices

@@ -8,9 +8,9 @@ use Rattle.omega_game.specs.declared.player.Player.{Player}
 use Rattle.omega_game.specs.Game.{Node, priorities}
 use Rattle.omega_game.specs.Part.{IsPart}
 use Rattle.omega_measure.specs.Table.{is_too_wide}
-use Rattle.omega_pg.specs.Refusing.{IsRefusal}
-use Rattle.omega_pg.specs.Text.{IsGameText}
-use Rattle.omega_tool.specs.answers.solve.Lifting.{GoesOnAfter}
+use Rattle.omega_pg.specs.game.Refusing.{IsRefusal}
+use Rattle.omega_pg.specs.game.Text.{IsGameText}
+use Rattle.omega_solve.specs.Within.{GoesOnAfter}
 use Rattle.omega_tool.specs.answers.solve.Solving.{IsNamed}
 
 -- the game is solved for this player: for the one asked for, or where none is, for both
@@ -50,16 +50,16 @@ pub record IsPartFault (game : List Node) (asked : Option Player) (identifier bu
   pub fault_there : IsWholeFault part asked budget fault
 
 -- the fault of solving a game, or where an identifier is given, the part that its node reaches: first, that no node has it
-abbrev pub IsFault : List Node → Option Player → Option ℕ → ℕ → TaskFault → Type 0
-IsFault game asked None budget fault = IsWholeFault game asked budget fault
-IsFault game asked (Some identifier) budget UnknownNode = (place : ℕ) → ¬ IsNamed game identifier place
-IsFault game asked (Some identifier) budget fault = IsPartFault game asked identifier budget fault
+abbrev pub IsSolvingFault : List Node → Option Player → Option ℕ → ℕ → TaskFault → Type 0
+IsSolvingFault game asked None budget fault = IsWholeFault game asked budget fault
+IsSolvingFault game asked (Some identifier) budget UnknownNode = (place : ℕ) → ¬ IsNamed game identifier place
+IsSolvingFault game asked (Some identifier) budget fault = IsPartFault game asked identifier budget fault
 
 -- the text stands for a game that has this fault
 pub record IsTaskFault (text : List ℕ) (asked : Option Player) (from : Option ℕ) (budget : ℕ) (fault : TaskFault) : Type 0 where
   pub game : List Node
   pub read : IsGameText text game
-  pub fault_there : IsFault game asked from budget fault
+  pub fault_there : IsSolvingFault game asked from budget fault
 
 -- the refusal of `solve`: the fault of the game, or else the refusal of the text
 abbrev pub IsSolveRefusal : List ℕ → Option Player → Option ℕ → ℕ → Refusal → Type 0

@@ -4,10 +4,10 @@ use Rattle.omega_game.specs.declared.player.Player.{Player}
 use Rattle.omega_game.specs.Game.{Node, priorities}
 use Rattle.omega_game.specs.Winning.{InRegion, Wins}
 use Rattle.omega_measure.specs.Table.{is_too_wide}
-use Rattle.omega_pg.specs.Solution.{IsSolution, choices_of, winner_at}
-use Rattle.omega_pg.specs.SolutionText.{solution_text}
+use Rattle.omega_pg.specs.solution.Solution.{IsSolution, choices_of, winner_at}
+use Rattle.omega_pg.specs.solution.Canonical.{solution_text}
 use Rattle.omega_pg.specs.declared.solution.Solution.{Solution}
-use Rattle.omega_tool.specs.answers.solve.Lifting.{EndsWithin}
+use Rattle.omega_solve.specs.Within.{EndsWithin}
 
 -- the player's choices win from all nodes given to the player
 abbrev pub WinsGiven : List Node → Solution → Player → Type 0
@@ -30,7 +30,7 @@ pub record IsRight (nodes : List Node) (budget : ℕ) (solution : Solution) : Ty
   pub regions : GivesRegions nodes solution
   pub wins : WinsAsGiven nodes solution
   pub narrow : (player : Player) → is_too_wide player (priorities nodes) ≡ false
-  pub ended : (player : Player) → EndsWithin nodes player budget
+  pub ended : (player : Player) → (lifts : ℕ) × EndsWithin nodes player budget lifts
 
 -- the text of a right solution
 pub record IsSolutionOf (nodes : List Node) (budget : ℕ) (output : List ℕ) : Type 0 where

@@ -4,7 +4,7 @@ use Rattle.omega_game.specs.declared.player.Player.{Player}
 use Rattle.omega_game.specs.Game.{Node, node_at}
 use Rattle.omega_game.specs.Part.{IsPartAt}
 use Rattle.omega_game.specs.Winning.{InRegion}
-use Rattle.omega_pg.specs.Text.{IsGameText}
+use Rattle.omega_pg.specs.game.Text.{IsGameText}
 use Rattle.omega_tool.specs.answers.solve.AnswerText.{IsAnswerOf}
 use Rattle.omega_tool.specs.answers.solve.Solution.{IsSolutionOf}
 

@@ -1,5 +1,5 @@
 ghost use Rattle.std.specs.Prelude.{◌≡◌, IfOk, IfErr};
-ghost use Rattle.omega_pg.specs.Refusing.{IsReadRefusal};
+ghost use Rattle.omega_pg.specs.game.Refusing.{IsReadRefusal};
 ghost use Rattle.omega_tool.specs.answers.canon.Pg.{IsCanonAnswer};
 
 use crate::answers::game_text::game_of;

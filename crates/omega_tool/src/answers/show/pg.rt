@@ -1,6 +1,6 @@
 ghost use Rattle.std.specs.Prelude.{◌≡◌, ◌++◌, IfOk, IfErr, OnOk, IsOkUnless};
 ghost use Rattle.omega_text.specs.declared.refusal.Refusal.TheVariants.{Memory};
-ghost use Rattle.omega_pg.specs.Refusing.{IsReadRefusal};
+ghost use Rattle.omega_pg.specs.game.Refusing.{IsReadRefusal};
 ghost use Rattle.omega_tool.specs.answers.show.Pg.{IsShowAnswer, bound_line, description, size_line};
 
 use crate::answers::game_text::game_of;

@@ -1,7 +1,7 @@
 ghost use Rattle.std.specs.Prelude.{◌≡◌, ◌++◌, ℕ, ◌<◌, Some, IfOk, IfSome, OnOk, IsOkUnless, length, slice_get, true};
 ghost use Rattle.omega_text.specs.declared.refusal.Refusal.TheVariants.{Memory};
 ghost use Rattle.omega_game.specs.Winning.{IsStrategy};
-ghost use Rattle.omega_tool.specs.answers.solve.AnswerText.{answer_text, lifts_line, node_line};
+ghost use Rattle.omega_tool.specs.answers.solve.AnswerText.{answer_text, lifts_line, answer_line};
 ghost use Rattle.omega_tool.specs.steps.Places.{places_from};
 
 use crate::answers::player_text::append_player;
@@ -24,8 +24,7 @@ pub fn write_answer(
     ensures text { IfOk result (λ text. text.items ≡ answer_text player lifts game.now (places_from 0 won.now) choices.now) }
     ensures memory { IsOkUnless result Memory }
 {
-    // Called for what its contract says: the nodes are a game's, within the limits.
-    let _nodes = game.len();
+    game.keeps_limits();
     let mut out = Vec::new(alloc);
     append_lifts(player, lifts, &mut out)?;
     for (place, is_won) in won.iter().enumerate() {
@@ -55,7 +54,7 @@ fn append_won(
 ) -> Result<(), Refusal>
     requires node { place < length game.now }
     requires successor { IfSome choice (λ w. w < length game.now) }
-    ensures text { OnOk result (out.new.items ≡ out.old.items ++ node_line game.now place choice) }
+    ensures text { OnOk result (out.new.items ≡ out.old.items ++ answer_line game.now place choice) }
     ensures memory { IsOkUnless result Memory }
 {
     write_number(u128::from(game.id(place)), out)?;

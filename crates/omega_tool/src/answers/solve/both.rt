@@ -1,14 +1,14 @@
 ghost use Rattle.std.specs.Prelude.{◌≡◌, ◌≤◌, IfOk, IfErr, IsOkUnless, None};
-ghost use Rattle.omega_solve.specs.declared.solver.TheConstants.{MOST_LIFTS};
+ghost use Rattle.omega_solve.specs.Limits.{most_lifts};
 ghost use Rattle.omega_text.specs.declared.refusal.Refusal.TheVariants.{Memory};
 ghost use Rattle.omega_tool.specs.answers.solve.Solution.{IsRight, IsSolutionOf};
 ghost use Rattle.omega_tool.specs.steps.GameRefusal.{IsGameRefusal};
 ghost use Rattle.omega_tool.specs.steps.Winners.{winners_of};
 
-use super::found::Found;
-use omega_game::{Game, Player, Refusal, Seq, Strategy, regions_are_apart, regions_cover};
+use omega_game::{Game, Player, Refusal, Seq, Strategy};
 use omega_pg::{Solution, write_solution};
-use omega_solve::{MeasureTable, Schedule, Solver};
+use omega_region::{regions_are_apart, regions_cover};
+use omega_solve::{Found, MeasureTable, Schedule, Solver};
 use std::alloc::Global;
 
 /// The solution text of a game. 50, 51 or 60.
@@ -17,7 +17,7 @@ pub fn solve_both<T: MeasureTable, S: Schedule>(
     game: &Game,
     budget: u64,
 ) -> Result<Vec<u8>, Refusal>
-    requires { budget ≤ MOST_LIFTS }
+    requires { budget ≤ most_lifts }
     ensures answer { IfOk result (λ output. IsSolutionOf game.now budget output.items) }
     ensures refused { IfErr result (IsGameRefusal game.now None None budget) }
 {
@@ -32,14 +32,13 @@ fn solution_of<T: MeasureTable, S: Schedule>(
     game: &Game,
     budget: u64,
 ) -> Result<Solution, Refusal>
-    requires { budget ≤ MOST_LIFTS }
+    requires { budget ≤ most_lifts }
     ensures right { IfOk result (IsRight game.now budget) }
     ensures refused { IfErr result (IsGameRefusal game.now None None budget) }
 {
     regions_are_apart();
     regions_cover();
-    // Called for what its contract says: the nodes are a game's, within the limits.
-    let _nodes = game.len();
+    game.keeps_limits();
     let for_zero: Solver<'_, T, S> = Solver::prepare(alloc, game, Player::Zero)?;
     let for_one: Solver<'_, T, S> = Solver::prepare(alloc, game, Player::One)?;
     let zero = Found::by(alloc, for_zero, budget)?;

@@ -23,7 +23,7 @@ returns-clause-answer g c =
       answer = answer;
       regions = λ player k.
           c.regions_of_parts.ensures c.args.game c.in_ok-part.part player c.in-Some.place part.0 k
-          c.len-nodes.ensures.game part.1;
+          c.keeps_limits.ensures.game part.1;
     })
     c.solve_whole.ensures.answer
 
