@@ -1,3 +1,4 @@
+-- Lemmas, by what they are about: formats, PGSolver's texts, syntaxes.
 pub mod formats
 pub mod pg_texts
 pub mod syntaxes

@@ -1,3 +1,4 @@
+-- What contracts cite: refusals and limits, then tokens, texts and how they are read; of PGSolver's texts in `pg`.
 pub mod Cases
 pub mod Cursor
 pub mod Cut
@@ -8,3 +9,4 @@ pub mod Reading
 pub mod Refusal
 pub mod Syntax
 pub mod pg
+pub mod reader
