@@ -3,6 +3,7 @@ use crate::samples::{Row, finish, game_of, list};
 use omega_game::Player::{One, Zero};
 use omega_game::{Game, GameBuilder, MOST_NUMBER, Refusal};
 use std::alloc::Global;
+use std::process::Abort;
 use std::test::Fail;
 
 /// Names the last node, or answers Io where there is none.
@@ -86,48 +87,31 @@ fn loops(alloc: Global, nodes: u32, times: u32) -> Result<GameBuilder, Refusal> 
     Ok(builder)
 }
 
-/// A builder of so many loops, each listed so often; what is handed over behind them; and the number of the refusal.
-const AT_THE_LIMITS: [(u32, u32, Last, u32); 9] = [
-    (1_048_576, 1, Last::Nothing, 0),
-    (1_048_577, 1, Last::Nothing, 13),
-    (1_048_577, 1, Last::Node(7), 10),
-    (1_048_577, 1, Last::Successor(2_000_000), 11),
-    (2, 4_194_304, Last::Nothing, 0),
-    (2, 4_194_304, Last::Successor(0), 14),
-    (2, 4_194_304, Last::Node(0), 10),
-    (2, 4_194_304, Last::Successor(2), 11),
-    (1_048_577, 9, Last::Nothing, 13),
-];
-
-/// What is handed over last.
-#[derive(Clone, Copy)]
-enum Last {
-    Nothing,
-    /// A node more with this identifier.
-    Node(u32),
-    /// A successor more of the last node.
-    Successor(u32),
-}
-
-/// Hands the last over.
-fn hand_over(builder: &mut GameBuilder, last: Last) -> Result<(), Refusal> {
-    match last {
-        Last::Nothing => Ok(()),
-        Last::Node(id) => builder.add_node(id.min(MOST_NUMBER), 0, Zero, id.min(MOST_NUMBER)),
-        Last::Successor(id) => list(builder, id),
-    }
-}
-
-#[test]
-fn at_the_limits(rt: HostRuntime) -> Result<(), Fail> {
-    for (nodes, times, last, refusal) in AT_THE_LIMITS {
-        let mut builder = loops(rt.alloc(), nodes, times)?;
-        hand_over(&mut builder, last)?;
+/// Asserts the refusals of games of so many loops, each listed so often.
+fn assert_limit(
+    rt: &impl Abort,
+    alloc: Global,
+    games: [(u32, u32, u32); 2],
+) -> Result<(), Refusal> {
+    for (nodes, times, refusal) in games {
+        let builder = loops(alloc, nodes, times)?;
         assert_eq!(rt;
             number(finish(builder)),
             refusal,
             "{nodes} nodes, {times} times"
         );
     }
+    Ok(())
+}
+
+#[test]
+fn the_most_nodes(rt: HostRuntime) -> Result<(), Fail> {
+    assert_limit(&rt, rt.alloc(), [(1_048_576, 1, 0), (1_048_577, 1, 13)])?;
+    Ok(())
+}
+
+#[test]
+fn the_most_successors(rt: HostRuntime) -> Result<(), Fail> {
+    assert_limit(&rt, rt.alloc(), [(1, 8_388_608, 0), (1, 8_388_609, 14)])?;
     Ok(())
 }

@@ -1,3 +1,4 @@
+-- Lemmas of regions, from finite searches up to determinacy.
 pub mod Players
 pub mod Places
 pub mod Search

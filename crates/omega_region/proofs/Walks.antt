@@ -1,3 +1,4 @@
+-- What a strategy wins is kept along the edges that it leaves possible.
 use Rattle.std.proofs.Common.{ℕ, List, ◌∷◌, Option}
 use Rattle.omega_game.specs.declared.player.Player.{Player}
 use Rattle.omega_game.specs.Game.{Node}

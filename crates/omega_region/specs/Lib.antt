@@ -1,1 +1,2 @@
+-- Regions of parity games.
 pub mod Laws
