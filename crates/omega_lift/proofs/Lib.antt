@@ -10,4 +10,4 @@ pub mod Choosing
 pub mod Falling
 pub mod Reaching
 pub mod Witness
-pub mod Apart
+pub mod Won

@@ -3,7 +3,6 @@ use Rattle.std.specs.Prelude.{◌≡◌, ◌≢◌, ◌==◌, ℕ, ◌<◌, ◌�
 use Rattle.std.specs.declared.cmp.Ordering.TheVariants.{Greater, Less}
 use Rattle.std.specs.Cmp.{IsTotalOrder}
 use Rattle.omega_game.specs.declared.player.Player.{Player}
-use Rattle.omega_game.specs.declared.player.Player.TheVariants.{Zero, One}
 use Rattle.omega_game.specs.Bound.{bound_of, product_of}
 use Rattle.omega_game.specs.Game.{Node, IsGame, priorities}
 use Rattle.omega_game.specs.Winning.{IsStrategy, Wins, InRegion}
@@ -114,13 +113,12 @@ ChoicesWin =
     → AreChoices nodes player table choices → IsSome (measure_at table v)
     → Wins nodes player choices v
 
--- where no lift is due in either player's table, no place is below top in both
-abbrev pub AnswersAreApart : Type 0
-AnswersAreApart =
-    (nodes : List Node) (zero one : List Measure) (v : ℕ)
-    → IsGame nodes → IsTable Zero (priorities nodes) zero → IsTable One (priorities nodes) one
-    → IsStable nodes Zero zero → IsStable nodes One one
-    → v < length nodes → IsSome (measure_at zero v) → IsSome (measure_at one v) → ⊥
+-- where no lift is due, a place below top is in the player's region
+abbrev pub WonPlacesAreInRegions : Type 0
+WonPlacesAreInRegions =
+    (nodes : List Node) (player : Player) (table : List Measure) (v : ℕ)
+    → IsGame nodes → IsTable player (priorities nodes) table → IsStable nodes player table
+    → IsSome (measure_at table v) → InRegion nodes player v
 
 -- no lifting run from the all-zero table takes a node of the player's region to top
 abbrev pub RegionsStayBelowTop : Type 0

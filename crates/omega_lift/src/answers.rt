@@ -1,4 +1,4 @@
-ghost use Rattle.omega_lift.specs.Laws.{AnswersAreApart, ChoicesAreAStrategy, ChoicesWin};
+ghost use Rattle.omega_lift.specs.Laws.{ChoicesAreAStrategy, ChoicesWin, WonPlacesAreInRegions};
 
 /// The choices of an answer are a strategy.
 pub fn choices_are_a_strategy()
@@ -10,9 +10,7 @@ pub fn choices_win()
     ensures { ChoicesWin }
 {}
 
-/// Where no lift is due in either player's table, no place is below top in both.
-pub fn answers_are_apart()
-    ensures { AnswersAreApart }
-{
-    omega_game::regions_are_apart();
-}
+/// So each such place is in the player's region.
+pub fn won_places_are_in_regions()
+    ensures { WonPlacesAreInRegions }
+{}

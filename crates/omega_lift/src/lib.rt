@@ -11,7 +11,7 @@ pub use allowances::{
     allowances_are_least_sufficient, allowances_are_monotone, allowances_are_strict,
     allowances_are_unique, allowances_exceed, allowances_exist,
 };
-pub use answers::{answers_are_apart, choices_are_a_strategy, choices_win};
+pub use answers::{choices_are_a_strategy, choices_win, won_places_are_in_regions};
 pub use measures::{coarsening_forgets, measures_are_ordered, ranks_are_bounded, ranks_rise};
 pub use regions::regions_stay_below_top;
 pub use runs::{

@@ -1,19 +1,23 @@
-ghost use Rattle.std.specs.Prelude.{◌≡◌, ◌<◌, length, IfOk};
+ghost use Rattle.std.specs.Prelude.{◌≡◌, ◌<◌, ◌^◌, length, IfOk};
 
-use omega_measure::{MeasureTable, PackedTable, PlainTable};
 use omega_game::{Game, GameBuilder, Player, Refusal, TaskFault};
+use omega_measure::{MeasureTable, PackedTable, PlainTable};
 use std::alloc::Global;
 use std::cmp::Ordering;
+use std::cmp::Ordering::{Equal, Greater, Less};
 use std::process::Abort;
 use std::test::Fail;
 
-/// The game `0 1 0 0,1; 1 3 0 2; 2 4 0 2;`. For player 0 a measure has an entry for 3 and one for 1, each at most 1.
-fn example(alloc: Global) -> Result<Game, Refusal> {
+/// A game in which each node is its own successor: measures depend on the priorities alone.
+fn game_of(alloc: Global, priorities: &[u16]) -> Result<Game, Refusal>
+    requires some { 0 < length priorities.now }
+    requires few { length priorities.now < 2 ^ 16 }
+{
     let mut builder = GameBuilder::new(alloc);
-    builder.add_node(0, 1, Player::Zero, 0)?;
-    builder.add_successor(1)?;
-    builder.add_node(1, 3, Player::Zero, 2)?;
-    builder.add_node(2, 4, Player::Zero, 2)?;
+    for place in 0..priorities.len() {
+        let id = place as u32;
+        builder.add_node(id, u32::from(priorities[place]), Player::Zero, id)?;
+    }
     builder.finish()
 }
 
@@ -53,99 +57,76 @@ fn lift<T: MeasureTable>(table: &mut T, places: u32, v: u32, w: u32) -> bool
     due
 }
 
-/// What is done with a table, and what is to come of it.
-#[derive(Clone, Copy)]
-enum Step {
-    /// A lift of one place towards another, and whether it is due.
-    Lift(u32, u32, bool),
-    /// Two places, a priority, and how their measures compare there.
-    Order(u32, u32, u32, Ordering),
-    /// A place, and whether its measure is top.
-    Top(u32, bool),
-}
+/// A place and the one towards which it is lifted, and whether that is due; then another place and a priority, and how
+/// the first compares with it there; and whether the first is at top.
+type Step = ((u32, u32), bool, (u32, u32), Ordering, bool);
 
 /// Takes a table over so many places through the steps.
 fn follow<T: MeasureTable, R: Abort>(rt: &R, table: &mut T, places: u32, steps: &[Step])
     requires { length (T.content table.old).measures ≡ places }
 {
-    for step in steps {
-        match *step {
-            Step::Lift(v, w, due) => {
-                assert!(rt; v < places);
-                assert!(rt; w < places);
-                assert_eq!(rt; lift(table, places, v, w), due);
-            }
-            Step::Order(a, b, p, order) => {
-                assert!(rt; a < places);
-                assert!(rt; b < places);
-                assert_eq!(rt; table.compare(a, b, p), order);
-            }
-            Step::Top(place, top) => {
-                assert!(rt; place < places);
-                assert_eq!(rt; table.is_top(place), top);
-            }
-        }
+    for ((v, w), due, (other, p), order, top) in steps {
+        assert!(rt; *v < places && *w < places && *other < places);
+        assert_eq!(rt; lift(table, places, *v, *w), *due);
+        assert_eq!(rt; table.compare(*v, *other, *p), *order);
+        assert_eq!(rt; table.is_top(*v), *top);
     }
 }
 
-// Entries of (3, 1), by hand. The allowance of node 0 (priority 1, which loses) towards itself goes through (0, 1),
-// (1, 0), (1, 1) and top; that of node 1 (priority 3) towards node 2 is (1, 0); node 2 (priority 4) has none to raise.
-const LIFTS_OF_ZERO: [Step; 22] = [
-    Step::Lift(2, 2, false),
-    Step::Lift(1, 2, true),
-    Step::Lift(1, 2, false),
-    Step::Lift(0, 0, true),
-    Step::Order(0, 2, 1, Ordering::Greater),
-    Step::Order(0, 2, 2, Ordering::Equal),
-    Step::Order(0, 1, 1, Ordering::Less),
-    Step::Lift(0, 0, true),
-    Step::Order(0, 1, 0, Ordering::Equal),
-    Step::Order(0, 2, 3, Ordering::Greater),
-    Step::Order(0, 2, 4, Ordering::Equal),
-    Step::Lift(0, 1, true),
-    Step::Order(0, 1, 1, Ordering::Greater),
-    Step::Order(0, 1, 2, Ordering::Equal),
-    Step::Top(0, false),
-    Step::Lift(0, 0, true),
-    Step::Top(0, true),
-    Step::Lift(0, 0, false),
-    Step::Order(0, 1, 9, Ordering::Greater),
-    Step::Lift(2, 0, true),
-    Step::Top(2, true),
-    Step::Top(1, false),
-];
+// For player 0 a measure over these priorities has an entry for 3 and one for 1, each at most 1, and for player 1 one
+// for 4, at most 1.
+const EXAMPLE: [u16; 3] = [1, 3, 4];
 
-// For player 1 there is an entry for 4, at most 1.
-const LIFTS_OF_ONE: [Step; 6] = [
-    Step::Lift(0, 1, false),
-    Step::Lift(2, 2, true),
-    Step::Lift(1, 2, true),
-    Step::Order(1, 2, 0, Ordering::Equal),
-    Step::Lift(2, 1, true),
-    Step::Top(2, true),
-];
+// Each table of steps is handed out by a function of its own: a literal costs where it stands, with each statement.
 
-// Entries of the odd priorities from 127 down to 1, each at most 1: packed, that for 1 stands alone in a second word. Node 0 (priority
-// 1) counts there and carries to the entry for 3, the last of the first word, and from there to that for 5.
-const LIFTS_OVER_WORDS: [Step; 17] = [
-    Step::Lift(0, 0, true),
-    Step::Order(0, 1, 1, Ordering::Greater),
-    Step::Order(0, 1, 2, Ordering::Equal),
-    Step::Lift(0, 0, true),
-    Step::Order(0, 1, 3, Ordering::Greater),
-    Step::Order(0, 1, 4, Ordering::Equal),
-    Step::Lift(0, 0, true),
-    Step::Lift(0, 0, true),
-    Step::Order(0, 1, 5, Ordering::Greater),
-    Step::Order(0, 1, 6, Ordering::Equal),
-    Step::Lift(1, 0, true),
-    Step::Order(1, 0, 3, Ordering::Greater),
-    Step::Order(1, 0, 5, Ordering::Equal),
-    Step::Lift(63, 63, true),
-    Step::Lift(63, 63, true),
-    Step::Top(63, true),
-    Step::Top(0, false),
-];
+/// Entries of (3, 1), by hand. The allowance of node 0 (priority 1, which loses) towards itself goes through (0, 1),
+/// (1, 0), (1, 1) and top; that of node 1 (priority 3) towards node 2 is (1, 0); node 2 (priority 4) has none to raise.
+fn lifts_of_zero() -> &'static [Step] {
+    &[
+        ((2, 2), false, (1, 0), Equal, false),
+        ((1, 2), true, (2, 3), Greater, false),
+        ((1, 2), false, (2, 4), Equal, false),
+        ((0, 0), true, (2, 1), Greater, false),
+        ((0, 2), false, (1, 1), Less, false),
+        ((0, 0), true, (1, 0), Equal, false),
+        ((0, 1), true, (1, 1), Greater, false),
+        ((0, 1), false, (1, 2), Equal, false),
+        ((0, 0), true, (1, 9), Greater, true),
+        ((0, 0), false, (1, 3), Greater, true),
+        ((2, 0), true, (0, 0), Equal, true),
+        ((1, 2), true, (0, 1), Equal, true),
+    ]
+}
+
+/// Entries of (4), by hand.
+fn lifts_of_one() -> &'static [Step] {
+    &[
+        ((0, 1), false, (1, 0), Equal, false),
+        ((2, 2), true, (1, 4), Greater, false),
+        ((0, 1), false, (2, 5), Equal, false),
+        ((1, 2), true, (2, 0), Equal, false),
+        ((2, 1), true, (1, 4), Greater, true),
+        ((0, 2), true, (2, 0), Equal, true),
+    ]
+}
+
+/// Entries of the odd priorities from 127 down to 1, each at most 1: packed, that for 1 stands alone in a second word.
+/// Node 0 (priority 1) counts there and carries to the entry for 3, the last of the first word, and from there to that
+/// for 5.
+fn lifts_over_words() -> &'static [Step] {
+    &[
+        ((0, 0), true, (1, 1), Greater, false),
+        ((0, 0), true, (1, 3), Greater, false),
+        ((0, 1), false, (1, 4), Equal, false),
+        ((0, 0), true, (1, 4), Equal, false),
+        ((0, 0), true, (1, 5), Greater, false),
+        ((0, 1), false, (1, 6), Equal, false),
+        ((1, 0), true, (0, 3), Greater, false),
+        ((1, 0), false, (0, 5), Equal, false),
+        ((63, 63), true, (0, 0), Greater, false),
+        ((63, 63), true, (0, 127), Greater, true),
+    ]
+}
 
 /// Takes a new table of a player through the steps.
 fn lifts_by_hand<T: MeasureTable, R: Abort>(
@@ -162,11 +143,11 @@ fn lifts_by_hand<T: MeasureTable, R: Abort>(
 
 /// Takes new tables of both players through their steps.
 fn all_lifts<T: MeasureTable, R: Abort>(rt: &R, alloc: Global) -> Result<(), Refusal> {
-    let game = example(alloc)?;
-    lifts_by_hand::<T, R>(rt, alloc, &game, Player::Zero, &LIFTS_OF_ZERO)?;
-    lifts_by_hand::<T, R>(rt, alloc, &game, Player::One, &LIFTS_OF_ONE)?;
+    let game = game_of(alloc, &EXAMPLE)?;
+    lifts_by_hand::<T, R>(rt, alloc, &game, Player::Zero, lifts_of_zero())?;
+    lifts_by_hand::<T, R>(rt, alloc, &game, Player::One, lifts_of_one())?;
     let wide = odd_game(alloc, 64, 63)?;
-    lifts_by_hand::<T, R>(rt, alloc, &wide, Player::Zero, &LIFTS_OVER_WORDS)
+    lifts_by_hand::<T, R>(rt, alloc, &wide, Player::Zero, lifts_over_words())
 }
 
 #[test]
@@ -181,21 +162,20 @@ fn packed_lifts(rt: HostRuntime) -> Result<(), Fail> {
     Ok(())
 }
 
+/// Why there is no table.
+fn refusal_of<T: MeasureTable>(alloc: Global, game: &Game, player: Player) -> Option<Refusal> {
+    T::prepare(alloc, game, player).err()
+}
+
 // 8,192 times 8,192 is the limit, and 8,321 times 8,065 one more.
 #[test]
 fn too_wide_by_one(rt: HostRuntime) -> Result<(), Fail> {
     let widest = odd_game(rt.alloc(), 8192, 8191)?;
-    assert!(rt; PackedTable::prepare(rt.alloc(), &widest, Player::Zero).is_ok());
+    assert_eq!(rt; refusal_of::<PackedTable>(rt.alloc(), &widest, Player::Zero), None);
     let game = odd_game(rt.alloc(), 8321, 8064)?;
-    let refusal = Some(Refusal::Task(TaskFault::TooWide));
-    assert_eq!(rt;
-        PlainTable::prepare(rt.alloc(), &game, Player::Zero).err(),
-        refusal
-    );
-    assert_eq!(rt;
-        PackedTable::prepare(rt.alloc(), &game, Player::Zero).err(),
-        refusal
-    );
-    assert!(rt; PlainTable::prepare(rt.alloc(), &game, Player::One).is_ok());
+    let wide = Some(Refusal::Task(TaskFault::TooWide));
+    assert_eq!(rt; refusal_of::<PlainTable>(rt.alloc(), &game, Player::Zero), wide);
+    assert_eq!(rt; refusal_of::<PackedTable>(rt.alloc(), &game, Player::Zero), wide);
+    assert_eq!(rt; refusal_of::<PlainTable>(rt.alloc(), &game, Player::One), None);
     Ok(())
 }

@@ -2,5 +2,5 @@
 use Rattle.std.proofs.Common.{◌≡◌, length}
 use Rattle.omega_measure_tests.proofs.tests.follow.Given as goal
 
-abbrev pub invariant-loop-step : goal.invariant-loop-step
-invariant-loop-step g l = length (g.T.MeasureTable.content l.table).measures ≡ l.places
+abbrev pub invariant-loop-v : goal.invariant-loop-v
+invariant-loop-v g l = length (g.T.MeasureTable.content l.table).measures ≡ l.places

@@ -1,20 +1,19 @@
--- Where no lift is due, a place below top is in the region, and so in no other's.
+-- Where no lift is due, a place below top is in the player's region.
 use Rattle.std.proofs.Common.{◌≡◌, ◌≢◌, ℕ, zero, suc, ◌<◌, ◌≤◌, IsSome, is_some, Option, None, Some, List, [], ◌∷◌, length, get_or, slice_get, ◌⊎◌, inl, inr, refl, sym, ap, ◌∙◌, subst, arith}
 use Rattle.std.proofs.lemmas.Option.{get_or_from_slice_get, slice_get-get_or, slice_get_within}
 use Rattle.std.proofs.lemmas.Bool.{cases_lt}
+use Rattle.std.proofs.lemmas.List.{length-map}
 use Rattle.omega_game.specs.declared.player.Player.{Player}
-use Rattle.omega_game.specs.declared.player.Player.TheVariants.{Zero, One}
 use Rattle.omega_game.specs.Game.{Node, IsGame, owner_at, priority_at, priorities, successors_at}
-use Rattle.omega_game.specs.Laws.{RegionsAreApart}
 use Rattle.omega_game.specs.Winning.{Chooses, InRegion}
 use Rattle.omega_lift.specs.Measure.{Measure, IsAbove, IsAtMost}
 use Rattle.omega_lift.specs.Allowance.{IsAllowanceOf, measure_at}
 use Rattle.omega_lift.specs.Run.{IsStable, IsTable}
 use Rattle.omega_lift.specs.Answer.{AreChoices, IsFirstLeast}
-use Rattle.omega_lift.specs.Laws.{AnswersAreApart}
+use Rattle.omega_lift.specs.Laws.{WonPlacesAreInRegions}
 use Rattle.omega_lift.proofs.BestPlaces.{IsFirstLeastPlace, first_least_place}
 use Rattle.omega_lift.proofs.LeastMeasure.{allowance_is_unique}
-use Rattle.omega_lift.proofs.Choosing.{allowance_towards, allowance_towards_is, cases_player, cases_top, choices_strategy, choices_winning}
+use Rattle.omega_lift.proofs.Choosing.{allowance_towards, allowance_towards_is, cases_player, cases_top, choices_strategy, choices_winning, place_below_top}
 
 -- the values of a function at the numbers below n
 abbrev values : (ℕ → Option ℕ) → ℕ → List (Option ℕ)
@@ -128,20 +127,12 @@ choices_of nodes player table game h = (
         (c.0, slice_get-values f (length nodes) v lt ∙ ap Some c.1, c.2)
 
 -- where no lift is due, a place below top is in the player's region
-pub region_of_won :
-    (nodes : List Node) (player : Player) (table : List Measure) (v : ℕ)
-    → IsGame nodes → IsTable player (priorities nodes) table → IsStable nodes player table
-    → v < length nodes → IsSome (measure_at table v) → InRegion nodes player v
-region_of_won nodes player table v game h stable lt s =
+pub won_in_region : WonPlacesAreInRegions
+won_in_region nodes player table v game h stable s =
     let choices = choices_of nodes player table game h in
     record {
-      node = lt;
+      node = place_below_top nodes player table v (h.entries ∙ length-map nodes (λ node. node.priority)) s;
       choices = choices.0;
       strategy = choices_strategy nodes player table choices.0 choices.1;
       wins = choices_winning nodes player table choices.0 v game h stable choices.1 s;
     }
-
--- so no place is below top for both players, if no node is in the regions of both
-pub answers_apart : RegionsAreApart → AnswersAreApart
-answers_apart apart nodes table other v game h k stable other_stable lt s t =
-    apart nodes v game (region_of_won nodes Zero table v game h stable lt s) (region_of_won nodes One other v game k other_stable lt t)
