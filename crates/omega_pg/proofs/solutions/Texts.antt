@@ -22,14 +22,14 @@ use Rattle.omega_pg.proofs.reader.Deciding.{ended_from_run}
 use Rattle.omega_pg.proofs.solutions.Grammar.{SpellsSolution-from_run, decides_solutions}
 
 -- the text was read, and a reader for the game keeps what it says
-abbrev pub IsRead : List ℕ → List Node → Stage → ℕ → Lines → Type 0
-IsRead source nodes stage greatest lines =
+abbrev pub LeadsTo : List ℕ → List Node → Stage → ℕ → Lines → Type 0
+LeadsTo source nodes stage greatest lines =
     IsReadText pg_format (λ lexemes. HasTaken nodes (symbols_of lexemes) stage greatest lines) (TokensComplete solution_syntax) source
 
 -- what a new reader of the game became is what the text says of the game
 pub read_for : (source : List ℕ) (nodes : List Node) (start reader : Reader) → start.game.now ≡ nodes
     → IsReadText pg_format (λ lexemes. HasBecome start lexemes reader) (TokensComplete solution_syntax) source
-    → IsRead source nodes reader.stage reader.greatest reader.lines
+    → LeadsTo source nodes reader.stage reader.greatest reader.lines
 read_for source nodes start reader e read = record {
   short = read.short;
   lexemes = read.lexemes;
@@ -49,7 +49,7 @@ solution_unread nodes source Memory refused = inl refl
 solution_unread nodes source Io refused = absurd refused
 
 -- the raw text that was read
-text_read : (source : List ℕ) (nodes : List Node) (stage : Stage) (greatest : ℕ) (lines : Lines) → (read : IsRead source nodes stage greatest lines)
+text_read : (source : List ℕ) (nodes : List Node) (stage : Stage) (greatest : ℕ) (lines : Lines) → (read : LeadsTo source nodes stage greatest lines)
     → IsTextOf solution_syntax source (record { greatest = greatest; lines = read.all_taken.state.lines })
 text_read source nodes stage greatest lines read = record {
   lexemes = read.lexemes;
@@ -60,7 +60,7 @@ text_read source nodes stage greatest lines read = record {
 }
 
 -- what the lines come to is what the text stands for
-module _ (source : List ℕ) (nodes : List Node) (stage : Stage) (greatest : ℕ) (lines : Lines) (read : IsRead source nodes stage greatest lines) where
+module _ (source : List ℕ) (nodes : List Node) (stage : Stage) (greatest : ℕ) (lines : Lines) (read : LeadsTo source nodes stage greatest lines) where
   pub solution_read : (result : Result Solution Refusal) → IsOutcome nodes (record { greatest = greatest; lines = read.all_taken.state.lines }) result
       → IfOk result (IsSolutionText nodes source)
   solution_read (Ok solution) outcome = record {

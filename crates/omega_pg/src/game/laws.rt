@@ -4,7 +4,7 @@ ghost use Rattle.omega_pg.specs.game.Grammar.{game_syntax};
 ghost use Rattle.omega_pg.specs.game.Laws.{CanonicalTextsAreRead, GamesAreNotRefused, GamesOfTextsAreOne, RefusalsAreOne, TextsAreReadOrRefused};
 ghost use Rattle.omega_text.specs.Syntax.{SyntaxFaultsAreFirst};
 
-use super::syntax::GameSyntax;
+use crate::game::syntax::GameSyntax;
 use omega_game::{games_exist, games_have_no_fault, games_keep_limits, specifications_have_one_game};
 use omega_text::PgKind;
 use omega_text::laws::{

@@ -15,7 +15,7 @@ use std::alloc::Global;
 /// The bytes are read once, from the left. A fault of tokens comes before one of syntax wherever it stands, and both
 /// before a fault of what is written.
 ///
-/// No text has both a game and a refusal, or two of either, and each has one: laws `games_of_texts_are_one`,
+/// No text has both a game and a refusal, or two of either, and each has one: in `laws`, `games_of_texts_are_one`,
 /// `refusals_are_one`, `games_are_not_refused`, `texts_are_read_or_refused`. Of the place of 3 there is
 /// `syntax_faults_are_first`.
 pub fn read_game(alloc: Global, bytes: &[u8]) -> Result<Game, Refusal>

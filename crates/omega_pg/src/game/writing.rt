@@ -9,7 +9,7 @@ use std::alloc::Global;
 
 /// The canonical text of a game. 60 alone.
 ///
-/// If it has at most `MOST_TEXT` bytes, it is read back to the same game, by the law `canonical_texts_are_read`. The
+/// If it has at most `MOST_TEXT` bytes, it is read back to the same game, by `laws::canonical_texts_are_read`. The
 /// cost is linear in the text.
 pub fn write_game(alloc: Global, game: &Game) -> Result<Vec<u8>, Refusal>
     ensures text { IfOk result (λ text. text.items ≡ canonical game.now) }

@@ -4,7 +4,7 @@ ghost use Rattle.omega_pg.specs.solution.Grammar.{solution_syntax};
 ghost use Rattle.omega_pg.specs.solution.Laws.{ReasonsAreExact, SolutionRefusalsAreOne, SolutionTextsAreReadOrRefused, SolutionsAreNotRefused, SolutionsOfTextsAreOne, WrittenSolutionsAreRead};
 ghost use Rattle.omega_text.specs.Syntax.{SyntaxFaultsAreFirst};
 
-use super::syntax::SolutionSyntax;
+use crate::solution::syntax::SolutionSyntax;
 use omega_text::PgKind;
 use omega_text::laws::{
     cuts_are_one, syntax_faults_are_first, text_faults_are_one, texts_are_read_or_faulty,

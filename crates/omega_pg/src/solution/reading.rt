@@ -13,7 +13,7 @@ use std::alloc::Global;
 /// The bytes are read once, from the left. A fault of tokens comes before one of syntax wherever it stands, and both
 /// before 53, whose reasons are those of `IsNoSolution`. The cost is linear in the text and the game.
 ///
-/// No text has both a solution of the game and a refusal, or two of either, and each has one: laws
+/// No text has both a solution of the game and a refusal, or two of either, and each has one: in `laws`,
 /// `solutions_of_texts_are_one`, `solution_refusals_are_one`, `solutions_are_not_refused`,
 /// `solution_texts_are_read_or_refused`. Of the place of 3 there is `solution_syntax_faults_are_first`, of the reasons
 /// of 53 `reasons_are_exact`.

@@ -13,7 +13,7 @@ use std::alloc::Global;
 
 /// The text of a solution of the game. 60 alone.
 ///
-/// If it has at most `MOST_TEXT` bytes, it is read back to the same solution, by the law `written_solutions_are_read`.
+/// If it has at most `MOST_TEXT` bytes, it is read back to the same solution, by `laws::written_solutions_are_read`.
 /// The cost is linear in the nodes.
 pub fn write_solution(alloc: Global, game: &Game, solution: &Solution) -> Result<Vec<u8>, Refusal>
     requires { IsSolution game.now solution.now }

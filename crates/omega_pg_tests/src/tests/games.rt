@@ -1,0 +1,104 @@
+use super::told;
+use omega_pg::{Refusal, read_game, write_game};
+use omega_text::MOST_TEXT;
+use std::alloc::Global;
+use std::test::*;
+
+/// Texts of games, and the canonical texts of their games.
+static GAMES: [(&str, &str); 6] = [
+    (
+        "parity 9; 9 3 1 4; 4 2 0 9,4 \"a\";",
+        "parity 9;\n4 2 0 9,4 \"a\";\n9 3 1 4;\n",
+    ),
+    (
+        "2147483647 0 0 2147483647;",
+        "parity 2147483647;\n2147483647 0 0 2147483647;\n",
+    ),
+    (
+        "parity 4;\t4 0 1\r\n4 , 4,4\"\";",
+        "parity 4;\n4 0 1 4,4,4 \"\";\n",
+    ),
+    ("  0 0 0 0;\n ", "parity 0;\n0 0 0 0;\n"),
+    ("parity 7; 3 1 1 3;", "parity 3;\n3 1 1 3;\n"),
+    (
+        "10 2147483647 0 0 \"~ x\"; 0 0 1 10,0,10;",
+        "parity 10;\n0 0 1 10,0,10;\n10 2147483647 0 0 \"~ x\";\n",
+    ),
+];
+
+/// Texts that stand for no game, the number of the refusal, and its place if it has one.
+static REFUSED: [(&str, u32, Option<usize>); 34] = [
+    ("", 3, Some(0)),
+    (" \n", 3, Some(2)),
+    ("pari", 1, Some(0)),
+    ("parity", 3, Some(6)),
+    ("parity 9", 3, Some(8)),
+    ("parity 9;", 3, Some(9)),
+    ("parity 9; 9", 3, Some(11)),
+    ("parity 9; 9 3", 3, Some(13)),
+    ("parity 9; 9 3 1", 3, Some(15)),
+    ("parity 9; 9 3 1 9", 3, Some(17)),
+    ("parity 9; 9 3 1 9,", 3, Some(18)),
+    ("parity 9; 9 3 1 9,;", 3, Some(18)),
+    ("parity 9; 9 3 1 9 \"a", 1, Some(18)),
+    ("parity 9; 9 3 1 9 \"a\"", 3, Some(21)),
+    ("parity 9; 9 3 1 ,9;", 3, Some(16)),
+    ("parity 9; parity 9; 9 3 1 9;", 3, Some(10)),
+    ("parity \"a\"; 9 3 1 9;", 3, Some(7)),
+    ("paritysol 0;", 3, Some(0)),
+    ("0 0 2 0;", 3, Some(4)),
+    ("0 0 0;", 3, Some(5)),
+    ("0 0 0 0 0;", 3, Some(8)),
+    ("0 0 0 0 \"a\" \"b\";", 3, Some(12)),
+    ("00 0 0 0;", 2, Some(0)),
+    ("2147483648 0 0 0;", 2, Some(0)),
+    ("0 0 2 0; 01 0 0 0;", 2, Some(9)),
+    ("0 0 0 1; $", 1, Some(9)),
+    ("; ; 0 0 0 0; \"", 1, Some(13)),
+    ("-0 0 0 0;", 1, Some(0)),
+    ("0 0 0 0; 0 0 0 0;", 10, None),
+    ("parity 0; 0 0 0 1; 0 0 0 0; 2 0 0 0;", 10, None),
+    ("0 0 0 1;", 11, None),
+    ("parity 0; 2 0 0 1;", 11, None),
+    ("parity 3; 4 0 0 4;", 12, None),
+    ("parity 0; 0 0 0 1; 1 0 0 0;", 12, None),
+];
+
+/// The canonical text of the game that a text stands for.
+fn canon(alloc: Global, text: &[u8]) -> Result<Vec<u8>, Refusal> {
+    let game = read_game(alloc, text)?;
+    write_game(alloc, &game)
+}
+
+/// How a game text is refused, if it is.
+fn refused(alloc: Global, text: &[u8]) -> Option<(u32, Option<usize>)> {
+    read_game(alloc, text).err().map(told)
+}
+
+#[test]
+fn games_are_read_and_written(rt: HostRuntime) {
+    for (text, want) in GAMES.iter() {
+        match canon(rt.alloc(), text.as_bytes()) {
+            Ok(found) => assert_eq!(rt; found.as_slice(), want.as_bytes()),
+            Err(refusal) => assert!(rt; false, "{refusal:?}"),
+        }
+    }
+}
+
+#[test]
+fn other_game_texts_are_refused(rt: HostRuntime) {
+    for (text, number, place) in REFUSED.iter() {
+        assert_eq!(rt;
+            refused(rt.alloc(), text.as_bytes()),
+            Some((*number, *place)),
+            "{text}"
+        );
+    }
+}
+
+#[test]
+fn texts_above_the_limit_are_refused(rt: HostRuntime) -> Result<(), Fail> {
+    let long = vec![in rt.alloc(); b'$'; MOST_TEXT + 1]?;
+    assert_eq!(rt; refused(rt.alloc(), &long), Some((4, None)));
+    Ok(())
+}
