@@ -1,4 +1,5 @@
 pub mod Named
+pub mod Obeying
 pub mod Places
 pub mod Solutions
 pub mod Solving

@@ -6,7 +6,7 @@ use Rattle.std.proofs.lemmas.List.{get_or-map, length-map}
 use Rattle.std.proofs.lemmas.List.Quantifiers.{position-Some}
 use Rattle.std.proofs.lemmas.List.Sums.{fails_before_first}
 use Rattle.omega_game.specs.Game.{Node, identifiers, no_node, node_at}
-use Rattle.omega_tool.specs.Solve.{IsNamed}
+use Rattle.omega_tool.specs.answers.solve.Solving.{IsNamed}
 
 identifier-at : (nodes : List Node) (v : ℕ) → v < length nodes → get_or (identifiers nodes) v 0 ≡ (node_at nodes v).identifier
 identifier-at nodes v h = get_or-map (λ (node : Node). node.identifier) nodes v no_node 0 h

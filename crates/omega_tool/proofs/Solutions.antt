@@ -1,30 +1,22 @@
 -- What two solvers found of a game, one for each player, is a right solution.
-use Rattle.std.proofs.Common.{◌≡◌, ◌↔◌, ℕ, ◌<◌, ◌≤◌, ◌⊎◌, inl, inr, Bool, true, false, List, Option, Some, None, IsSome, is_some, length, get_or, refl, sym, ap, ◌∙◌, arith}
+use Rattle.std.proofs.Common.{◌≡◌, ◌↔◌, ℕ, ◌<◌, ◌⊎◌, inl, inr, Bool, true, false, List, Option, Some, None, IsSome, is_some, length, get_or, refl, sym, ap, ◌∙◌, arith}
 use Rattle.std.specs.List.{slice_get}
 use Rattle.std.proofs.lemmas.List.{get_or-map, length-map}
 use Rattle.std.proofs.lemmas.Option.{get_or_from_slice_get, slice_get-get_or}
-use Rattle.omega_text.specs.declared.refusal.Refusal.{Refusal}
-use Rattle.omega_text.specs.declared.refusal.Refusal.TheVariants.{Memory, Task}
-use Rattle.omega_text.specs.declared.refusal.task.TaskFault.TheVariants.{Budget}
 use Rattle.omega_game.specs.declared.player.Player.{Player}
 use Rattle.omega_game.specs.declared.player.Player.TheVariants.{One, Zero}
 use Rattle.omega_game.specs.Game.{IsGame, Node, owner_at, priorities}
-use Rattle.omega_game.specs.Laws.{RegionsAreApart, RegionsCover}
-use Rattle.omega_game.specs.Winning.{Chooses, InRegion}
-use Rattle.omega_lift.specs.Answer.{won_in}
-use Rattle.omega_lift.specs.Laws.{RunsKeepTables, ZeroTablesAreTables}
-use Rattle.omega_lift.specs.Measure.{Measure}
-use Rattle.omega_lift.specs.Run.{IsRun, zero_table}
+use Rattle.omega_game.specs.Winning.{Chooses, InRegion, choice_at}
 use Rattle.omega_measure.specs.Table.{is_too_wide}
-use Rattle.omega_pg.specs.Solution.{choice_at, choices_of, winner_at}
 use Rattle.omega_pg.specs.declared.solution.Solution.{Solution}
-use Rattle.omega_solve.specs.Solver.{IsFinished, IsReached, State, most_lifts, start_of}
-use Rattle.omega_tool.specs.Answer.{WinsExactly, places_from}
-use Rattle.omega_tool.specs.Lifting.{GoesOnAfter}
-use Rattle.omega_tool.specs.Solve.{IsGameRefusal}
-use Rattle.omega_tool.specs.Solution.{GivesRegions, IsFound, IsRight, winner_of, winners_of}
+use Rattle.omega_pg.specs.solution.Solution.{choices_of, winner_at}
+use Rattle.omega_region.specs.Laws.{RegionsAreApart, RegionsCover}
+use Rattle.omega_solve.specs.Headline.{IsExact}
+use Rattle.omega_solve.specs.Within.{EndsWithin, IsFound}
+use Rattle.omega_solve.specs.declared.found.Found.{Found}
+use Rattle.omega_tool.specs.answers.solve.Solution.{GivesRegions, IsRight}
+use Rattle.omega_tool.specs.steps.Winners.{winner_of, winners_of}
 use Rattle.omega_tool.proofs.Places.{slice_get-true}
-use Rattle.omega_tool.proofs.Solving.{Contains-won, won-Contains}
 
 -- ---- the winners
 
@@ -41,12 +33,12 @@ winner-flag : (won : List Bool) (v : ℕ) → v < length won → get_or (winners
 winner-flag won v h = get_or-map winner_of won v false Zero h
 
 -- the flag at a place of player 0's region, and no other, is true
-flag-region : (nodes : List Node) (budget : ℕ) (won : List Bool) (choices : List (Option ℕ)) (v : ℕ)
-    → IsFound nodes Zero budget won choices → v < length nodes → (get_or won v false ≡ true) ↔ InRegion nodes Zero v
-flag-region nodes budget won choices v found h =
-    let within : v < length won = omega (arith, found.entries) in (
-      λ t. (found.won_exactly.exactly v).0 (won-Contains won v (slice_get-true won v within t)),
-      λ region. get_or_from_slice_get won v true false (Contains-won won v ((found.won_exactly.exactly v).1 region)),
+flag-region : (nodes : List Node) (won : List Bool) (choices : List (Option ℕ)) (v : ℕ) → IsExact nodes Zero won choices
+    → v < length nodes → (get_or won v false ≡ true) ↔ InRegion nodes Zero v
+flag-region nodes won choices v exact h =
+    let within : v < length won = omega (arith, exact.entries) in (
+      λ t. (exact.exactly v).0 (slice_get-true won v within t),
+      λ region. get_or_from_slice_get won v true false ((exact.exactly v).1 region),
     )
 
 -- a flag that is false stands at a node of player 1's region
@@ -64,17 +56,17 @@ false-One nodes v false game h apart cover region = (
 )
 
 -- the winners are those in whose regions the nodes are
-winners-regions : (nodes : List Node) (budget : ℕ) (won : List Bool) (choices : List (Option ℕ)) → IsGame nodes
-    → IsFound nodes Zero budget won choices → RegionsAreApart → RegionsCover
+winners-regions : (nodes : List Node) (won : List Bool) (choices : List (Option ℕ)) → IsGame nodes
+    → IsExact nodes Zero won choices → RegionsAreApart → RegionsCover
     → (player : Player) (v : ℕ) → v < length nodes → (get_or (winners_of won) v Zero ≡ player) ↔ InRegion nodes player v
-winners-regions nodes budget won choices game found apart cover Zero v h =
-    let e = winner-flag won v (omega (arith, found.entries)) in
-    let region = flag-region nodes budget won choices v found h in
+winners-regions nodes won choices game exact apart cover Zero v h =
+    let e = winner-flag won v (omega (arith, exact.entries)) in
+    let region = flag-region nodes won choices v exact h in
     let flag = winner_of-Zero (get_or won v false) in
     (λ w. region.0 (flag.0 (sym e ∙ w)), λ r. e ∙ flag.1 (region.1 r))
-winners-regions nodes budget won choices game found apart cover One v h =
-    let e = winner-flag won v (omega (arith, found.entries)) in
-    let region = false-One nodes v (get_or won v false) game h apart cover (flag-region nodes budget won choices v found h) in
+winners-regions nodes won choices game exact apart cover One v h =
+    let e = winner-flag won v (omega (arith, exact.entries)) in
+    let region = false-One nodes v (get_or won v false) game h apart cover (flag-region nodes won choices v exact h) in
     let flag = winner_of-One (get_or won v false) in
     (λ w. region.0 (flag.0 (sym e ∙ w)), λ r. e ∙ flag.1 (region.1 r))
 
@@ -87,41 +79,44 @@ chooses-some choices v None e some = cc
 chooses-some choices v (Some w) e some = (w, e)
 
 -- a choice stands exactly where the owner wins
-chosen-exactly : (nodes : List Node) (player winner : Player) (budget : ℕ) (won : List Bool) (choices : List (Option ℕ)) (v : ℕ)
-    → IsFound nodes player budget won choices → v < length nodes → (winner ≡ player) ↔ InRegion nodes player v
+chosen-exactly : (nodes : List Node) (player winner : Player) (won : List Bool) (choices : List (Option ℕ)) (v : ℕ)
+    → IsExact nodes player won choices → v < length nodes → (winner ≡ player) ↔ InRegion nodes player v
     → IsSome (choice_at choices v) ↔ ((owner_at nodes v ≡ player) × (winner ≡ player))
-chosen-exactly nodes player winner budget won choices v found h region =
-    let exactly = found.won_exactly in
-    let within : v < length choices = omega (arith, exactly.strategy.entries) in (
+chosen-exactly nodes player winner won choices v exact h region =
+    let within : v < length choices = omega (arith, exact.strategy.entries) in (
       λ some.
           let chosen = chooses-some choices v (choice_at choices v) (slice_get-get_or choices v None within) some in (
-            exactly.strategy.owned v chosen.0 chosen.1,
-            region.1 ((exactly.exactly v).0 (exactly.printed v chosen.0 chosen.1)),
+            exact.strategy.owned v chosen.0 chosen.1,
+            region.1 ((exact.exactly v).0 (exact.only v chosen.0 chosen.1)),
           ),
-      λ (owned, won_there). exactly.chosen v ((exactly.exactly v).1 (region.0 won_there)) owned,
+      λ (owned, won_there).
+          let chosen = exact.chosen v ((exact.exactly v).1 (region.0 won_there)) owned in
+          ap is_some (get_or_from_slice_get choices v (Some chosen.0) None chosen.1),
     )
 
 -- ---- the solution
 
+-- what was found for a player, where the solution has its choices
+abbrev IsFoundFor : List Node → ℕ → Solution → Player → Type 0
+IsFoundFor nodes budget solution player =
+    (won : List Bool) × (lifts : ℕ) × IsExact nodes player won (choices_of solution player) × EndsWithin nodes player budget lifts
+
 -- a solution of what was found, with the winners of the regions, is right
 right_of : (nodes : List Node) (budget : ℕ) (solution : Solution) → length solution.winners ≡ length nodes
     → ((player : Player) → is_too_wide player (priorities nodes) ≡ false) → GivesRegions nodes solution
-    → ((player : Player) → (won : List Bool) × IsFound nodes player budget won (choices_of solution player))
-    → IsRight nodes budget solution
+    → ((player : Player) → IsFoundFor nodes budget solution player) → IsRight nodes budget solution
 right_of nodes budget solution entries narrow regions found = record {
   fits = record {
     winners = entries;
-    strategies = λ player. (found player).1.won_exactly.strategy;
+    strategies = λ player. (found player).2.strategy;
     chosen = λ player v h.
-        chosen-exactly nodes player (winner_at solution v) budget (found player).0 (choices_of solution player) v
-        (found player).1 h (regions player v h);
+        chosen-exactly nodes player (winner_at solution v) (found player).0 (choices_of solution player) v (found player).2 h
+        (regions player v h);
   };
   regions = regions;
-  wins = λ player v h winner.
-      let exactly = (found player).1.won_exactly in
-      exactly.wins v ((exactly.exactly v).1 ((regions player v h).0 winner));
+  wins = λ player v h winner. (found player).2.wins v ((regions player v h).0 winner);
   narrow = narrow;
-  ended = λ player. (found player).1.ended;
+  ended = λ player. ((found player).1, (found player).3);
 }
 
 -- a game that is too wide for neither
@@ -131,71 +126,22 @@ by_player nodes zero one Zero = zero
 by_player nodes zero one One = one
 
 -- what was found for either
-found_by_player : (nodes : List Node) (budget : ℕ) (solution : Solution) (zero one : List Bool)
-    → IsFound nodes Zero budget zero solution.zero.choice → IsFound nodes One budget one solution.one.choice
-    → (player : Player) → (won : List Bool) × IsFound nodes player budget won (choices_of solution player)
-found_by_player nodes budget solution zero one for_zero for_one Zero = (zero, for_zero)
-found_by_player nodes budget solution zero one for_zero for_one One = (one, for_one)
-
--- ---- a solver that ran
-
--- a table that a lifting run leads to has an entry for each node
-run-entries : (nodes : List Node) (player : Player) (places : List ℕ) (table : List Measure) → RunsKeepTables → ZeroTablesAreTables
-    → IsRun nodes player (zero_table player (priorities nodes)) places table → length (won_in table) ≡ length nodes
-run-entries nodes player places table keep zero run =
-    let kept = keep nodes player (zero_table player (priorities nodes)) table places (zero player (priorities nodes)) run in
-    length-map table is_some ∙ kept.entries ∙ length-map nodes (λ (node : Node). node.priority)
-
--- what it found, where its game and player are known by other names, as are the places won and the choices
-pub found_for : (nodes : List Node) (player : Player) (state : State) (budget : ℕ) (won found : List Bool) (choices chosen : List (Option ℕ))
-    → state.nodes ≡ nodes → state.player ≡ player → found ≡ won → chosen ≡ choices → won ≡ won_in state.table.measures
-    → state.lifts ≤ budget → IsReached state → state.lifts ≤ most_lifts state → IsFinished state
-    → RunsKeepTables → ZeroTablesAreTables
-    → WinsExactly state.nodes state.player (places_from 0 won) choices
-    → IsFound nodes player budget found chosen
-found_for nodes player state budget won found choices chosen en ep ew ec same within reached bounded finished keep zero exactly =
-    let entries : length won ≡ length state.nodes =
-    ap length same ∙ run-entries state.nodes state.player reached.places state.table.measures keep zero reached.lifted in
-    let of_state : IsFound state.nodes state.player budget won choices =
-    record {
-      entries = entries;
-      won_exactly = exactly;
-      ended = record {
-        lifts = state.lifts;
-        within = within;
-        bounded = bounded;
-        ended = record {
-          table = state.table.measures;
-          lifted = record { places = reached.places; run = reached.lifted; counted = reached.counted };
-          done = finished;
-        };
-      };
-    } in
-    rw (ew, ec, ← en, ← ep) of_state
-
--- ---- refusals
-
--- a solver that found nothing within the budget refuses the game, which is too wide for neither player
-pub refused-for : (nodes : List Node) (player : Player) (budget : ℕ) (refusal : Refusal)
-    → ((other : Player) → is_too_wide other (priorities nodes) ≡ false)
-    → (refusal ≡ Memory) ⊎ ((refusal ≡ Task Budget) × GoesOnAfter nodes player budget)
-    → IsGameRefusal nodes None None budget refusal
-refused-for nodes player budget refusal narrow (inl e) = rw e tt
-refused-for nodes player budget refusal narrow (inr (e, unfinished)) =
-    rw e (record { narrow = λ other _. narrow other; player = player; solved_for = tt; unfinished = unfinished })
-
--- ---- both solvers
+found_by_player : (nodes : List Node) (budget : ℕ) (solution : Solution) (zero one : Found) → IsFound nodes Zero budget zero
+    → IsFound nodes One budget one → solution.zero.choice ≡ zero.choice.items → solution.one.choice ≡ one.choice.items
+    → (player : Player) → IsFoundFor nodes budget solution player
+found_by_player nodes budget solution zero one for_zero for_one ez eo Zero =
+    (zero.won.items, zero.lifts, rw ez for_zero.exact, for_zero.ended)
+found_by_player nodes budget solution zero one for_zero for_one ez eo One =
+    (one.won.items, one.lifts, rw eo for_one.exact, for_one.ended)
 
 -- what two new solvers of a game found, one for each player, is a right solution
-pub right_for : (nodes : List Node) (budget : ℕ) (zero one : State) (won won' : List Bool) (choices choices' : List (Option ℕ)) (solution : Solution)
-    → IsGame nodes → zero ≡ start_of nodes Zero → one ≡ start_of nodes One
+pub right_solution : (nodes : List Node) (budget : ℕ) (zero one : Found) (solution : Solution) → IsGame nodes
     → is_too_wide Zero (priorities nodes) ≡ false → is_too_wide One (priorities nodes) ≡ false
-    → IsFound zero.nodes zero.player budget won choices → IsFound one.nodes one.player budget won' choices'
-    → solution.winners ≡ winners_of won → solution.zero.choice ≡ choices → solution.one.choice ≡ choices'
+    → IsFound nodes Zero budget zero → IsFound nodes One budget one
+    → solution.winners ≡ winners_of zero.won.items → solution.zero.choice ≡ zero.choice.items → solution.one.choice ≡ one.choice.items
     → RegionsAreApart → RegionsCover → IsRight nodes budget solution
-right_for nodes budget zero one won won' choices choices' solution game ez eo narrow_zero narrow_one found_zero found_one ew ec ec' apart cover =
-    let for_zero : IsFound nodes Zero budget won solution.zero.choice = rw ec (rw ez at found_zero) in
-    let for_one : IsFound nodes One budget won' solution.one.choice = rw ec' (rw eo at found_one) in
-    right_of nodes budget solution (rw ew (length-map won winner_of ∙ for_zero.entries)) (by_player nodes narrow_zero narrow_one)
-    (λ player v h. rw ew (winners-regions nodes budget won solution.zero.choice game for_zero apart cover player v h))
-    (found_by_player nodes budget solution won won' for_zero for_one)
+right_solution nodes budget zero one solution game narrow_zero narrow_one for_zero for_one ew ez eo apart cover =
+    let exact = for_zero.exact in
+    right_of nodes budget solution (rw ew (length-map zero.won.items winner_of ∙ exact.entries)) (by_player nodes narrow_zero narrow_one)
+    (λ player v h. rw ew (winners-regions nodes zero.won.items zero.choice.items game exact apart cover player v h))
+    (found_by_player nodes budget solution zero one for_zero for_one ez eo)

@@ -1,25 +1,26 @@
--- What a finished solver knows is a right answer, and which refusals of its parts are those of solving.
-use Rattle.std.proofs.Common.{◌≡◌, ℕ, ◌+◌, ◌<◌, ◌≤◌, ◌↔◌, Bool, true, false, List, Option, Some, None, IsSome, is_some, length, unwrap_or, refl, sym, ap, subst, ◌∙◌, arith}
+-- What was found within a budget is a right answer, and which refusals of its parts are those of solving.
+use Rattle.std.proofs.Common.{◌≡◌, ℕ, ◌+◌, Bool, true, false, List, Option, Some, None, is_some, ap, subst, arith}
 use Rattle.std.specs.List.{Contains, slice_get}
-use Rattle.std.specs.Option.{option_map}
-use Rattle.std.proofs.lemmas.Option.{get_or_from_slice_get, slice_get-map, slice_get_within, unwrap_or-slice_get}
+use Rattle.std.proofs.lemmas.Option.{get_or_from_slice_get}
 use Rattle.omega_text.specs.declared.refusal.Refusal.{Refusal}
 use Rattle.omega_text.specs.declared.refusal.Refusal.TheVariants.{Automaton, Game, Io, Memory, Task, Text}
+use Rattle.omega_text.specs.declared.refusal.task.TaskFault.{TaskFault}
 use Rattle.omega_text.specs.declared.refusal.task.TaskFault.TheVariants.{BadSolution, Budget, NotParity, TooManyPropositions, TooWide, UniversalBranch, UnknownNode}
 use Rattle.omega_game.specs.declared.player.Player.{Player}
 use Rattle.omega_game.specs.Game.{Node, priorities}
 use Rattle.omega_game.specs.Part.{IsPart}
-use Rattle.omega_game.specs.Winning.{Chooses, InRegion, IsStrategy, Wins}
-use Rattle.omega_lift.specs.Answer.{AreChoices, won_in}
-use Rattle.omega_lift.specs.Allowance.{measure_at}
-use Rattle.omega_lift.specs.Measure.{Measure}
 use Rattle.omega_measure.specs.Table.{is_too_wide}
-use Rattle.omega_solve.specs.Solver.{IsFinished, IsReached, State, most_lifts}
-use Rattle.omega_tool.specs.Answer.{IsAnswerOf, WinsExactly, answer_text, places_from}
-use Rattle.omega_tool.specs.Solve.{IsGameRefusal, IsNamed}
+use Rattle.omega_solve.specs.Headline.{IsExact}
+use Rattle.omega_solve.specs.Within.{IsBudgetRefusal, IsFound}
+use Rattle.omega_solve.specs.declared.found.Found.{Found}
+use Rattle.omega_tool.specs.answers.solve.AnswerText.{IsAnswerOf, WinsExactly, answer_text}
+use Rattle.omega_tool.specs.answers.solve.Refusing.{IsSolvedFor}
+use Rattle.omega_tool.specs.answers.solve.Solving.{IsNamed}
+use Rattle.omega_tool.specs.steps.GameRefusal.{IsGameRefusal}
+use Rattle.omega_tool.specs.steps.Places.{places_from}
 use Rattle.omega_tool.proofs.Places.{Contains-places_from, IsStrictlyIncreasing-places_from, places_from-true}
 
--- ---- the places won, and the choices printed
+-- ---- the places won
 
 -- the places won are those whose flag is true
 pub Contains-won : (won : List Bool) (v : ℕ) → Contains (places_from 0 won) v → slice_get won v ≡ Some true
@@ -33,98 +34,51 @@ won-Contains won v e =
     let place : 0 + v ≡ v = omega arith in
     subst (Contains (places_from 0 won)) place (Contains-places_from 0 won v e)
 
-below_top_at : (table : List Measure) (v : ℕ) (x : Option Measure) → slice_get table v ≡ x → option_map is_some x ≡ Some true
-    → IsSome (measure_at table v)
-below_top_at table v None at e = cc
-below_top_at table v (Some x) at e =
-    let below : is_some x ≡ true = cc in ap is_some (get_or_from_slice_get table v x None at) ∙ below
-
--- a won place is below top
-below_top-won : (table : List Measure) (v : ℕ) → slice_get (won_in table) v ≡ Some true → IsSome (measure_at table v)
-below_top-won table v e = below_top_at table v (slice_get table v) refl (sym (slice_get-map is_some table v) ∙ e)
-
-won_at : (table : List Measure) (v : ℕ) (entries : List ℕ) (x : Option Measure) → slice_get table v ≡ x
-    → measure_at table v ≡ Some entries → slice_get (won_in table) v ≡ Some true
-won_at table v entries None at e =
-    let top : measure_at table v ≡ None = sym (unwrap_or-slice_get table v None) ∙ ap (λ (o : Option Measure). unwrap_or o None) at in cc
-won_at table v entries (Some x) at e =
-    let same : x ≡ Some entries = sym (get_or_from_slice_get table v x None at) ∙ e in
-    slice_get-map is_some table v ∙ ap (option_map is_some) at ∙ ap (λ (m : Measure). Some (is_some m)) same
-
--- a place with a choice is won
-chosen-won : (nodes : List Node) (player : Player) (table : List Measure) (choices : List (Option ℕ)) (v w : ℕ) (x : Measure)
-    → IsStrategy nodes player choices → AreChoices nodes player table choices → Chooses choices v w
-    → measure_at table v ≡ x → slice_get (won_in table) v ≡ Some true
-chosen-won nodes player table choices v w None strategy are chooses at =
-    let within : v < length choices = slice_get_within choices v (Some w) chooses in
-    let none : slice_get choices v ≡ Some None = are.lost v (omega (arith, strategy.entries)) at in cc
-chosen-won nodes player table choices v w (Some entries) strategy are chooses at = won_at table v entries (slice_get table v) refl at
-
--- the places below top are exactly the region, with the choices of the table
-pub wins_exactly : (nodes : List Node) (player : Player) (table : List Measure) (won : List Bool) (choices : List (Option ℕ))
-    → won ≡ won_in table → ((v : ℕ) → (slice_get won v ≡ Some true) ↔ InRegion nodes player v)
-    → IsStrategy nodes player choices → AreChoices nodes player table choices
-    → ((v : ℕ) → slice_get won v ≡ Some true → Wins nodes player choices v)
+-- an exact answer by place wins exactly at the places won
+wins_exactly : (nodes : List Node) (player : Player) (won : List Bool) (choices : List (Option ℕ)) → IsExact nodes player won choices
     → WinsExactly nodes player (places_from 0 won) choices
-wins_exactly nodes player table won choices same exactly strategy are wins =
-    let flag : (v : ℕ) → slice_get won v ≡ Some true → slice_get (won_in table) v ≡ Some true =
-    λ v e. subst (λ (flags : List Bool). slice_get flags v ≡ Some true) same e in
-    record {
-      rising = IsStrictlyIncreasing-places_from 0 won;
-      exactly = λ v. (
-        λ there. (exactly v).0 (Contains-won won v there),
-        λ region. won-Contains won v ((exactly v).1 region),
-      );
-      strategy = strategy;
-      chosen = λ v there owned.
-          let e = Contains-won won v there in
-          let found = are.chosen v ((exactly v).0 e).node owned (below_top-won table v (flag v e)) in
-          ap is_some (get_or_from_slice_get choices v (Some found.0) None found.1);
-      printed = λ v w chooses.
-          won-Contains won v
-          (subst (λ (flags : List Bool). slice_get flags v ≡ Some true) (sym same)
-          (chosen-won nodes player table choices v w (measure_at table v) strategy are chooses refl));
-      wins = λ v there. wins v (Contains-won won v there);
-    }
-
--- ---- a solver that ran
-
--- what it made is a right answer for its game and player
-right_answer : (state : State) (budget : ℕ) (won : List Bool) (choices : List (Option ℕ)) (output : List ℕ)
-    → is_too_wide state.player (priorities state.nodes) ≡ false
-    → state.lifts ≤ budget → IsReached state → state.lifts ≤ most_lifts state → IsFinished state
-    → WinsExactly state.nodes state.player (places_from 0 won) choices
-    → output ≡ answer_text state.player state.lifts state.nodes (places_from 0 won) choices
-    → IsAnswerOf state.nodes state.player budget output
-right_answer state budget won choices output narrow within reached bounded finished exactly written = record {
-  narrow = narrow;
-  lifts = state.lifts;
-  won = places_from 0 won;
-  choices = choices;
-  written = written;
-  within = within;
-  bounded = bounded;
-  ended = record {
-    table = state.table.measures;
-    lifted = record { places = reached.places; run = reached.lifted; counted = reached.counted };
-    done = finished;
-  };
-  won_exactly = exactly;
+wins_exactly nodes player won choices exact = record {
+  rising = IsStrictlyIncreasing-places_from 0 won;
+  exactly = λ v. (
+    λ there. (exact.exactly v).0 (Contains-won won v there),
+    λ region. won-Contains won v ((exact.exactly v).1 region),
+  );
+  strategy = exact.strategy;
+  chosen = λ v there owned.
+      let found = exact.chosen v (Contains-won won v there) owned in
+      ap is_some (get_or_from_slice_get choices v (Some found.0) None found.1);
+  printed = λ v w chooses. won-Contains won v (exact.only v w chooses);
+  wins = λ v there. exact.wins v ((exact.exactly v).0 (Contains-won won v there));
 }
 
--- the same, where the solver's game and player are known by other names
-pub right_for : (nodes : List Node) (player : Player) (state : State) (budget : ℕ) (won : List Bool) (choices : List (Option ℕ)) (output : List ℕ)
-    → state.nodes ≡ nodes → state.player ≡ player → is_too_wide player (priorities nodes) ≡ false
-    → state.lifts ≤ budget → IsReached state → state.lifts ≤ most_lifts state → IsFinished state
-    → WinsExactly state.nodes state.player (places_from 0 won) choices
-    → output ≡ answer_text player state.lifts nodes (places_from 0 won) choices
+-- the text of what was found is a right answer
+pub right_answer : (nodes : List Node) (player : Player) (budget : ℕ) (found : Found) (output : List ℕ)
+    → is_too_wide player (priorities nodes) ≡ false → IsFound nodes player budget found
+    → output ≡ answer_text player found.lifts nodes (places_from 0 found.won.items) found.choice.items
     → IsAnswerOf nodes player budget output
-right_for nodes player state budget won choices output en ep narrow within reached bounded finished exactly written =
-    subst (λ (n : List Node). IsAnswerOf n player budget output) en
-    (subst (λ (p : Player). IsAnswerOf state.nodes p budget output) ep
-    (right_answer state budget won choices output (rw (en, ep) narrow) within reached bounded finished exactly (rw (en, ep) written)))
+right_answer nodes player budget found output narrow is_found written = record {
+  narrow = narrow;
+  lifts = found.lifts;
+  won = places_from 0 found.won.items;
+  choices = found.choice.items;
+  written = written;
+  ended = is_found.ended;
+  won_exactly = wins_exactly nodes player found.won.items found.choice.items is_found.exact;
+}
 
 -- ---- refusals
+
+-- what is refused for a player's budget is refused of the game, which is too wide for no player for whom it is solved
+pub refused-budget : (nodes : List Node) (asked : Option Player) (player : Player) (budget : ℕ) (refusal : Refusal)
+    → ((other : Player) → IsSolvedFor asked other → is_too_wide other (priorities nodes) ≡ false) → IsSolvedFor asked player
+    → IsBudgetRefusal nodes player budget refusal → IsGameRefusal nodes asked None budget refusal
+refused-budget nodes asked player budget (Task fault) narrow solved_for (e, unfinished) =
+    rw e (record { narrow = narrow; player = player; solved_for = solved_for; unfinished = unfinished })
+refused-budget nodes asked player budget Memory narrow solved_for h = tt
+refused-budget nodes asked player budget (Text fault) narrow solved_for h = h
+refused-budget nodes asked player budget (Game fault) narrow solved_for h = h
+refused-budget nodes asked player budget (Automaton fault) narrow solved_for h = h
+refused-budget nodes asked player budget Io narrow solved_for h = h
 
 -- what refuses the part of a node refuses the solving from it
 pub refused-part : (game : List Node) (asked : Option Player) (identifier budget place : ℕ) (part : List Node) (refusal : Refusal)

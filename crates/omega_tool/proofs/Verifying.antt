@@ -8,13 +8,14 @@ use Rattle.omega_game.specs.declared.player.Player.{Player}
 use Rattle.omega_game.specs.declared.player.Player.TheVariants.{One, Zero}
 use Rattle.omega_game.specs.Game.{Node}
 use Rattle.omega_game.specs.Winning.{Wins}
-use Rattle.omega_pg.specs.Solution.{choices_of}
+use Rattle.omega_pg.specs.solution.Solution.{choices_of}
 use Rattle.omega_pg.specs.declared.solution.Solution.{Solution}
-use Rattle.omega_tool.specs.Solution.{WinsAsGiven, WinsGiven}
-use Rattle.omega_pg.specs.SolutionText.{IsSolutionText}
-use Rattle.omega_pg.specs.Text.{IsGameText}
+use Rattle.omega_tool.specs.answers.solve.Solution.{WinsAsGiven, WinsGiven}
+use Rattle.omega_pg.specs.solution.Text.{IsSolutionText}
+use Rattle.omega_pg.specs.game.Text.{IsGameText}
 use Rattle.omega_tool.specs.declared.exit.Exit.{Exit}
-use Rattle.omega_tool.specs.Verify.{IsVerdict, IsVerifyAnswer, given_to, is_given, verdict_exit, verdict_text}
+use Rattle.omega_tool.specs.answers.Verify.{IsVerdict, IsVerifyAnswer}
+use Rattle.omega_tool.specs.steps.Verdict.{given_to, is_given, verdict_exit, verdict_text}
 use Rattle.omega_tool.proofs.Places.{slice_get-true}
 use Rattle.omega_tool.proofs.Solving.{Contains-won, won-Contains}
 

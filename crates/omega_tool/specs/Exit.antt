@@ -1,3 +1,4 @@
+-- The status with which the program ends.
 use Rattle.std.specs.Prelude.{ℕ, ◌==◌, if◌then◌else◌, Result, Ok, Err}
 use Rattle.omega_text.specs.Refusal.{number_of}
 use Rattle.omega_text.specs.declared.refusal.Refusal.{Refusal}
@@ -17,3 +18,7 @@ abbrev pub status_of : Result Exit Refusal → ℕ
 status_of (Ok Done) = 0
 status_of (Ok No) = 6
 status_of (Err refusal) = refusal_status refusal
+
+-- the status after a fault of the command line
+abbrev pub fault_status : ℕ
+fault_status = 2

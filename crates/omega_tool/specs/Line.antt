@@ -1,5 +1,6 @@
+-- What of a command line can be done.
 use Rattle.std.specs.Prelude.{◌≤◌}
-use Rattle.omega_solve.specs.declared.solver.TheConstants.{MOST_LIFTS}
+use Rattle.omega_solve.specs.Limits.{most_lifts}
 use Rattle.omega_tool.specs.declared.command.Command.{Command}
 use Rattle.omega_tool.specs.declared.command.Command.TheVariants.{Canon, Check, Empty, Game, Show, Solve, Verify}
 use Rattle.omega_tool.specs.declared.command.Format.TheVariants.{Hoa, Pg}
@@ -21,7 +22,7 @@ IsOffered Game = ⊥
 
 -- what the line asks for can be done: its command is offered, with a budget that a solver takes
 abbrev pub IsRunnable : Line → Type 0
-IsRunnable (line.Run command budget) = IsOffered command × (budget ≤ MOST_LIFTS)
+IsRunnable (line.Run command budget) = IsOffered command × (budget ≤ most_lifts)
 IsRunnable (line.Verify file) = Unit {0}
 IsRunnable (line.Help text) = Unit {0}
 IsRunnable (line.Fault text) = Unit {0}

@@ -1,3 +1,4 @@
+-- The line that the program prints for a refusal.
 use Rattle.std.specs.Prelude.{ℕ, List, [], ◌++◌, Option, Some, None, codes, decimal}
 use Rattle.omega_text.specs.Refusal.{name_of, number_of, place_of}
 use Rattle.omega_text.specs.declared.refusal.Refusal.{Refusal}

@@ -1,8 +1,8 @@
 use crate::command::Command;
 use crate::exit::Exit;
-use crate::input::{FromRead, Input};
-use crate::output::{Output, ToWrite};
 use crate::run::run_command;
+use crate::transfer::input::{FromRead, Input};
+use crate::transfer::output::{Output, ToWrite};
 use omega_text::{Refusal, Seq};
 use std::alloc::Global;
 use std::io;

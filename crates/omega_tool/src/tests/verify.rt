@@ -1,9 +1,10 @@
 //! Solutions that are verified.
-use super::omega_with_file;
-use crate::game_file::read_file;
+use super::{Left, OneFile, omega_with_file};
 use crate::line::Line;
+use crate::transfer::game_file::{GameFiles, HostFiles};
 use crate::words::read_words;
 use omega_text::Refusal;
+use std::alloc::Global;
 use std::test::Fail;
 
 const THREE: &str = "0 0 0 1,2; 1 1 1 0; 2 2 1 0;";
@@ -135,15 +136,19 @@ static REFUSALS: [(&str, &str, &str); 20] = [
     ("", "paritysol 0; 0 0 0;", "omega: 3 Syntax at 0\n"),
 ];
 
+/// Verifies a solution text of the game with a text, which is in a file.
+fn verified(alloc: Global, game: &str, text: &str) -> Result<Left, Fail> {
+    let file = OneFile {
+        name: "g",
+        text: game.as_bytes(),
+    };
+    omega_with_file(alloc, "verify --game g", &file, text.as_bytes())
+}
+
 #[test]
 fn says_whether_solutions_are_right(rt: HostRuntime) -> Result<(), Fail> {
     for (game, text, is_right) in VERDICTS.as_slice() {
-        let left = omega_with_file(
-            rt.alloc(),
-            "verify --game g",
-            game.as_bytes(),
-            text.as_bytes(),
-        )?;
+        let left = verified(rt.alloc(), game, text)?;
         let (status, output): (u8, &[u8]) = if *is_right {
             (0, b"yes\n")
         } else {
@@ -159,12 +164,7 @@ fn says_whether_solutions_are_right(rt: HostRuntime) -> Result<(), Fail> {
 #[test]
 fn refuses_what_is_no_solution(rt: HostRuntime) -> Result<(), Fail> {
     for (game, text, line) in REFUSALS.as_slice() {
-        let left = omega_with_file(
-            rt.alloc(),
-            "verify --game g",
-            game.as_bytes(),
-            text.as_bytes(),
-        )?;
+        let left = verified(rt.alloc(), game, text)?;
         assert_eq!(rt; left.status, 1, "{game} {text}");
         assert!(rt; left.output.is_empty(), "{game} {text}");
         assert!(rt; left.error.as_slice() == line.as_bytes(), "{game} {text}");
@@ -187,19 +187,35 @@ fn names_the_file_of_the_game(rt: HostRuntime) -> Result<(), Fail> {
 }
 
 #[test]
+fn tells_that_the_file_is_not_there(rt: HostRuntime) -> Result<(), Fail> {
+    let file = OneFile {
+        name: "g",
+        text: b"0 0 0 0;",
+    };
+    let left = omega_with_file(rt.alloc(), "verify --game h", &file, b"paritysol 0; 0 0 0;")?;
+    assert_eq!(rt; left.status, 5);
+    assert!(rt; left.output.is_empty());
+    assert!(rt; left.error.as_slice() == b"omega: 61 Io\n".as_slice());
+    Ok(())
+}
+
+#[test]
 fn reads_the_file_of_the_game(rt: HostRuntime) {
-    let missing = read_file(&rt, "no such file");
+    let files = HostFiles::new(&rt);
+    let missing = files.read_file(rt.alloc(), "no such file");
     assert_eq!(rt; missing, Err(Refusal::Io));
-    let folder = read_file(&rt, ".");
+    let folder = files.read_file(rt.alloc(), ".");
     assert_eq!(rt; folder, Err(Refusal::Io));
-    let empty = read_file(&rt, "/dev/null").is_ok_and(|bytes| bytes.is_empty());
+    let empty = files
+        .read_file(rt.alloc(), "/dev/null")
+        .is_ok_and(|bytes| bytes.is_empty());
     assert!(rt; empty);
 }
 
 /// A file without an end is read up to the first byte past the greatest length of a text, and each byte is the file's.
 #[test]
 fn stops_in_a_file_without_an_end(rt: HostRuntime) -> Result<(), Fail> {
-    let bytes = read_file(&rt, "/dev/zero")?;
+    let bytes = HostFiles::new(&rt).read_file(rt.alloc(), "/dev/zero")?;
     assert_eq!(rt; bytes.len(), 16_777_217);
     assert!(rt; bytes.as_slice().iter().all(|byte| *byte == 0));
     Ok(())

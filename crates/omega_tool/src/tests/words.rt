@@ -35,7 +35,10 @@ static FAULTS: [(&str, &str); 35] = [
     ),
     ("show --format pg more", "unexpected argument 'more'"),
     ("solve --player 2", "invalid value '2' for '--player <P>'"),
-    ("solve --player +1", "without a sign"),
+    (
+        "solve --player +1",
+        "invalid value '+1' for '--player <P>': a number is written in digits, without a sign",
+    ),
     ("solve --player=-1", "invalid value '-1' for '--player <P>'"),
     (
         "solve --player 0 --player 0",
@@ -49,12 +52,18 @@ static FAULTS: [(&str, &str); 35] = [
         "solve --player 0 --budget 1e3",
         "invalid value '1e3' for '--budget <N>'",
     ),
-    ("solve --player 0 --budget +3", "without a sign"),
+    (
+        "solve --player 0 --budget +3",
+        "invalid value '+3' for '--budget <N>': a number is written in digits, without a sign",
+    ),
     (
         "solve --player 0 --from 2147483648",
         "is not in 0..=2147483647",
     ),
-    ("solve --player 0 --from +0", "without a sign"),
+    (
+        "solve --player 0 --from=+0",
+        "invalid value '+0' for '--from <ID>': a number is written in digits, without a sign",
+    ),
     (
         "solve --player 0 --from x",
         "invalid value 'x' for '--from <ID>'",

@@ -1,51 +1,53 @@
-use clap::{Arg, value_parser};
-use std::alloc::Global;
+ghost use Rattle.std.specs.Prelude.{◌≡◌};
+ghost use Rattle.clap.specs.Matches.{first_value, found_of};
+ghost use Rattle.omega_tool.specs.CommandLine.{id_of, text_of};
 
-/// The formats that are offered.
-static FORMATS: [&str; 1] = ["pg"];
+use clap::ArgMatches;
+use std::fmt;
 
-/// The option that says what kind of text is read.
-pub fn format_option<'a>(alloc: Global) -> Arg<'a> {
-    Arg::new(alloc, "format")
-        .long("format")
-        .value_name("FORMAT")
-        .required(true)
-        .value_parser(FORMATS.as_slice())
-        .help("The kind of text: pg, a game in the text of PGSolver")
+/// The options of all subcommands.
+#[derive(Clone, Copy, Debug, PartialEq, Eq)]
+pub enum Name {
+    Format,
+    Player,
+    From,
+    Budget,
+    Game,
 }
 
-/// The option that names the file of a game.
-pub fn game_option<'a>(alloc: Global) -> Arg<'a> {
-    Arg::new(alloc, "game")
-        .long("game")
-        .value_name("FILE")
-        .required(true)
-        .help("The file with the game text")
+impl fmt::Display for Name {
+    fn fmt<W: fmt::Write>(&self, f: &mut fmt::Formatter<W>) -> fmt::Result {
+        f.write_str(match self {
+            Name::Format => "--format <FORMAT>",
+            Name::Player => "--player <P>",
+            Name::From => "--from <ID>",
+            Name::Budget => "--budget <N>",
+            Name::Game => "--game <FILE>",
+        })
+    }
 }
 
-/// The option that says whose game is solved.
-pub fn player_option<'a>(alloc: Global) -> Arg<'a> {
-    Arg::new(alloc, "player")
-        .long("player")
-        .value_name("P")
-        .value_parser(value_parser!(u64).range(0..=1))
-        .help("Solve for this player alone, 0 or 1")
+/// The texts of the options that are given.
+#[derive(Clone, Copy, Debug)]
+pub struct Options<'a> {
+    pub format: Option<&'a str>,
+    pub player: Option<&'a str>,
+    pub from: Option<&'a str>,
+    pub budget: Option<&'a str>,
+    pub game: Option<&'a str>,
 }
 
-/// The option that names the node whose part is solved.
-pub fn from_option<'a>(alloc: Global) -> Arg<'a> {
-    Arg::new(alloc, "from")
-        .long("from")
-        .value_name("ID")
-        .value_parser(value_parser!(u32).range(0..=2_147_483_647))
-        .help("Solve only the part that the node with this identifier reaches")
-}
-
-/// The option that bounds the work.
-pub fn budget_option<'a>(alloc: Global) -> Arg<'a> {
-    Arg::new(alloc, "budget")
-        .long("budget")
-        .value_name("N")
-        .value_parser(value_parser!(u64).range(0..=1_099_511_627_776))
-        .help("Give up after N lifts, 0 to 1099511627776, which is also the default")
+impl<'a> Options<'a> {
+    /// The texts that `clap` found behind a subcommand.
+    pub fn of(found: &ArgMatches<'a>) -> Options<'a>
+        ensures { (name : Name) → text_of name result ≡ first_value (found_of found.now) (id_of name) }
+    {
+        Options {
+            format: found.get_str("format"),
+            player: found.get_str("player"),
+            from: found.get_str("from"),
+            budget: found.get_str("budget"),
+            game: found.get_str("game"),
+        }
+    }
 }

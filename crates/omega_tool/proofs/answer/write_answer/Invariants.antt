@@ -1,9 +1,0 @@
-use Rattle.std.proofs.Common.{◌≡◌, ◌++◌, drop}
-use Rattle.std.specs.List.{flat_map}
-use Rattle.omega_tool.specs.Answer.{answer_text, places_from, won_line}
-use Rattle.omega_tool.proofs.answer.write_answer.Given as goal
-
-abbrev pub invariant-loop-place : goal.invariant-loop-place
-invariant-loop-place l =
-    l.out.items ++ flat_map (won_line l.game l.choices) (places_from l.place (drop l.place l.won))
-    ≡ answer_text l.fn.player l.fn.lifts l.game (places_from 0 l.won) l.choices

@@ -1,0 +1,38 @@
+use Rattle.std.proofs.Common.{sym}
+use Rattle.std.proofs.lemmas.Result.{IfErr-weaker, IfOk-weaker}
+use Rattle.omega_tool.proofs.Named.{named-nowhere, named-place}
+use Rattle.omega_tool.proofs.Solving.{refused-part}
+use Rattle.omega_tool.specs.answers.solve.Solving.{IsNamed}
+use Rattle.omega_tool.proofs.answers.solve.solve_part.Goals as goal
+
+pub returns-in-None-clause-refused : goal.returns-in-None-clause-refused
+returns-in-None-clause-refused g c = named-nowhere c.args.game c.args.identifier (sym c.in-None.ensures)
+
+pub returns-clause-answer : goal.returns-clause-answer
+returns-clause-answer g c =
+    let named : IsNamed c.args.game c.args.identifier c.in-Some.place =
+    named-place c.args.game c.args.identifier c.in-Some.place (sym c.in-Some.ensures) in
+    let part = c.in_ok-part.ensures.part in
+    IfOk-weaker c.solve_whole.result _ _
+    (λ output answer. record {
+      place = c.in-Some.place;
+      named = named;
+      kept = part.0;
+      part = c.in_ok-part.part;
+      reached = part.1;
+      answer = answer;
+      regions = λ player k.
+          c.regions_of_parts.ensures c.args.game c.in_ok-part.part player c.in-Some.place part.0 k
+          c.keeps_limits.ensures.game part.1;
+    })
+    c.solve_whole.ensures.answer
+
+pub returns-clause-refused : goal.returns-clause-refused
+returns-clause-refused g c =
+    let named : IsNamed c.args.game c.args.identifier c.in-Some.place =
+    named-place c.args.game c.args.identifier c.in-Some.place (sym c.in-Some.ensures) in
+    IfErr-weaker c.solve_whole.result _ _
+    (λ refusal h.
+    refused-part c.args.game c.args.asked c.args.identifier c.args.budget c.in-Some.place c.in_ok-part.part refusal
+    named c.in_ok-part.ensures.part h)
+    c.solve_whole.ensures.refused

@@ -1,6 +1,0 @@
-use Rattle.std.proofs.Common.{◌≡◌, take}
-use Rattle.omega_tool.specs.Solution.{winners_of}
-use Rattle.omega_tool.proofs.solve.both.winners_of.Given as goal
-
-abbrev pub invariant-loop-is_won : goal.invariant-loop-is_won
-invariant-loop-is_won l = l.winners.items ≡ winners_of (take l.is_won-index l.won)

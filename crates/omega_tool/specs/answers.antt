@@ -1,0 +1,6 @@
+pub mod PlayerText
+pub mod Verify
+pub mod canon
+pub mod check
+pub mod show
+pub mod solve

@@ -1,0 +1,4 @@
+pub mod AnswerText
+pub mod Refusing
+pub mod Solution
+pub mod Solving

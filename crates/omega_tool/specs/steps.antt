@@ -1,0 +1,4 @@
+pub mod GameRefusal
+pub mod Places
+pub mod Verdict
+pub mod Winners

@@ -1,0 +1,7 @@
+mod canon;
+mod check;
+mod options;
+pub mod program;
+mod show;
+mod solve;
+mod verify;

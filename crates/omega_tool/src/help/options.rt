@@ -1,0 +1,48 @@
+//! The options of the subcommands. What the texts of numbers stand for is judged behind `clap`.
+use clap::Arg;
+use std::alloc::Global;
+
+/// The formats that are offered.
+static FORMATS: [&str; 1] = ["pg"];
+
+/// The option that says what kind of text is read.
+pub fn format_option<'a>(alloc: Global) -> Arg<'a> {
+    Arg::new(alloc, "format")
+        .long("format")
+        .value_name("FORMAT")
+        .required(true)
+        .value_parser(FORMATS.as_slice())
+        .help("The kind of text: pg, a game in the text of PGSolver")
+}
+
+/// The option that names the file of a game.
+pub fn game_option<'a>(alloc: Global) -> Arg<'a> {
+    Arg::new(alloc, "game")
+        .long("game")
+        .value_name("FILE")
+        .required(true)
+        .help("The file with the game text")
+}
+
+/// The option that says whose game is solved.
+pub fn player_option<'a>(alloc: Global) -> Arg<'a> {
+    Arg::new(alloc, "player")
+        .long("player")
+        .value_name("P")
+        .help("Solve for this player alone, 0 or 1")
+}
+
+/// The option that names the node whose part is solved.
+pub fn from_option<'a>(alloc: Global) -> Arg<'a> {
+    Arg::new(alloc, "from").long("from").value_name("ID").help(
+        "Solve only the part that the node with this identifier reaches",
+    )
+}
+
+/// The option that bounds the work.
+pub fn budget_option<'a>(alloc: Global) -> Arg<'a> {
+    Arg::new(alloc, "budget")
+        .long("budget")
+        .value_name("N")
+        .help("Give up after N lifts, 0 to 1099511627776, which is also the default")
+}
