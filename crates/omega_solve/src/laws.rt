@@ -2,11 +2,11 @@
 ghost use Rattle.omega_solve.specs.Determinacy.{AnswersPartTheGame};
 ghost use Rattle.omega_solve.specs.Headline.{Headline};
 
-use omega_game::regions_cover;
 use omega_lift::{
-    answers_are_apart, choices_are_a_strategy, choices_win, regions_stay_below_top,
-    runs_are_bounded, runs_keep_tables, zero_tables_are_tables,
+    choices_are_a_strategy, choices_win, regions_stay_below_top, runs_are_bounded,
+    runs_keep_tables, won_places_are_in_regions, zero_tables_are_tables,
 };
+use omega_region::{regions_are_apart, regions_cover};
 
 /// However a budget is dealt out to the runs of a solver, it makes at most as many lifts as the bound, and budgets that
 /// together reach the bound suffice. Once it is done, its answer is exactly the player's region, with one strategy that
@@ -29,6 +29,7 @@ pub fn answers_part_the_game()
     zero_tables_are_tables();
     runs_keep_tables();
     regions_stay_below_top();
+    won_places_are_in_regions();
     regions_cover();
-    answers_are_apart();
+    regions_are_apart();
 }

@@ -5,12 +5,12 @@ use Rattle.std.proofs.lemmas.Bool.{false≢true}
 use Rattle.omega_game.specs.declared.player.Player.{Player}
 use Rattle.omega_game.specs.declared.player.Player.TheVariants.{Zero, One}
 use Rattle.omega_game.specs.Game.{Node, priorities}
-use Rattle.omega_game.specs.Laws.{RegionsCover}
 use Rattle.omega_lift.specs.Measure.{Measure}
 use Rattle.omega_lift.specs.Allowance.{measure_at}
 use Rattle.omega_lift.specs.Answer.{won_in}
-use Rattle.omega_lift.specs.Laws.{AnswersAreApart, RegionsStayBelowTop, RunsKeepTables, ZeroTablesAreTables}
+use Rattle.omega_lift.specs.Laws.{RegionsStayBelowTop, RunsKeepTables, WonPlacesAreInRegions, ZeroTablesAreTables}
 use Rattle.omega_lift.specs.Run.{IsRun, IsStable, IsTable, zero_table}
+use Rattle.omega_region.specs.Laws.{RegionsAreApart, RegionsCover}
 use Rattle.omega_solve.specs.Determinacy.{AnswersPartTheGame, IsInOne}
 use Rattle.omega_solve.specs.Solver.{State, IsFinished, IsReached}
 use Rattle.omega_solve.proofs.answers.Exactness.{entries_are, told_at}
@@ -50,8 +50,9 @@ in_one zero one v false false in_zero in_one_table b c some apart = elim some [
 ]
 
 -- each node is in exactly one answer
-pub parted : ZeroTablesAreTables → RunsKeepTables → RegionsStayBelowTop → RegionsCover → AnswersAreApart → AnswersPartTheGame
-parted zeroes keep stay cover apart nodes zero one v game zero_nodes one_nodes zero_player one_player zero_reached one_reached
+pub parted : ZeroTablesAreTables → RunsKeepTables → RegionsStayBelowTop → WonPlacesAreInRegions → RegionsCover → RegionsAreApart
+    → AnswersPartTheGame
+parted zeroes keep stay won cover apart nodes zero one v game zero_nodes one_nodes zero_player one_player zero_reached one_reached
     zero_finished one_finished lt =
     let zeros : List Measure = zero.table.measures in
     let ones : List Measure = one.table.measures in
@@ -65,4 +66,6 @@ parted zeroes keep stay cover apart nodes zero one v game zero_nodes one_nodes z
     ] in
     in_one zeros ones v (is_some (measure_at zeros v)) (is_some (measure_at ones v))
     (omega (arith, entries_are nodes Zero zeros zero_table)) (omega (arith, entries_are nodes One ones one_table)) refl refl some
-    (apart nodes zeros ones v game zero_table one_table zero_final.stable one_final.stable lt)
+    (λ zero_won one_won.
+    apart nodes v game (won nodes Zero zeros v game zero_table zero_final.stable zero_won)
+    (won nodes One ones v game one_table one_final.stable one_won))

@@ -1,5 +1,5 @@
 -- Edges into the places of a run: how often a lift makes predecessors pending.
-use Rattle.std.proofs.Common.{◌≡◌, ◌==◌, ℕ, ◌*◌, ◌^◌, ◌<◌, ◌≤◌, List, [], ◌∷◌, length, refl, sym, ap, ◌∙◌, arith, get_or, replicate, set}
+use Rattle.std.proofs.Common.{◌≡◌, ◌==◌, ℕ, ◌*◌, ◌<◌, ◌≤◌, List, [], ◌∷◌, length, refl, sym, ap, ◌∙◌, arith, get_or, replicate, set}
 use Rattle.std.specs.List.{All, sum_by, range_with_len}
 use Rattle.std.proofs.Math.Nat.{mul_comm, mul-le-mul_right}
 use Rattle.std.proofs.lemmas.Nat.{mul-le}

@@ -7,43 +7,46 @@ use std::alloc::Global;
 use std::process::Abort;
 use std::test::Fail;
 
-/// The identifier of a node, its priority and owner, and its successors, of which there is a first.
-type Node<'a> = (u32, u32, Player, u32, &'a [u32]);
+/// The identifier of a node, its priority and owner, and its one or two successors.
+type Node = (u8, u8, Player, u8, Option<u8>);
 
-const ONE_EVEN_NODE: &[Node<'static>] = &[(0, 0, Player::Zero, 0, &[])];
+const ONE_EVEN_NODE: &[Node] = &[(0, 0, Player::Zero, 0, None)];
 
-const ONE_ODD_NODE: &[Node<'static>] = &[(0, 1, Player::Zero, 0, &[])];
+const ONE_ODD_NODE: &[Node] = &[(0, 1, Player::Zero, 0, None)];
 
-const TWO_NODES: &[Node<'static>] = &[(0, 1, Player::Zero, 1, &[]), (1, 2, Player::One, 0, &[])];
+const TWO_NODES: &[Node] = &[(0, 1, Player::Zero, 1, None), (1, 2, Player::One, 0, None)];
 
 /// Node 0 has a better and a worse successor.
-const A_CHOICE: &[Node<'static>] = &[
-    (0, 0, Player::Zero, 1, &[2]),
-    (1, 1, Player::One, 0, &[]),
-    (2, 2, Player::One, 0, &[]),
+const A_CHOICE: &[Node] = &[
+    (0, 0, Player::Zero, 1, Some(2)),
+    (1, 1, Player::One, 0, None),
+    (2, 2, Player::One, 0, None),
 ];
 
 /// The node that comes first is at place 1.
-const A_GAP: &[Node<'static>] = &[(9, 3, Player::One, 4, &[]), (4, 2, Player::Zero, 9, &[4])];
+const A_GAP: &[Node] = &[
+    (9, 3, Player::One, 4, None),
+    (4, 2, Player::Zero, 9, Some(4)),
+];
 
 /// For player 0, node 0 is lifted to (0, 1), (1, 0) and (1, 1), and node 1 to (1, 0).
-const A_CARRY: &[Node<'static>] = &[
-    (0, 1, Player::Zero, 0, &[1]),
-    (1, 3, Player::Zero, 2, &[]),
-    (2, 4, Player::Zero, 2, &[]),
+const A_CARRY: &[Node] = &[
+    (0, 1, Player::Zero, 0, Some(1)),
+    (1, 3, Player::Zero, 2, None),
+    (2, 4, Player::Zero, 2, None),
 ];
 
 /// For player 0 the measure of node 1 is above that of node 2, but the allowances of node 0 towards them are equal, since
 /// its priority is above that of node 1.
-const EQUAL_ALLOWANCES: &[Node<'static>] = &[
-    (0, 2, Player::Zero, 1, &[2]),
-    (1, 1, Player::Zero, 0, &[]),
-    (2, 2, Player::One, 0, &[]),
+const EQUAL_ALLOWANCES: &[Node] = &[
+    (0, 2, Player::Zero, 1, Some(2)),
+    (1, 1, Player::Zero, 0, None),
+    (2, 2, Player::One, 0, None),
 ];
 
 /// A game and a player; the bound, the number of lifts (none where it depends on the schedule) and the most attempts; and
 /// the answer: for each place `-` where the player does not win, the place chosen, or `.` where there is no choice.
-type Row<'a> = (&'a [Node<'a>], Player, u128, Option<u64>, u64, &'a [u8]);
+type Row<'a> = (&'a [Node], Player, u128, Option<u64>, u64, &'a [u8]);
 
 const ROWS: [Row<'static>; 14] = [
     (ONE_EVEN_NODE, Player::Zero, 1, Some(0), 2, b"0"),
@@ -62,14 +65,16 @@ const ROWS: [Row<'static>; 14] = [
     (EQUAL_ALLOWANCES, Player::One, 9, None, 15, b"---"),
 ];
 
-fn game_of(alloc: Global, nodes: &[Node<'_>]) -> Result<Game, Refusal> {
+fn game_of<R: Abort>(rt: &R, alloc: Global, nodes: &[Node]) -> Result<Game, Refusal> {
     let mut builder = GameBuilder::new(alloc);
-    for (identifier, priority, owner, first, others) in nodes {
-        builder.add_node(*identifier, *priority, *owner, *first)?;
-        for other in *others {
-            builder.add_successor(*other)?;
+    for (identifier, priority, owner, first, second) in nodes {
+        let (identifier, priority) = (u32::from(*identifier), u32::from(*priority));
+        builder.add_node(identifier, priority, *owner, u32::from(*first))?;
+        if let Some(second) = second {
+            builder.add_successor(u32::from(*second))?;
         }
     }
+    assert!(rt; builder.len() > 0);
     builder.finish()
 }
 
@@ -177,7 +182,7 @@ fn solves<T: MeasureTable, S: Schedule, R: Abort>(
     row: &Row<'_>,
 ) -> Result<(), Refusal> {
     let (nodes, player, most, ..) = *row;
-    let game = game_of(alloc, nodes)?;
+    let game = game_of(rt, alloc, nodes)?;
     assert_eq!(rt; bound(&game, player), Some(most));
     let needed = whole::<T, S, R>(rt, alloc, &game, row)?;
     for budget in 0..=needed {
