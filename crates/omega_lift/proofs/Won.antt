@@ -5,10 +5,10 @@ use Rattle.std.proofs.lemmas.Bool.{cases_lt}
 use Rattle.std.proofs.lemmas.List.{length-map}
 use Rattle.omega_game.specs.declared.player.Player.{Player}
 use Rattle.omega_game.specs.Game.{Node, IsGame, owner_at, priority_at, priorities, successors_at}
-use Rattle.omega_game.specs.Winning.{Chooses, InRegion}
+use Rattle.omega_game.specs.Winning.{Chooses}
 use Rattle.omega_lift.specs.Measure.{Measure, IsAbove, IsAtMost}
 use Rattle.omega_lift.specs.Allowance.{IsAllowanceOf, measure_at}
-use Rattle.omega_lift.specs.Run.{IsStable, IsTable}
+use Rattle.omega_lift.specs.Run.{IsTable}
 use Rattle.omega_lift.specs.Answer.{AreChoices, IsFirstLeast}
 use Rattle.omega_lift.specs.Laws.{WonPlacesAreInRegions}
 use Rattle.omega_lift.proofs.BestPlaces.{IsFirstLeastPlace, first_least_place}

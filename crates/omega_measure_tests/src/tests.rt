@@ -58,7 +58,7 @@ fn lift<T: MeasureTable>(table: &mut T, places: u32, v: u32, w: u32) -> bool
 }
 
 /// A place and the one towards which it is lifted, and whether that is due; then another place and a priority, and how
-/// the first compares with it there; and whether the first is at top.
+/// the first compares with it there; and whether the first is then at top.
 type Step = ((u32, u32), bool, (u32, u32), Ordering, bool);
 
 /// Takes a table over so many places through the steps.
@@ -76,8 +76,6 @@ fn follow<T: MeasureTable, R: Abort>(rt: &R, table: &mut T, places: u32, steps: 
 // For player 0 a measure over these priorities has an entry for 3 and one for 1, each at most 1, and for player 1 one
 // for 4, at most 1.
 const EXAMPLE: [u16; 3] = [1, 3, 4];
-
-// Each table of steps is handed out by a function of its own: a literal costs where it stands, with each statement.
 
 /// Entries of (3, 1), by hand. The allowance of node 0 (priority 1, which loses) towards itself goes through (0, 1),
 /// (1, 0), (1, 1) and top; that of node 1 (priority 3) towards node 2 is (1, 0); node 2 (priority 4) has none to raise.
@@ -128,26 +126,43 @@ fn lifts_over_words() -> &'static [Step] {
     ]
 }
 
-/// Takes a new table of a player through the steps.
+/// Takes a new table of a player over a game through the steps.
+// The game is owned here alone: a function that holds a game over many calls is slow to prove.
 fn lifts_by_hand<T: MeasureTable, R: Abort>(
     rt: &R,
     alloc: Global,
-    game: &Game,
+    game: Game,
     player: Player,
     steps: &[Step],
 ) -> Result<(), Refusal> {
-    let (mut table, places): (T, u32) = prepared(alloc, game, player)?;
+    let (mut table, places): (T, u32) = prepared(alloc, &game, player)?;
     follow(rt, &mut table, places, steps);
     Ok(())
 }
 
 /// Takes new tables of both players through their steps.
 fn all_lifts<T: MeasureTable, R: Abort>(rt: &R, alloc: Global) -> Result<(), Refusal> {
-    let game = game_of(alloc, &EXAMPLE)?;
-    lifts_by_hand::<T, R>(rt, alloc, &game, Player::Zero, lifts_of_zero())?;
-    lifts_by_hand::<T, R>(rt, alloc, &game, Player::One, lifts_of_one())?;
-    let wide = odd_game(alloc, 64, 63)?;
-    lifts_by_hand::<T, R>(rt, alloc, &wide, Player::Zero, lifts_over_words())
+    lifts_by_hand::<T, R>(
+        rt,
+        alloc,
+        game_of(alloc, &EXAMPLE)?,
+        Player::Zero,
+        lifts_of_zero(),
+    )?;
+    lifts_by_hand::<T, R>(
+        rt,
+        alloc,
+        game_of(alloc, &EXAMPLE)?,
+        Player::One,
+        lifts_of_one(),
+    )?;
+    lifts_by_hand::<T, R>(
+        rt,
+        alloc,
+        odd_game(alloc, 64, 63)?,
+        Player::Zero,
+        lifts_over_words(),
+    )
 }
 
 #[test]
@@ -162,20 +177,36 @@ fn packed_lifts(rt: HostRuntime) -> Result<(), Fail> {
     Ok(())
 }
 
-/// Why there is no table.
-fn refusal_of<T: MeasureTable>(alloc: Global, game: &Game, player: Player) -> Option<Refusal> {
-    T::prepare(alloc, game, player).err()
+/// Why there is no table of a player over an odd game; none where there is one.
+fn refusal_of<T: MeasureTable>(
+    alloc: Global,
+    nodes: u16,
+    most: u16,
+    player: Player,
+) -> Result<Option<Refusal>, Refusal> {
+    let game = odd_game(alloc, nodes, most)?;
+    Ok(T::prepare(alloc, &game, player).err())
 }
 
 // 8,192 times 8,192 is the limit, and 8,321 times 8,065 one more.
 #[test]
 fn too_wide_by_one(rt: HostRuntime) -> Result<(), Fail> {
-    let widest = odd_game(rt.alloc(), 8192, 8191)?;
-    assert_eq!(rt; refusal_of::<PackedTable>(rt.alloc(), &widest, Player::Zero), None);
-    let game = odd_game(rt.alloc(), 8321, 8064)?;
     let wide = Some(Refusal::Task(TaskFault::TooWide));
-    assert_eq!(rt; refusal_of::<PlainTable>(rt.alloc(), &game, Player::Zero), wide);
-    assert_eq!(rt; refusal_of::<PackedTable>(rt.alloc(), &game, Player::Zero), wide);
-    assert_eq!(rt; refusal_of::<PlainTable>(rt.alloc(), &game, Player::One), None);
+    assert_eq!(rt;
+        refusal_of::<PackedTable>(rt.alloc(), 8192, 8191, Player::Zero)?,
+        None
+    );
+    assert_eq!(rt;
+        refusal_of::<PlainTable>(rt.alloc(), 8321, 8064, Player::Zero)?,
+        wide
+    );
+    assert_eq!(rt;
+        refusal_of::<PackedTable>(rt.alloc(), 8321, 8064, Player::Zero)?,
+        wide
+    );
+    assert_eq!(rt;
+        refusal_of::<PlainTable>(rt.alloc(), 8321, 8064, Player::One)?,
+        None
+    );
     Ok(())
 }

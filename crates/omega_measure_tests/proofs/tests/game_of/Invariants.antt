@@ -1,5 +1,5 @@
 -- The builder has a node for each place so far.
-use Rattle.std.proofs.Common.{◌≡◌, ◌<◌, length}
+use Rattle.std.proofs.Common.{◌<◌, length}
 use Rattle.omega_measure_tests.proofs.tests.game_of.Given as goal
 
 abbrev pub invariant-loop-place : goal.invariant-loop-place
