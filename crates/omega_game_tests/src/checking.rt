@@ -172,22 +172,22 @@ fn without_a_choice(alloc: Global, game: &Game) -> Result<(bool, bool), Refusal>
     Ok((zero, one))
 }
 
+/// Asserts who wins where the last node of a line, or of a cycle, has the greatest priority.
+fn assert_line(rt: &impl Abort, alloc: Global, nodes: u16, back: u16) -> Result<(), Refusal> {
+    let odd = line(alloc, nodes, 1, back)?;
+    let wins = without_a_choice(alloc, &odd)?;
+    assert_eq!(rt; wins, (false, true), "{nodes} nodes, back to {back}");
+    let even = line(alloc, nodes, 2, back)?;
+    let wins = without_a_choice(alloc, &even)?;
+    assert_eq!(rt; wins, (true, false), "{nodes} nodes, back to {back}");
+    Ok(())
+}
+
 #[test]
 fn the_greatest_of_a_line_or_a_cycle_decides(rt: HostRuntime) -> Result<(), Fail> {
     for nodes in 2..12 {
-        for back in [0, nodes - 1] {
-            let odd = line(rt.alloc(), nodes, 1, back)?;
-            let even = line(rt.alloc(), nodes, 2, back)?;
-            let answers = (
-                without_a_choice(rt.alloc(), &odd)?,
-                without_a_choice(rt.alloc(), &even)?,
-            );
-            assert_eq!(rt;
-                answers,
-                ((false, true), (true, false)),
-                "{nodes} nodes, back to {back}"
-            );
-        }
+        assert_line(&rt, rt.alloc(), nodes, nodes - 1)?;
+        assert_line(&rt, rt.alloc(), nodes, 0)?;
     }
     Ok(())
 }

@@ -5,6 +5,7 @@ use crate::samples::{finish, list};
 use omega_game::Player::{One, Zero};
 use omega_game::{Game, GameBuilder, Player, Refusal, Seq, Strategy, check_strategy_fast};
 use std::alloc::Global;
+use std::process::Abort;
 use std::test::Fail;
 
 /// What the fast search alone answers for all places and the strategy without a choice, or Io where it does not fit.
@@ -63,26 +64,35 @@ fn random(alloc: Global, nodes: u16, most: u16, tame: bool, seed: u64) -> Result
     finish(builder)
 }
 
-/// Random games: how many, of so many nodes at most, with priorities below this.
-const RANDOM: [(u16, u16, u16); 3] = [(400, 24, 8), (4, 10_000, 8), (4, 10_000, 2000)];
+/// Asserts that what the fast search suggests is confirmed on random games of so many nodes, by their seeds.
+fn assert_confirmed(
+    rt: &impl Abort,
+    alloc: Global,
+    nodes: u16,
+    most: u16,
+    seed: u16,
+) -> Result<(), Refusal> {
+    let game = random(alloc, nodes, most, seed % 2 == 0, u64::from(seed))?;
+    for player in [Zero, One] {
+        let found = answer(alloc, &game, player)?;
+        assert!(rt; found.is_some(), "{player:?}, {nodes} nodes, seed {seed}");
+    }
+    Ok(())
+}
 
 #[test]
-fn random_games_are_confirmed(rt: HostRuntime) -> Result<(), Fail> {
-    for (games, most_nodes, most) in RANDOM {
-        for seed in 0..games {
-            let nodes = if most_nodes < 100 {
-                1 + seed % most_nodes
-            } else {
-                most_nodes
-            };
-            let game = random(rt.alloc(), nodes, most, seed % 2 == 0, u64::from(seed))?;
-            for player in [Zero, One] {
-                assert!(rt;
-                    answer(rt.alloc(), &game, player)?.is_some(),
-                    "{player:?}, {nodes} nodes, seed {seed}"
-                );
-            }
-        }
+fn small_random_games_are_confirmed(rt: HostRuntime) -> Result<(), Fail> {
+    for seed in 0..400 {
+        assert_confirmed(&rt, rt.alloc(), 1 + seed % 24, 8, seed)?;
+    }
+    Ok(())
+}
+
+#[test]
+fn large_random_games_are_confirmed(rt: HostRuntime) -> Result<(), Fail> {
+    for seed in 0..4 {
+        assert_confirmed(&rt, rt.alloc(), 10_000, 8, seed)?;
+        assert_confirmed(&rt, rt.alloc(), 10_000, 2000, seed)?;
     }
     Ok(())
 }
