@@ -5,7 +5,9 @@ ghost use Rattle.omega_pg.specs.game.Laws.{CanonicalTextsAreRead, GamesAreNotRef
 ghost use Rattle.omega_text.specs.Syntax.{SyntaxFaultsAreFirst};
 
 use crate::game::syntax::GameSyntax;
-use omega_game::{games_exist, games_have_no_fault, games_keep_limits, specifications_have_one_game};
+use omega_game::{
+    games_exist, games_have_no_fault, games_keep_limits, specifications_have_one_game,
+};
 use omega_text::PgKind;
 use omega_text::laws::{
     cuts_are_one, text_faults_are_one, texts_are_read_or_faulty, texts_have_no_fault,

@@ -22,7 +22,9 @@ pub fn read_solution(alloc: Global, game: &Game, bytes: &[u8]) -> Result<Solutio
     ensures refused { IfErr result (IsReadSolutionRefusal game.now bytes.now) }
 {
     let Reader {
-        greatest, lines, ..
+        greatest,
+        lines,
+        ..
     } = read_text::<PgKind, Reader>(Reader::new(alloc, game), bytes)?;
     lines.finish(game, greatest)
 }

@@ -1,6 +1,5 @@
 use super::told;
 use omega_pg::{Refusal, read_game, write_game};
-use omega_text::MOST_TEXT;
 use std::alloc::Global;
 use std::test::*;
 
@@ -72,7 +71,10 @@ fn canon(alloc: Global, text: &[u8]) -> Result<Vec<u8>, Refusal> {
 
 /// How a game text is refused, if it is.
 fn refused(alloc: Global, text: &[u8]) -> Option<(u32, Option<usize>)> {
-    read_game(alloc, text).err().map(told)
+    match read_game(alloc, text) {
+        Ok(_game) => None,
+        Err(refusal) => Some(told(refusal)),
+    }
 }
 
 #[test]
@@ -94,11 +96,4 @@ fn other_game_texts_are_refused(rt: HostRuntime) {
             "{text}"
         );
     }
-}
-
-#[test]
-fn texts_above_the_limit_are_refused(rt: HostRuntime) -> Result<(), Fail> {
-    let long = vec![in rt.alloc(); b'$'; MOST_TEXT + 1]?;
-    assert_eq!(rt; refused(rt.alloc(), &long), Some((4, None)));
-    Ok(())
 }

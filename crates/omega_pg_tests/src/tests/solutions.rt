@@ -1,5 +1,5 @@
 use super::told;
-use omega_pg::{Player, Refusal, read_game, read_solution, write_solution};
+use omega_pg::{Player, Refusal, Solution, read_game, read_solution, write_solution};
 use std::alloc::Global;
 use std::test::*;
 
@@ -83,6 +83,20 @@ fn rewritten(alloc: Global, game: &str, text: &str) -> Result<Vec<u8>, Refusal> 
     write_solution(alloc, &game, &solution)
 }
 
+/// The solution of `GAME` that a text stands for.
+fn solution_of_game(alloc: Global, text: &str) -> Result<Solution, Refusal> {
+    let game = read_game(alloc, GAME.as_bytes())?;
+    read_solution(alloc, &game, text.as_bytes())
+}
+
+/// How a text of a solution of `GAME` is refused, if it is.
+fn refused(alloc: Global, text: &str) -> Option<(u32, Option<usize>)> {
+    match solution_of_game(alloc, text) {
+        Ok(_solution) => None,
+        Err(refusal) => Some(told(refusal)),
+    }
+}
+
 #[test]
 fn solutions_are_read_and_written(rt: HostRuntime) {
     for (game, text, want) in SOLUTIONS.iter() {
@@ -94,20 +108,23 @@ fn solutions_are_read_and_written(rt: HostRuntime) {
 }
 
 #[test]
-fn winners_and_choices_stand_by_place(rt: HostRuntime) -> Result<(), Fail> {
-    let game = read_game(rt.alloc(), GAME.as_bytes())?;
-    let solution = read_solution(rt.alloc(), &game, b"paritysol 9; 4 0 9; 9 1 4;")?;
-    assert_eq!(rt; solution.winners.as_slice(), [Player::Zero, Player::One].as_slice());
-    assert_eq!(rt; solution.zero.choice.as_slice(), [Some(1), None].as_slice());
-    assert_eq!(rt; solution.one.choice.as_slice(), [None, Some(0)].as_slice());
-    Ok(())
+fn winners_and_choices_stand_by_place(rt: HostRuntime) {
+    match solution_of_game(rt.alloc(), "paritysol 9; 4 0 9; 9 1 4;") {
+        Ok(solution) => {
+            let winners = [Player::Zero, Player::One];
+            assert_eq!(rt; solution.winners.as_slice(), winners.as_slice());
+            assert_eq!(rt; solution.zero.choice.as_slice(), [Some(1), None].as_slice());
+            assert_eq!(rt; solution.one.choice.as_slice(), [None, Some(0)].as_slice());
+        }
+        Err(refusal) => assert!(rt; false, "{refusal:?}"),
+    }
 }
 
 #[test]
 fn other_solution_texts_are_refused(rt: HostRuntime) {
     for (text, number, place) in REFUSED.iter() {
         assert_eq!(rt;
-            rewritten(rt.alloc(), GAME, text).err().map(told),
+            refused(rt.alloc(), text),
             Some((*number, *place)),
             "{text}"
         );
