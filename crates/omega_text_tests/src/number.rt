@@ -2,18 +2,6 @@ use omega_text::write_number;
 use std::test::Fail;
 
 #[test]
-fn numbers_are_written(rt: HostRuntime) -> Result<(), Fail> {
-    let mut out = Vec::new(rt.alloc());
-    for n in [0, 9, 10, 18_446_744_073_709_551_616, u128::MAX] {
-        write_number(n, &mut out)?;
-        out.push(b' ')?;
-    }
-    let want = b"0 9 10 18446744073709551616 340282366920938463463374607431768211455 ";
-    assert_eq!(rt; out.as_slice(), want.as_slice());
-    Ok(())
-}
-
-#[test]
 fn numbers_of_each_length_are_written(rt: HostRuntime) -> Result<(), Fail> {
     let mut power = Some(1u128);
     let mut digits = vec![in rt.alloc(); b'1']?;
@@ -25,6 +13,12 @@ fn numbers_of_each_length_are_written(rt: HostRuntime) -> Result<(), Fail> {
         digits.push(b'0')?;
         power = n.checked_mul(10);
     }
-    assert_eq!(rt; power, None);
+    let mut out = vec![in rt.alloc(); b'<']?;
+    write_number(0, &mut out)?;
+    write_number(u128::MAX, &mut out)?;
+    assert_eq!(rt;
+        out.as_slice(),
+        b"<0340282366920938463463374607431768211455".as_slice()
+    );
     Ok(())
 }

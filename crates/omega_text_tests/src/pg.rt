@@ -45,62 +45,48 @@ fn a_game_text_is_cut(rt: HostRuntime) -> Result<(), Fail> {
     Ok(())
 }
 
-const CUT: [(&str, usize); 9] = [
-    ("", 0),
-    (" \t\n\r", 0),
-    ("12 34", 2),
-    ("1,2;3", 5),
-    ("paritysol 0;", 3),
-    ("0parity", 2),
-    ("2147483647 0", 2),
-    ("\"\"\" ~!\"", 2),
-    ("\"a;00 $b\"", 1),
+// How many tokens texts have, or the number and the place of their refusal.
+const TEXTS: [(&str, Result<usize, (u32, Option<usize>)>); 31] = [
+    ("", Ok(0)),
+    (" \t\n\r", Ok(0)),
+    ("12 34", Ok(2)),
+    ("1,2;3", Ok(5)),
+    ("paritysol 0;", Ok(3)),
+    ("0parity", Ok(2)),
+    ("2147483647 0", Ok(2)),
+    ("\"\"\" ~!\"", Ok(2)),
+    ("\"a;00 $b\"", Ok(1)),
+    ("00 0 0 0;", Err((2, Some(0)))),
+    ("0 0 0 1; $", Err((1, Some(9)))),
+    ("2147483648 0 0 0;", Err((2, Some(0)))),
+    ("0 01", Err((2, Some(2)))),
+    (
+        "1 99999999999999999999999999999999999999999",
+        Err((2, Some(2))),
+    ),
+    ("parit", Err((1, Some(0)))),
+    ("; parity9 00", Err((1, Some(2)))),
+    ("parity-sol", Err((1, Some(0)))),
+    ("start 0;", Err((1, Some(0)))),
+    ("Parity", Err((1, Some(0)))),
+    ("_", Err((1, Some(0)))),
+    ("-1", Err((1, Some(0)))),
+    ("0\x0C1", Err((1, Some(1)))),
+    ("0 \"", Err((1, Some(2)))),
+    ("0 \"a;", Err((1, Some(2)))),
+    ("\"\x1F\"", Err((1, Some(0)))),
+    ("\"\x7F\"", Err((1, Some(0)))),
+    ("\"a\nb\"", Err((1, Some(0)))),
+    ("\"\" \"", Err((1, Some(3)))),
+    ("// 0", Err((1, Some(0)))),
+    ("$ 00", Err((1, Some(0)))),
+    ("00 $", Err((2, Some(0)))),
 ];
 
 #[test]
-fn tokens_are_the_longest(rt: HostRuntime) {
-    for (text, count) in CUT.iter() {
-        assert_eq!(rt;
-            answer(rt.alloc(), text.as_bytes()),
-            Ok(*count),
-            "for {text:?}"
-        );
-    }
-}
-
-const REFUSED: [(&str, u32, usize); 22] = [
-    ("00 0 0 0;", 2, 0),
-    ("0 0 0 1; $", 1, 9),
-    ("2147483648 0 0 0;", 2, 0),
-    ("0 01", 2, 2),
-    ("1 99999999999999999999999999999999999999999", 2, 2),
-    ("parit", 1, 0),
-    ("; parity9 00", 1, 2),
-    ("parity-sol", 1, 0),
-    ("start 0;", 1, 0),
-    ("Parity", 1, 0),
-    ("_", 1, 0),
-    ("-1", 1, 0),
-    ("0\x0C1", 1, 1),
-    ("0 \"", 1, 2),
-    ("0 \"a;", 1, 2),
-    ("\"\x1F\"", 1, 0),
-    ("\"\x7F\"", 1, 0),
-    ("\"a\nb\"", 1, 0),
-    ("\"\" \"", 1, 3),
-    ("// 0", 1, 0),
-    ("$ 00", 1, 0),
-    ("00 $", 2, 0),
-];
-
-#[test]
-fn wrong_texts_are_refused(rt: HostRuntime) {
-    for (text, number, at) in REFUSED.iter() {
-        assert_eq!(rt;
-            answer(rt.alloc(), text.as_bytes()),
-            Err((*number, Some(*at))),
-            "for {text:?}"
-        );
+fn texts_are_cut_into_longest_tokens_or_refused(rt: HostRuntime) {
+    for (text, want) in TEXTS.iter() {
+        assert_eq!(rt; answer(rt.alloc(), text.as_bytes()), *want, "for {text:?}");
     }
 }
 
