@@ -1,5 +1,5 @@
 -- `solve_one`: what was found for the player is a right answer, and what was refused is a fault of the game.
-use Rattle.std.proofs.Common.{◌≡◌, Some, None, refl, ap, rules}
+use Rattle.std.proofs.Common.{Some, None, refl, rules}
 use Rattle.std.proofs.lemmas.Result.{IfOk-weaker}
 use Rattle.omega_solve.specs.Within.{IsFound}
 use Rattle.omega_tool.specs.steps.GameRefusal.{IsGameRefusal}
