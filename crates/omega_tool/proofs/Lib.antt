@@ -1,3 +1,4 @@
+-- Lemmas by theme.
 pub mod Named
 pub mod Obeying
 pub mod Places

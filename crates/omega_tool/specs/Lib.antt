@@ -1,3 +1,4 @@
+-- What contracts of the program cite: the command line, what is obeyed, answered and written; in `steps` what private ones cite.
 pub mod CommandLine
 pub mod Exit
 pub mod Line

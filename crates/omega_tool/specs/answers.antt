@@ -1,3 +1,4 @@
+-- What each command answers.
 pub mod PlayerText
 pub mod Verify
 pub mod canon

@@ -1,3 +1,4 @@
+-- What stands between a text and its answer: cited by private contracts alone.
 pub mod GameRefusal
 pub mod Places
 pub mod Verdict

@@ -1,1 +1,2 @@
+-- What `canon` answers, format by format.
 pub mod Pg

@@ -1,1 +1,2 @@
+-- What `check` answers, format by format.
 pub mod Pg

@@ -1,1 +1,2 @@
+-- What `show` answers, format by format.
 pub mod Pg

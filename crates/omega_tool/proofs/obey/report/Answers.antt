@@ -1,4 +1,4 @@
--- A refusal for whose line there is no memory is told as want of memory.
+-- `report`: a refusal for whose line there is no memory is told as want of memory.
 use Rattle.std.proofs.Common.{◌≡◌, inr, rules}
 use Rattle.omega_text.specs.declared.refusal.Refusal.TheVariants.{Memory}
 use Rattle.omega_tool.proofs.Obeying.{memory-line}

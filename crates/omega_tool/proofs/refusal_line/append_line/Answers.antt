@@ -1,3 +1,4 @@
+-- `append_line`: what stood before stays in front.
 use Rattle.std.proofs.Common.{◌++◌, append_assoc, codes, decimal, rules}
 use Rattle.std.proofs.Transfers.{starts_with_of_append, starts_with_trans}
 use Rattle.omega_text.specs.Refusal.{name_of, number_of}

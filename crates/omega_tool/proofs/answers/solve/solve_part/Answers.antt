@@ -1,3 +1,4 @@
+-- `solve_part`: what is answered or refused for the part is that for its node.
 use Rattle.std.proofs.Common.{sym}
 use Rattle.std.proofs.lemmas.Result.{IfErr-weaker, IfOk-weaker}
 use Rattle.omega_tool.proofs.Named.{named-nowhere, named-place}

@@ -1,3 +1,4 @@
+-- `given_to`: the places before this one are listed.
 use Rattle.std.proofs.Common.{◌≡◌, ◌++◌, drop, map}
 use Rattle.omega_tool.specs.steps.Places.{places_from}
 use Rattle.omega_tool.specs.steps.Verdict.{given_to, is_given}

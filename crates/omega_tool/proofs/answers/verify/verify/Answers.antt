@@ -1,3 +1,4 @@
+-- `verify`: the verdict is as the choices win.
 use Rattle.std.proofs.Common.{inl}
 use Rattle.std.proofs.lemmas.Result.{IfErr-weaker, IfOk-weaker}
 use Rattle.omega_tool.proofs.Verifying.{verdict-answers}

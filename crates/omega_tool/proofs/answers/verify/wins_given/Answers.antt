@@ -1,3 +1,4 @@
+-- `wins_given`: winning from the places given to a player is winning from the nodes given to that player.
 use Rattle.std.proofs.Common.{◌≡◌, ap, ◌∙◌}
 use Rattle.std.proofs.lemmas.Result.{IfOk-weaker}
 use Rattle.omega_tool.specs.steps.Verdict.{given_to}

@@ -1,3 +1,4 @@
+-- `read_all`: what was read so far is the text, within the limit.
 use Rattle.std.proofs.Common.{◌≡◌, ◌+◌, ◌-◌, ◌≤◌, vec_len}
 use Rattle.std.specs.Io.KnownBytes.{Consumes}
 use Rattle.omega_text.specs.Limits.{most_text}

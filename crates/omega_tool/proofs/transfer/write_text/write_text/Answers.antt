@@ -1,3 +1,4 @@
+-- `write_text`: a write goes on with the rest.
 use Rattle.std.proofs.Common.{arith}
 use Rattle.std.proofs.lemmas.List.{take_rest}
 use Rattle.omega_tool.proofs.Transfers.{IsWriting-goes_on}

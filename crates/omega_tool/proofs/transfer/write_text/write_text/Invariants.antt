@@ -1,3 +1,4 @@
+-- `write_text`: what is left is the rest of the text.
 use Rattle.std.proofs.Common.{◌≡◌, length}
 use Rattle.omega_tool.proofs.Transfers.{IsWriting}
 use Rattle.omega_tool.proofs.transfer.write_text.write_text.Given as goal

@@ -1,3 +1,4 @@
+-- `write_answer`: a choice is a node.
 use Rattle.std.proofs.Common.{◌<◌, length, arith}
 use Rattle.omega_tool.proofs.Places.{choice-within, slice_get-true}
 use Rattle.omega_tool.proofs.answers.solve.answer_text.write_answer.Goals as goal

@@ -1,3 +1,4 @@
+-- `write_answer`: the lines of the places before this one are written.
 use Rattle.std.proofs.Common.{◌≡◌, ◌++◌, drop}
 use Rattle.std.specs.List.{flat_map}
 use Rattle.omega_tool.specs.answers.solve.AnswerText.{answer_text, won_line}

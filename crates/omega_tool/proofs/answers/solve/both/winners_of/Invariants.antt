@@ -1,3 +1,4 @@
+-- `winners_of`: the winners before this place are listed.
 use Rattle.std.proofs.Common.{◌≡◌, take}
 use Rattle.omega_tool.specs.steps.Winners.{winners_of}
 use Rattle.omega_tool.proofs.answers.solve.both.winners_of.Given as goal
