@@ -5,7 +5,7 @@ use Rattle.omega_game.specs.Game.{Node, IsGame, owner_at, priorities}
 use Rattle.omega_game.specs.Bound.{bound_of}
 use Rattle.omega_game.specs.Winning.{Chooses, InRegion, IsStrategy, Wins}
 use Rattle.omega_lift.specs.Answer.{AreChoices, won_in}
-use Rattle.omega_solve.specs.Solver.{State, IsFinished, IsReached, IsUnfinished, LiftsWithin, start_of}
+use Rattle.omega_solve.specs.Solver.{State, IsFinished, IsReached, HasLiftDue, LiftsWithin, start_of}
 
 -- a call of `run`: the game and the player stay, and lifts are made within the budget. It is done and no lift is due, or
 -- the whole budget was used up and a lift is due
@@ -14,7 +14,7 @@ pub record Runs (old : State) (budget : ℕ) (new : State) : Type 0 where
   pub same_player : new.player ≡ old.player
   pub lifted : LiftsWithin old budget new
   pub done : new.done ≡ true → IsFinished new
-  pub spent : new.done ≡ false → (new.lifts ≡ old.lifts + budget) × IsUnfinished new
+  pub spent : new.done ≡ false → (new.lifts ≡ old.lifts + budget) × HasLiftDue new
 
 -- a budget is dealt out: calls of `run`, one with each of the budgets, lead from one state to another
 abbrev pub DealsOut : State → List ℕ → State → Type 0

@@ -50,8 +50,8 @@ abbrev pub IsFinished : State → Type 0
 IsFinished state = IsStable state.nodes state.player state.table.measures
 
 -- a lift is due in the solver's table
-abbrev pub IsUnfinished : State → Type 0
-IsUnfinished state = (place : ℕ) × IsDue state.nodes state.player state.table.measures place
+abbrev pub HasLiftDue : State → Type 0
+HasLiftDue state = (place : ℕ) × IsDue state.nodes state.player state.table.measures place
 
 -- the most lifts of a solver: the bound of its game for its player
 abbrev pub lift_bound : State → ℕ

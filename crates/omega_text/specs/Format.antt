@@ -25,7 +25,7 @@ IsLexical (Syntax at) = ⊥
 IsLexical TooLong = ⊥
 
 -- a text goes on from each place in one way: with one token, with one fault, or with nothing more
-pub record IsExact {Kind : Type 0} (format : Format Kind) : Type 0 where
+pub record GoesOneWay {Kind : Type 0} (format : Format Kind) : Type 0 where
   pub behind : (source : List ℕ) (from : ℕ) (lexeme : Lexeme Kind) → format.follows source from lexeme → IsPartBehind source from lexeme.span
   pub lexical : (source : List ℕ) (from : ℕ) (fault : TextFault) → format.faults source from fault → IsLexical fault
   pub one_token : (source : List ℕ) (from : ℕ) (one other : Lexeme Kind) → format.follows source from one → format.follows source from other → one ≡ other

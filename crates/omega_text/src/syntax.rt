@@ -1,6 +1,6 @@
 /// A syntax of texts, which stands for its definition where laws are stated of it.
 pub trait TextSyntax {
-    ghost use Rattle.omega_text.specs.Format.{IsExact};
+    ghost use Rattle.omega_text.specs.Format.{GoesOneWay};
     ghost use Rattle.omega_text.specs.Syntax.{Syntax};
 
     /// What tokens are.
@@ -17,5 +17,5 @@ pub trait TextSyntax {
 
     /// From each place a text goes on in one way: a law, which that of the kinds of tokens states.
     fn goes_on_one_way()
-        ensures { IsExact syntax.format };
+        ensures { GoesOneWay syntax.format };
 }

@@ -4,7 +4,7 @@ use crate::token::Token;
 /// The kinds of a format's tokens, by which its texts are cut.
 pub trait TokenKind: Copy {
     ghost use Rattle.std.specs.Prelude.{length, ◌≤◌, IfErr, IfOk, IfNone, IfSome};
-    ghost use Rattle.omega_text.specs.Format.{Format, IsExact, IsLexical, IsPartBehind};
+    ghost use Rattle.omega_text.specs.Format.{Format, GoesOneWay, IsLexical, IsPartBehind};
     ghost use Rattle.omega_text.specs.Lexeme.{lexeme_of};
 
     /// How texts of the format go on from each place.
@@ -21,5 +21,5 @@ pub trait TokenKind: Copy {
 
     /// From each place a text goes on in one way: a law, which its proof states.
     fn goes_on_one_way()
-        ensures { IsExact format };
+        ensures { GoesOneWay format };
 }

@@ -10,7 +10,7 @@ use Rattle.omega_game.specs.Bound.{bearers, bound_of, losing_priorities, product
 use Rattle.omega_lift.specs.Measure.{Measure}
 use Rattle.omega_lift.specs.Run.{IsDue, IsRun, zero_table}
 use Rattle.omega_lift.specs.Laws.{RunsAreBounded}
-use Rattle.omega_solve.specs.Solver.{State, IsFinished, IsReached, IsUnfinished, LiftsWithin, start_of}
+use Rattle.omega_solve.specs.Solver.{State, IsFinished, IsReached, HasLiftDue, LiftsWithin, start_of}
 use Rattle.omega_solve.specs.Headline.{DealsOut, Runs}
 use Rattle.omega_solve.proofs.lifting.Edges.{edge_leaves}
 use Rattle.omega_solve.proofs.lifting.Lifting.{run_more}
@@ -40,7 +40,7 @@ call_done old state new made budget same_nodes same_player lifts within finished
 -- a call that ends with a lift due used up the whole budget
 pub call_spent : (old new : State) (made budget : ℕ)
     → new.nodes ≡ old.nodes → new.player ≡ old.player → LiftsWithin old made new → new.lifts ≡ old.lifts + made → made ≡ budget
-    → new.done ≡ false → IsUnfinished new → Runs old budget new
+    → new.done ≡ false → HasLiftDue new → Runs old budget new
 call_spent old new made budget same_nodes same_player lifts counted used goes_on due = record {
   same_nodes = same_nodes;
   same_player = same_player;
@@ -141,14 +141,14 @@ deals_stay old new (budget ∷ budgets) done finished dealt =
 -- calls that are not done used up all their budgets, and leave a lift due
 pub record UsesUp (old : State) (budgets : List ℕ) (new : State) : Type 0 where
   pub used : new.lifts ≡ old.lifts + sum budgets
-  pub due : 0 < length budgets → IsUnfinished new
+  pub due : 0 < length budgets → HasLiftDue new
 
 -- a call that is not done uses up its budget before them
 uses_more : (old next new : State) (budget : ℕ) (budgets : List ℕ) → next.done ≡ false → Runs old budget next
     → DealsOut next budgets new → UsesUp next budgets new → UsesUp old (budget ∷ budgets) new
 uses_more old next new budget [] goes_on call same so_far = record {
   used = omega (arith, so_far.used, (call.spent goes_on).0, sum_by-cons (λ (x : ℕ). x) budget []);
-  due = λ some. subst (λ (s : State). IsUnfinished s) same (call.spent goes_on).1;
+  due = λ some. subst (λ (s : State). HasLiftDue s) same (call.spent goes_on).1;
 }
 uses_more old next new budget (other ∷ budgets) goes_on call dealt so_far = record {
   used = omega (arith, so_far.used, (call.spent goes_on).0, sum_by-cons (λ (x : ℕ). x) budget (other ∷ budgets));
@@ -181,7 +181,7 @@ bound_some nodes player game =
     mul-pos some (product_some (bearers (priorities nodes)) (losing_priorities player (priorities nodes)))
 
 -- where a lift is due, the lifts so far are below the bound
-lifts_below : (solver : State) → RunsAreBounded → IsReached solver → IsUnfinished solver
+lifts_below : (solver : State) → RunsAreBounded → IsReached solver → HasLiftDue solver
     → solver.lifts < bound_of solver.player (priorities solver.nodes)
 lifts_below solver bounded reached due =
     let lifts = due.1.1 in

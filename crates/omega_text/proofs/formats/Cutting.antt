@@ -2,7 +2,7 @@
 use Rattle.std.proofs.Common.{ℕ, zero, suc, ◌+◌, ◌≤◌, ◌⊎◌, inl, inr, ⊎_elim, List, [], ◌∷◌, ◌++◌, length, map, refl, sym, subst, arith}
 use Rattle.std.proofs.lemmas.List.{map_push}
 use Rattle.omega_text.specs.Cut.{CutOrFault, Cuts}
-use Rattle.omega_text.specs.Format.{Format, IsExact}
+use Rattle.omega_text.specs.Format.{Format, GoesOneWay}
 use Rattle.omega_text.specs.Lexeme.{Lexeme, lexeme_of}
 use Rattle.omega_text.specs.declared.refusal.text.TextFault.{TextFault}
 use Rattle.omega_text.specs.declared.token.Token.{Token}
@@ -28,7 +28,7 @@ abbrev pub CutFrom : {Kind : Type 0} → Format Kind → List ℕ → ℕ → Ty
 CutFrom {Kind} format source from = ((lexemes : List (Lexeme Kind)) × (to : ℕ) × Cuts format source from lexemes to × format.ends source to)
     ⊎ ((lexemes : List (Lexeme Kind)) × (to : ℕ) × (fault : TextFault) × Cuts format source from lexemes to × format.faults source to fault)
 
-module _ {Kind : Type 0} (format : Format Kind) (exact : IsExact format) where
+module _ {Kind : Type 0} (format : Format Kind) (exact : GoesOneWay format) where
   -- where a token follows, a longer text is left than behind it
   shorter : (left : ℕ) (source : List ℕ) (from : ℕ) (lexeme : Lexeme Kind) → format.follows source from lexeme → length source ≤ from + suc left
       → (lexeme.span.end ≤ length source) × (length source ≤ lexeme.span.end + left)

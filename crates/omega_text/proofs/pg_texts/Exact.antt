@@ -1,6 +1,6 @@
 -- PGSolver's texts go on from each place in one way.
 use Rattle.std.proofs.Common.{ℕ, List}
-use Rattle.omega_text.specs.Format.{IsExact, IsLexical}
+use Rattle.omega_text.specs.Format.{GoesOneWay, IsLexical}
 use Rattle.omega_text.specs.declared.refusal.text.TextFault.{TextFault}
 use Rattle.omega_text.specs.declared.refusal.text.TextFault.TheVariants.{Lex, Number, Syntax, TooLong}
 use Rattle.omega_text.specs.pg.Fault.{IsFaultOf}
@@ -15,7 +15,7 @@ lexical bytes place (Number at) is = tt
 lexical bytes place (Syntax at) is = is
 lexical bytes place TooLong is = is
 
-pub pg_exact : IsExact pg_format
+pub pg_exact : GoesOneWay pg_format
 pg_exact = record {
   behind = λ source from lexeme follows. record { forward = follows.gap.forward; nonempty = follows.token.nonempty; within = follows.within };
   lexical = λ source from fault faults. lexical _ faults.place fault faults.fault_there;

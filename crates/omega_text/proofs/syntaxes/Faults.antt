@@ -1,7 +1,7 @@
 -- The fault of a text that can't be read is one, and no text that can be read has it.
 use Rattle.std.proofs.Common.{◌≡◌, ℕ, ◌<◌, ◌≤◌, ◌⊎◌, inl, inr, List, [], length, map, refl, ap, sym, ◌∙◌, subst, append-nil, arith}
 use Rattle.omega_text.specs.Cut.{IsCut}
-use Rattle.omega_text.specs.Format.{IsExact}
+use Rattle.omega_text.specs.Format.{GoesOneWay}
 use Rattle.omega_text.specs.Lexeme.{Lexeme}
 use Rattle.omega_text.specs.Limits.{most_text}
 use Rattle.omega_text.specs.Syntax.{IsMisplaced, IsUnfinished, IsWrongAt, Syntax, TextFaultsAreOne, TextsHaveNoFault, TokensBegin, TokensComplete, TokensSpell}
@@ -13,7 +13,7 @@ use Rattle.omega_text.proofs.syntaxes.Fronts.{wrong_ends, wrong_one}
 both_lengths : (size : ℕ) → size ≤ most_text → most_text < size → ⊥
 both_lengths size short long = omega arith
 
-module _ {Kind Symbol Raw : Type 0} (syntax : Syntax Kind Symbol Raw) (exact : IsExact syntax.format) where
+module _ {Kind Symbol Raw : Type 0} (syntax : Syntax Kind Symbol Raw) (exact : GoesOneWay syntax.format) where
   -- tokens that are no text, with the place of their fault, and the length of the text
   abbrev pub IsMisplacedIn : List (Lexeme Kind) → ℕ → ℕ → Type 0
   IsMisplacedIn lexemes size place = IsWrongAt (TokensBegin syntax) lexemes place ⊎ (IsUnfinished (TokensBegin syntax) (TokensComplete syntax) lexemes × (place ≡ size))
