@@ -1,6 +1,8 @@
 use crate::readings::{self, Reading, assert_reads};
 use crate::samples::{self, Row, game_of};
+use omega_game::Game;
 use omega_game::Player::{One, Zero};
+use std::process::Abort;
 use std::test::Fail;
 
 const GAP: [Reading; 2] = [
@@ -35,14 +37,19 @@ const GAMES: [(&'static [Row], usize, &'static [Reading], &'static [u32]); 5] = 
     ),
 ];
 
+/// Asserts that no node has one of these identifiers.
+fn assert_absent(rt: &impl Abort, game: &Game, absent: &[u32]) {
+    for id in absent {
+        assert_eq!(rt; game.place_of(*id), None, "identifier {id}");
+    }
+}
+
 #[test]
 fn small_games(rt: HostRuntime) -> Result<(), Fail> {
     for (rows, edges, readings, absent) in GAMES {
         let game = game_of(rt.alloc(), rows)?;
         assert_reads(&rt, &game, edges, readings);
-        for id in absent {
-            assert_eq!(rt; game.place_of(*id), None, "identifier {id}");
-        }
+        assert_absent(&rt, &game, absent);
     }
     Ok(())
 }
