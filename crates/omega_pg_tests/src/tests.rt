@@ -3,7 +3,7 @@ mod solutions;
 
 use omega_pg::Refusal;
 
-/// The number of a refusal, and its place if it has one.
-fn told(refusal: Refusal) -> (u32, Option<usize>) {
-    (refusal.number(), refusal.at())
+/// Whether a refusal has a number, and this place or none.
+fn is_told(refusal: Refusal, number: u32, place: Option<usize>) -> bool {
+    refusal.number() == number && refusal.at() == place
 }

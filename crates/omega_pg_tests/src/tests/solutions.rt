@@ -1,4 +1,4 @@
-use super::told;
+use super::is_told;
 use omega_pg::{Player, Refusal, Solution, read_game, read_solution, write_solution};
 use std::alloc::Global;
 use std::test::*;
@@ -76,11 +76,12 @@ static REFUSED: [(&str, u32, Option<usize>); 39] = [
     ("paritysol 9; 4 0 5; 9 1 4;", 53, None),
 ];
 
-/// The written form of the solution that a text stands for.
-fn rewritten(alloc: Global, game: &str, text: &str) -> Result<Vec<u8>, Refusal> {
+/// Whether a text of a solution of a game is written anew as wanted.
+fn is_rewritten(alloc: Global, game: &str, text: &str, want: &str) -> Result<bool, Refusal> {
     let game = read_game(alloc, game.as_bytes())?;
     let solution = read_solution(alloc, &game, text.as_bytes())?;
-    write_solution(alloc, &game, &solution)
+    let found = write_solution(alloc, &game, &solution)?;
+    Ok(found.as_slice() == want.as_bytes())
 }
 
 /// The solution of `GAME` that a text stands for.
@@ -89,44 +90,42 @@ fn solution_of_game(alloc: Global, text: &str) -> Result<Solution, Refusal> {
     read_solution(alloc, &game, text.as_bytes())
 }
 
-/// How a text of a solution of `GAME` is refused, if it is.
-fn refused(alloc: Global, text: &str) -> Option<(u32, Option<usize>)> {
+/// Whether a text of a solution of `GAME` is refused with a number, and this place or none.
+fn is_refused(alloc: Global, text: &str, number: u32, place: Option<usize>) -> bool {
     match solution_of_game(alloc, text) {
-        Ok(_solution) => None,
-        Err(refusal) => Some(told(refusal)),
+        Ok(_solution) => false,
+        Err(refusal) => is_told(refusal, number, place),
     }
+}
+
+/// Whether the winners and choices are those of the solution in which each node's owner wins.
+fn is_won_by_owners(solution: &Solution) -> bool {
+    solution.winners.as_slice() == [Player::Zero, Player::One].as_slice()
+        && solution.zero.choice.as_slice() == [Some(1), None].as_slice()
+        && solution.one.choice.as_slice() == [None, Some(0)].as_slice()
 }
 
 #[test]
 fn solutions_are_read_and_written(rt: HostRuntime) {
     for (game, text, want) in SOLUTIONS.iter() {
-        match rewritten(rt.alloc(), game, text) {
-            Ok(found) => assert_eq!(rt; found.as_slice(), want.as_bytes()),
-            Err(refusal) => assert!(rt; false, "{refusal:?}"),
-        }
+        assert!(rt;
+            is_rewritten(rt.alloc(), game, text, want) == Ok(true),
+            "{text}"
+        );
     }
 }
 
 #[test]
 fn winners_and_choices_stand_by_place(rt: HostRuntime) {
     match solution_of_game(rt.alloc(), "paritysol 9; 4 0 9; 9 1 4;") {
-        Ok(solution) => {
-            let winners = [Player::Zero, Player::One];
-            assert_eq!(rt; solution.winners.as_slice(), winners.as_slice());
-            assert_eq!(rt; solution.zero.choice.as_slice(), [Some(1), None].as_slice());
-            assert_eq!(rt; solution.one.choice.as_slice(), [None, Some(0)].as_slice());
-        }
-        Err(refusal) => assert!(rt; false, "{refusal:?}"),
+        Ok(solution) => assert!(rt; is_won_by_owners(&solution)),
+        Err(_refusal) => assert!(rt; false),
     }
 }
 
 #[test]
 fn other_solution_texts_are_refused(rt: HostRuntime) {
     for (text, number, place) in REFUSED.iter() {
-        assert_eq!(rt;
-            refused(rt.alloc(), text),
-            Some((*number, *place)),
-            "{text}"
-        );
+        assert!(rt; is_refused(rt.alloc(), text, *number, *place), "{text}");
     }
 }
