@@ -1,10 +1,10 @@
--- A syntax for tests: a text is two numbers.
+-- A syntax for tests: a text is two tokens, seen by their values.
 use Rattle.std.specs.Prelude.{◌≡◌, ℕ, List, [], ◌∷◌}
 use Rattle.omega_text.specs.Syntax.{Syntax}
 use Rattle.omega_text.specs.pg.Format.{pg_format}
 use Rattle.omega_text.specs.declared.pg.kind.PgKind.{PgKind}
 
--- two numbers spell their pair
+-- two tokens, seen by their values spell their pair
 abbrev pub SpellsPair : List ℕ → ℕ × ℕ → Type 0
 SpellsPair symbols raw = symbols ≡ raw.0 ∷ raw.1 ∷ []
 
