@@ -1,4 +1,4 @@
--- Lemmas of regions, from finite searches up to determinacy.
+-- Lemmas of regions, from finite searches up to determinacy, and of infinite plays.
 pub mod Players
 pub mod Places
 pub mod Search
@@ -6,6 +6,9 @@ pub mod Choices
 pub mod Pigeonhole
 pub mod Following
 pub mod Walks
+pub mod Stretches
+pub mod Laps
+pub mod Settling
 pub mod Apart
 pub mod Tours
 pub mod Attractor

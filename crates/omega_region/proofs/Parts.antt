@@ -1,5 +1,5 @@
 -- Strategies carried over between a part and the game, both ways, so that regions agree.
-use Rattle.std.proofs.Common.{◌≡◌, ◌↔◌, ◌==◌, ℕ, ◌<◌, List, length, map, Contains, slice_index, position, option_map, Option, Some, None, refl, sym, ap, ◌∙◌, subst, subst₂, eqb-true}
+use Rattle.std.proofs.Common.{◌≡◌, ◌↔◌, ◌==◌, ℕ, ◌<◌, List, length, Contains, slice_index, position, option_map, Option, Some, None, refl, sym, ap, ◌∙◌, subst, subst₂, eqb-true}
 use Rattle.std.proofs.lemmas.List.Elements.{Contains-get_or}
 use Rattle.std.proofs.lemmas.List.Quantifiers.{position-Some}
 use Rattle.omega_game.specs.declared.player.Player.{Player}

@@ -1,2 +1,3 @@
--- Regions of parity games.
+-- Regions of parity games, and infinite plays.
 pub mod Laws
+pub mod Plays
