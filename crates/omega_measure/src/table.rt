@@ -9,7 +9,8 @@ use std::alloc::Global;
 use std::cmp::Ordering;
 
 /// A table with a measure for each place of a game: top, or an entry for each priority that is borne and loses for
-/// the player (Jurdziński 2000). No call but `prepare` takes memory.
+/// the player (Jurdziński 2000). Only `prepare` answers that memory was refused, so that a table takes there all that it
+/// needs.
 pub trait MeasureTable: Drop {
     /// The player, the nodes' priorities and the measures, however they are kept.
     ghost content: { Self → Content };
@@ -28,7 +29,8 @@ pub trait MeasureTable: Drop {
         requires { place < length (content self.now).measures }
         ensures { IsTrue result ↔ (measure_at (content self.now).measures place ≡ None) };
 
-    /// The measures at two places compared on the entries for priorities at least `p`; top is above all others.
+    /// The measures at two places compared on the entries for priorities at least `p`; top is above all others. How many
+    /// entries these are is looked up where `p` is below the number of nodes, and else searched for among the priorities.
     fn compare(&self, a: u32, b: u32, p: u32) -> Ordering
         requires first { a < length (content self.now).measures }
         requires second { b < length (content self.now).measures }

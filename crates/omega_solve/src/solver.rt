@@ -20,7 +20,7 @@ use std::marker::Model;
 
 /// A solver of a game for one player by lifting small progress measures (Jurdziński 2000), over any table of measures
 /// and any schedule of places. Only `prepare` answers that memory was refused: table, schedule and buffers are made there.
-/// That no later call asks for memory is seen by runs in which it is refused, and not by contracts.
+/// That no later call asks for memory is in no contract; requests are counted in runs of the built program.
 #[derive(Drop)]
 pub struct Solver<'g, T: MeasureTable, S: Schedule> {
     game: &'g Game,

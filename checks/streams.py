@@ -1,0 +1,75 @@
+"""Which status a run ends with, and what stands on which stream: what `main` adds to what is proved of `obey`."""
+import os
+import subprocess
+import tempfile
+
+from program import OMEGA, SECONDS, fault_of, fault_with_file, shown
+
+CHOICE = b"0 0 0 1,2; 1 1 1 0; 2 2 1 0;"
+SOLUTION = b"paritysol 2; 0 0 2; 1 0; 2 0;"
+LIMITS = {
+    "check": ("16777216", "1048576", "8388608"),
+    "solve": ("67108864", "1099511627776"),
+}
+
+
+def run(words, text=b"", **given):
+    return subprocess.run([os.fsencode(OMEGA)] + words, input=text, stdout=subprocess.PIPE, stderr=subprocess.PIPE,
+                          timeout=SECONDS, **given)
+
+
+def statuses():
+    yield "done", fault_of(["check", "--format", "pg"], CHOICE, 0, b"accepted\n")
+    yield "a refused text", fault_of(["check", "--format", "pg"], b"", 1, b"", b"omega: 3 Syntax at 0\n")
+    yield "a budget that is used up", fault_of(
+        ["solve", "--player", "1", "--budget", "1"], CHOICE, 3, b"", b"omega: 51 Budget\n")
+    yield "a solution verified", fault_with_file(["verify", "--game"], CHOICE, SOLUTION, 0, b"yes\n")
+    yield "a game file that is not there", fault_of(
+        ["verify", "--game", os.path.join(tempfile.gettempdir(), "no", "such", "game")], SOLUTION, 5, b"", b"omega: 61 Io\n")
+    yield "a game file that is a folder", fault_of(
+        ["verify", "--game", tempfile.gettempdir()], SOLUTION, 5, b"", b"omega: 61 Io\n")
+
+
+def command_lines():
+    for words in ([], [b"frobnicate"], [b"solve", b"--player", b"2"], [b"show"], [b"check", b"--format", b"hoa"]):
+        came = run(words)
+        good = came.returncode == 2 and not came.stdout and came.stderr.startswith(b"error: ")
+        yield f"a fault of the command line: {words}", None if good else f"{came.returncode} {shown(came.stdout)} {shown(came.stderr)}"
+    came = run([b"solve", b"\xff"])
+    good = came.returncode == 2 and not came.stdout and came.stderr == b"error: the command line is not UTF-8\n"
+    yield "a word that is no text", None if good else f"{came.returncode} {shown(came.stdout)} {shown(came.stderr)}"
+
+
+def help_texts():
+    for name in ("", "show", "check", "canon", "solve", "verify"):
+        came = run([os.fsencode(word) for word in [name, "--help"] if word])
+        good = came.returncode == 0 and not came.stderr and came.stdout
+        yield f"help of {name or 'the program'}", None if good else f"{came.returncode} {shown(came.stdout)} {shown(came.stderr)}"
+        for limit in LIMITS.get(name, ()):
+            found = limit.encode() in came.stdout or f"{int(limit):,}".encode() in came.stdout
+            yield f"the limit {limit} in the help of {name}", None if found else "it is not there"
+
+
+def closed_streams():
+    """Standard output that takes nothing, and standard input that can't be read."""
+    with open("/dev/full", "wb") as full:
+        came = subprocess.run([OMEGA, "check", "--format", "pg"], input=CHOICE, stdout=full, stderr=subprocess.PIPE,
+                              timeout=SECONDS)
+    good = came.returncode == 5 and came.stderr == b"omega: 61 Io\n"
+    yield "standard output is full", None if good else f"{came.returncode} {shown(came.stderr)}"
+    with open(os.devnull, "wb") as written:
+        came = subprocess.run([OMEGA, "check", "--format", "pg"], stdin=written, stdout=subprocess.PIPE,
+                              stderr=subprocess.PIPE, timeout=SECONDS)
+    good = came.returncode == 5 and not came.stdout and came.stderr == b"omega: 61 Io\n"
+    yield "standard input can't be read", None if good else f"{came.returncode} {shown(came.stdout)} {shown(came.stderr)}"
+    with open("/dev/full", "wb") as full:
+        came = subprocess.run([OMEGA, "check", "--format", "pg"], input=b"", stdout=subprocess.PIPE, stderr=full,
+                              timeout=SECONDS)
+    yield "standard error is full", None if came.returncode == 1 and not came.stdout else f"{came.returncode}"
+
+
+def stream_checks():
+    yield from statuses()
+    yield from command_lines()
+    yield from help_texts()
+    yield from closed_streams()
