@@ -15,5 +15,6 @@ pub mod Attractor
 pub mod Split
 pub mod Zielonka
 pub mod Determinacy
+pub mod Histories
 pub mod Mirrors
 pub mod Parts
