@@ -1,3 +1,4 @@
 pub mod formats
+pub mod hoa_texts
 pub mod pg_texts
 pub mod syntaxes

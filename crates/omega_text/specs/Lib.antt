@@ -7,4 +7,5 @@ pub mod Limits
 pub mod Reading
 pub mod Refusal
 pub mod Syntax
+pub mod hoa
 pub mod pg

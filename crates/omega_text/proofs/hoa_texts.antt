@@ -1,0 +1,10 @@
+-- Lemmas on Hanoi texts.
+pub mod Exact
+pub mod Longest
+pub mod Numbers
+pub mod Onward
+pub mod Read
+pub mod Runs
+pub mod Tests
+pub mod Unique
+pub mod Written
