@@ -1,5 +1,7 @@
 -- Lemmas on Hanoi texts.
 pub mod Exact
+pub mod Gaps
+pub mod Laws
 pub mod Longest
 pub mod Numbers
 pub mod Onward
@@ -7,4 +9,6 @@ pub mod Read
 pub mod Runs
 pub mod Tests
 pub mod Unique
+pub mod Units
+pub mod Within
 pub mod Written

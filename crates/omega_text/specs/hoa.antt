@@ -3,4 +3,5 @@ pub mod Cut
 pub mod Fault
 pub mod Format
 pub mod Forms
+pub mod Laws
 pub mod Modes

@@ -3,11 +3,11 @@ use Rattle.std.proofs.Common.{◌≡◌, ℕ, ◌<◌, ◌⊎◌, inl, inr, ⊎_
 use Rattle.omega_text.specs.declared.hoa.kind.HoaKind.{HoaKind}
 use Rattle.omega_text.specs.declared.hoa.kind.HoaKind.TheVariants.{Identifier, HeaderName, AliasName, Int}
 use Rattle.omega_text.specs.declared.hoa.mode.Mode.{Mode}
-use Rattle.omega_text.specs.declared.hoa.mode.Mode.TheVariants.{Start, Word, At, Alias, Digits, Quoted, Escaped, Slash, Comment, Star, Slashed, Dash, Dashes, Mark, Whole, Blank}
+use Rattle.omega_text.specs.declared.hoa.mode.Mode.TheVariants.{Start, Word, Alias, Digits, Whole, Blank}
 use Rattle.omega_text.specs.hoa.Cut.{IsLongest}
 use Rattle.omega_text.specs.hoa.Fault.{BeginsNoUnit}
 use Rattle.omega_text.specs.hoa.Forms.{IsBlank, IsUnit}
-use Rattle.omega_text.specs.hoa.Modes.{IsStuck, next_mode, run, step, unit_of}
+use Rattle.omega_text.specs.hoa.Modes.{IsStuck, next_mode, run, unit_of}
 use Rattle.omega_text.specs.pg.Bytes.{is_digit, is_word_byte}
 use Rattle.omega_text.proofs.hoa_texts.Runs.{answer, answer_none, run_append, run_none}
 use Rattle.omega_text.proofs.hoa_texts.Tests.{either}

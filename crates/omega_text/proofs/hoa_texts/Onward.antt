@@ -1,8 +1,7 @@
 -- From each place a Hanoi text goes on in some way.
-use Rattle.std.proofs.Common.{◌≡◌, ℕ, zero, suc, ◌+◌, ◌<◌, ◌≤◌, ◌⊎◌, inl, inr, ⊎_elim, Option, Some, None, List, [], ◌∷◌, ◌++◌, length, drop, refl, sym, ap, ◌∙◌, subst, arith, append_assoc, append-nil, length-append, length-drop}
+use Rattle.std.proofs.Common.{◌≡◌, ℕ, zero, suc, ◌+◌, ◌<◌, ◌≤◌, ◌⊎◌, inl, inr, ⊎_elim, Option, Some, None, List, [], ◌∷◌, ◌++◌, length, drop, refl, sym, ap, ◌∙◌, subst, arith, append_assoc, append-nil, length-append}
 use Rattle.omega_text.specs.Lexeme.{Lexeme, lexeme_at}
 use Rattle.omega_text.specs.declared.hoa.kind.HoaKind.{HoaKind}
-use Rattle.omega_text.specs.declared.hoa.kind.HoaKind.TheVariants.{Int}
 use Rattle.omega_text.specs.declared.hoa.mode.Mode.{Mode}
 use Rattle.omega_text.specs.declared.hoa.mode.Mode.TheVariants.{Start}
 use Rattle.omega_text.specs.declared.refusal.text.TextFault.{TextFault}
@@ -10,8 +9,8 @@ use Rattle.omega_text.specs.declared.refusal.text.TextFault.TheVariants.{Lex, Nu
 use Rattle.omega_text.specs.hoa.Cut.{Ends, Follows, IsGap, IsLongest}
 use Rattle.omega_text.specs.hoa.Cut.IsGap.{blank, nothing}
 use Rattle.omega_text.specs.hoa.Fault.{Faults, IsFaultOf}
-use Rattle.omega_text.specs.hoa.Forms.{IsBlank, IsUnit, Spells}
-use Rattle.omega_text.specs.hoa.Modes.{IsStuck, next_mode, run, step, unit_of}
+use Rattle.omega_text.specs.hoa.Forms.{IsBlank, Spells}
+use Rattle.omega_text.specs.hoa.Modes.{IsStuck, next_mode, run, unit_of}
 use Rattle.omega_text.proofs.hoa_texts.Longest.{stuck_longest, stuck_no_unit}
 use Rattle.omega_text.proofs.hoa_texts.Numbers.{spelled_or_wrong}
 use Rattle.omega_text.proofs.hoa_texts.Read.{unit_read}

@@ -1,5 +1,5 @@
 -- What was read is a unit.
-use Rattle.std.proofs.Common.{◌≡◌, ◌≢◌, ℕ, zero, suc, ◌+◌, ◌<◌, ◌≤◌, ◌⊎◌, inl, inr, ⊎_elim, Bool, true, false, cond, eqb, Option, Some, None, List, [], ◌∷◌, ◌++◌, length, get_or, drop, refl, sym, ap, ◌∙◌, subst, arith, codes, ◌==◌, add-one, drop-cons}
+use Rattle.std.proofs.Common.{◌≡◌, ◌≢◌, ℕ, zero, suc, ◌+◌, ◌<◌, ◌≤◌, ◌⊎◌, inl, inr, ⊎_elim, Bool, true, false, cond, Option, Some, None, List, [], ◌∷◌, ◌++◌, length, get_or, drop, refl, sym, ap, ◌∙◌, subst, arith, ◌==◌, add-one, drop-cons}
 use Rattle.std.proofs.lemmas.Bool.{eqb-true}
 use Rattle.std.proofs.lemmas.Bool.Decides.{nat_tests}
 use Rattle.std.proofs.lemmas.List.{drop_all}
@@ -8,11 +8,11 @@ use Rattle.std.specs.List.{AllPass}
 use Rattle.omega_text.specs.declared.hoa.kind.HoaKind.{HoaKind}
 use Rattle.omega_text.specs.declared.hoa.kind.HoaKind.TheVariants.{Identifier, HeaderName, AliasName, True, False, Int, String, Body, End, Abort, Not, And, Or, OpenParenthesis, CloseParenthesis, OpenBracket, CloseBracket, OpenBrace, CloseBrace}
 use Rattle.omega_text.specs.declared.hoa.mode.Mode.{Mode}
-use Rattle.omega_text.specs.declared.hoa.mode.Mode.TheVariants.{Start, Word, At, Alias, Digits, Quoted, Escaped, Slash, Comment, Star, Slashed, Dash, Dashes, Mark, Whole, Blank}
-use Rattle.omega_text.specs.hoa.Forms.{Closes, IsComment, IsNoMark, IsQuotable, IsUnit, spelling}
+use Rattle.omega_text.specs.declared.hoa.mode.Mode.TheVariants.{Start, Word, At, Alias, Digits, Quoted, Slash, Comment, Star, Slashed, Dash, Dashes, Mark, Whole, Blank}
+use Rattle.omega_text.specs.hoa.Forms.{Closes, IsNoMark, IsQuotable, IsUnit, spelling}
 use Rattle.omega_text.specs.hoa.Forms.Closes.{close, closed, nest, other}
 use Rattle.omega_text.specs.hoa.Forms.IsQuotable.{empty, escaped, plain}
-use Rattle.omega_text.specs.hoa.Modes.{closed_mode, first_mode, letter_kind, mark_mode, marked, run, sign_kind, step, unit_of, whole}
+use Rattle.omega_text.specs.hoa.Modes.{closed_mode, first_mode, letter_kind, run, sign_kind, whole}
 use Rattle.omega_text.specs.pg.Bytes.{is_digit, is_letter, is_white, is_word_byte}
 use Rattle.omega_text.specs.pg.Forms.{IsDigits, IsWord}
 use Rattle.omega_text.proofs.pg_texts.Classes.{letter_in_word}
@@ -75,7 +75,7 @@ apart : (one most : ℕ) → (one == most) ≡ false → one ≤ most → one < 
 apart one most fails within = grind (arith, nat_tests)
 
 -- tests of a byte that fail
-differs : (byte value : ℕ) → (byte == value) ≡ false → byte ≢ value
+pub differs : (byte value : ℕ) → (byte == value) ≡ false → byte ≢ value
 differs byte value fails is = grind (arith, nat_tests)
 
 -- behind a quote: what may stand between two quotes, and a quote
@@ -162,9 +162,11 @@ star_step byte rest reads around sort is = ⊎_elim
     (λ (no_slash, more). ⊎_elim
     (λ (star, behind). let found = reads.star around sort behind in
     (other around 42 (byte ∷ rest) (no_mark 42 byte (λ is. absurd (cc)) (λ _. differs byte 47 no_slash)) (subst (λ b. Closes (suc around) (b ∷ rest)) (sym (eqb-true byte 42 star)) found.0), found.1))
-    (λ (no_star, behind). let found = reads.comment around sort behind in
-    (other around 42 (byte ∷ rest) (no_mark 42 byte (λ is. absurd (cc)) (λ _. differs byte 47 no_slash))
-    (other around byte rest (no_mark byte (get_or rest 0 0) (λ is. absurd (differs byte 47 no_slash is)) (λ is. absurd (differs byte 42 no_star is))) found.0), found.1))
+    (λ (no_star, behind). let found = reads.comment around sort behind in (
+      other around 42 (byte ∷ rest) (no_mark 42 byte (λ is. absurd (cc)) (λ _. differs byte 47 no_slash))
+          (other around byte rest (no_mark byte (get_or rest 0 0) (λ is. absurd (differs byte 47 no_slash is)) (λ is. absurd (differs byte 42 no_star is))) found.0),
+      found.1,
+    ))
     (chosen (λ mode. answer (run (Some mode) rest) ≡ Some sort) (byte == 42) _ _ more))
     (chosen (λ mode. answer (run (Some mode) rest) ≡ Some sort) (byte == 47) _ _ is)
 
@@ -176,9 +178,11 @@ slashed_step byte rest reads around sort is = ⊎_elim
     (λ (no_star, more). ⊎_elim
     (λ (slash, behind). let found = reads.slashed around sort behind in
     (other around 47 (byte ∷ rest) (no_mark 47 byte (λ _. differs byte 42 no_star) (λ is. absurd (cc))) (subst (λ b. Closes (suc around) (b ∷ rest)) (sym (eqb-true byte 47 slash)) found.0), found.1))
-    (λ (no_slash, behind). let found = reads.comment around sort behind in
-    (other around 47 (byte ∷ rest) (no_mark 47 byte (λ _. differs byte 42 no_star) (λ is. absurd (cc)))
-    (other around byte rest (no_mark byte (get_or rest 0 0) (λ is. absurd (differs byte 47 no_slash is)) (λ is. absurd (differs byte 42 no_star is))) found.0), found.1))
+    (λ (no_slash, behind). let found = reads.comment around sort behind in (
+      other around 47 (byte ∷ rest) (no_mark 47 byte (λ _. differs byte 42 no_star) (λ is. absurd (cc)))
+          (other around byte rest (no_mark byte (get_or rest 0 0) (λ is. absurd (differs byte 47 no_slash is)) (λ is. absurd (differs byte 42 no_star is))) found.0),
+      found.1,
+    ))
     (chosen (λ mode. answer (run (Some mode) rest) ≡ Some sort) (byte == 47) _ _ more))
     (chosen (λ mode. answer (run (Some mode) rest) ≡ Some sort) (byte == 42) _ _ is)
 

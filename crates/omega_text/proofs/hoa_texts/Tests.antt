@@ -1,5 +1,5 @@
 -- Choices by a test, one way and the other.
-use Rattle.std.proofs.Common.{◌≡◌, ℕ, ◌⊎◌, inl, inr, refl, Bool, true, false, cond, Option, Some, None}
+use Rattle.std.proofs.Common.{◌≡◌, ◌⊎◌, inl, inr, refl, Bool, true, false, cond}
 
 -- what holds of a choice holds of one of the two, with the test's answer
 pub chosen : {A : Type 0} (P : A → Type 0) (test : Bool) (one other : A) → P (cond test one other) → ((test ≡ true) × P one) ⊎ ((test ≡ false) × P other)

@@ -1,7 +1,6 @@
 -- At most one thing follows a place of a Hanoi text.
-use Rattle.std.proofs.Common.{◌≡◌, ℕ, ◌+◌, ◌<◌, ◌≤◌, ◌⊎◌, inl, inr, ⊎_elim, Option, Some, None, List, [], ◌∷◌, ◌++◌, length, drop, refl, sym, ap, ◌∙◌, subst, arith, append_assoc, append-nil, length-append}
+use Rattle.std.proofs.Common.{◌≡◌, ℕ, ◌+◌, ◌<◌, ⊎_elim, Option, Some, None, List, [], ◌∷◌, ◌++◌, length, drop, refl, sym, ap, ◌∙◌, subst, arith, append_assoc, append-nil, length-append}
 use Rattle.omega_text.specs.Lexeme.{Lexeme}
-use Rattle.omega_text.specs.Limits.{most_number}
 use Rattle.omega_text.specs.declared.hoa.kind.HoaKind.{HoaKind}
 use Rattle.omega_text.specs.declared.hoa.kind.HoaKind.TheVariants.{Int}
 use Rattle.omega_text.specs.declared.refusal.text.TextFault.{TextFault}
@@ -12,7 +11,6 @@ use Rattle.omega_text.specs.hoa.Fault.{BeginsNoUnit, BeginsWrongDigits, Faults, 
 use Rattle.omega_text.specs.hoa.Forms.{IsBlank, IsForm, IsUnit, Spells}
 use Rattle.omega_text.proofs.hoa_texts.Longest.{blank_longest, fronts}
 use Rattle.omega_text.proofs.hoa_texts.Numbers.{one_value, spelled_form}
-use Rattle.omega_text.proofs.hoa_texts.Runs.{answer}
 use Rattle.omega_text.proofs.hoa_texts.Written.{unit_written}
 
 -- a text is a unit of one sort

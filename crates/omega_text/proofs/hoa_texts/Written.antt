@@ -1,20 +1,23 @@
 -- What is a unit is read as it.
-use Rattle.std.proofs.Common.{◌≡◌, ◌≢◌, ℕ, zero, suc, ◌+◌, ◌<◌, ◌⊎◌, inl, inr, ⊎_elim, Bool, true, false, cond, Option, Some, None, List, [], ◌∷◌, ◌++◌, length, get_or, refl, sym, ap, ◌∙◌, subst, arith, codes, ◌==◌, eq-eqb}
+use Rattle.std.proofs.Common.{◌≡◌, ◌≢◌, ℕ, suc, ◌<◌, ⊎_elim, true, false, Option, Some, None, List, [], ◌∷◌, ◌++◌, length, get_or, refl, sym, ap, ◌∙◌, arith, codes, ◌==◌}
 use Rattle.std.proofs.lemmas.Bool.Decides.{nat_tests, eqb_tells}
 use Rattle.std.proofs.lemmas.List.Elements.{All-head, All-tail}
 use Rattle.std.specs.List.{AllPass}
 use Rattle.omega_text.specs.declared.hoa.kind.HoaKind.{HoaKind}
 use Rattle.omega_text.specs.declared.hoa.kind.HoaKind.TheVariants.{Identifier, HeaderName, AliasName, True, False, Int, String, Body, End, Abort, Not, And, Or, OpenParenthesis, CloseParenthesis, OpenBracket, CloseBracket, OpenBrace, CloseBrace}
-use Rattle.omega_text.specs.declared.hoa.mode.Mode.{Mode}
-use Rattle.omega_text.specs.declared.hoa.mode.Mode.TheVariants.{Start, Word, At, Alias, Digits, Quoted, Escaped, Slash, Comment, Star, Slashed, Dash, Dashes, Mark, Whole, Blank}
+use Rattle.omega_text.specs.declared.hoa.mode.Mode.TheVariants.{Start, Word, Alias, Digits, Quoted, Comment, Whole, Blank}
 use Rattle.omega_text.specs.hoa.Forms.{Closes, IsBlank, IsNoMark, IsQuotable, IsUnit, spelling}
 use Rattle.omega_text.specs.hoa.Forms.Closes.{close, closed, nest, other}
 use Rattle.omega_text.specs.hoa.Forms.IsQuotable.{empty, escaped, plain}
-use Rattle.omega_text.specs.hoa.Modes.{closed_mode, comment_mode, first_mode, letter_kind, run, slashed_mode, star_mode, step}
+use Rattle.omega_text.specs.hoa.Modes.{closed_mode, comment_mode, first_mode, letter_kind, run, sign_kind, slashed_mode, star_mode, whole}
 use Rattle.omega_text.specs.pg.Bytes.{is_digit, is_letter, is_white, is_word_byte}
 use Rattle.omega_text.specs.pg.Forms.{IsDigits, IsWord}
 use Rattle.omega_text.proofs.hoa_texts.Runs.{answer, run_append}
 use Rattle.omega_text.proofs.hoa_texts.Tests.{choose, pass}
+
+-- a test that fails
+pub no_test : (byte value : ℕ) → byte ≢ value → (byte == value) ≡ false
+no_test byte value differs = grind (arith, nat_tests)
 
 -- digits and letters are not white, and letters are no digits
 digit_black : (byte : ℕ) → is_digit byte ≡ true → is_white byte ≡ false
@@ -23,8 +26,11 @@ digit_black byte digit = grind (arith, nat_tests)
 letter_black : (byte : ℕ) → is_letter byte ≡ true → is_white byte ≡ false
 letter_black byte letter = grind (arith, nat_tests)
 
-digit_no_letter : (byte : ℕ) → is_digit byte ≡ true → is_letter byte ≡ false
+pub digit_no_letter : (byte : ℕ) → is_digit byte ≡ true → is_letter byte ≡ false
 digit_no_letter byte digit = grind (arith, nat_tests)
+
+pub white_no_digit : (byte : ℕ) → is_white byte ≡ true → is_digit byte ≡ false
+white_no_digit byte white = grind (arith, nat_tests)
 
 -- the mode behind a first byte
 pub first_letter : (byte : ℕ) → is_letter byte ≡ true → first_mode byte ≡ Some (Word (letter_kind byte))
@@ -35,6 +41,16 @@ first_digit byte digit = pass (is_white byte) _ _ (digit_black byte digit) ∙ p
 
 pub first_white : (byte : ℕ) → is_white byte ≡ true → first_mode byte ≡ Some Blank
 first_white byte white = choose (is_white byte) _ _ white
+
+-- a byte that is a sign is none of four others
+sign_apart : (byte value : ℕ) (kind : HoaKind) → sign_kind value ≡ None → sign_kind byte ≡ Some kind → (byte == value) ≡ false
+sign_apart byte value kind none sign = no_test byte value (λ same. let found = sym (ap sign_kind same) ∙ sign in let other = none in cc)
+
+pub first_sign : (byte : ℕ) (kind : HoaKind) → is_white byte ≡ false → is_letter byte ≡ false → is_digit byte ≡ false → sign_kind byte ≡ Some kind → first_mode byte ≡ Some (Whole kind)
+first_sign byte kind no_white no_letter no_digit sign =
+    pass (is_white byte) _ _ no_white ∙ pass (is_letter byte) _ _ no_letter ∙ pass (is_digit byte) _ _ no_digit
+    ∙ pass (byte == 34) _ _ (sign_apart byte 34 kind refl sign) ∙ pass (byte == 64) _ _ (sign_apart byte 64 kind refl sign)
+    ∙ pass (byte == 45) _ _ (sign_apart byte 45 kind refl sign) ∙ pass (byte == 47) _ _ (sign_apart byte 47 kind refl sign) ∙ ap whole sign
 
 -- bytes of a word, behind a longer word
 more_word : (rest : List ℕ) → AllPass is_word_byte rest → run (Some (Word Identifier)) rest ≡ Some (Word Identifier)
@@ -54,7 +70,7 @@ word_run byte (next ∷ rest) letter all = ap (λ state. run state (next ∷ res
     ∙ more_word rest (All-tail (λ b. is_word_byte b ≡ true) next rest all)
 
 -- a word and a colon
-header_run : (word : List ℕ) → IsWord word → run (Some Start) (word ++ 58 ∷ []) ≡ Some (Whole HeaderName)
+pub header_run : (word : List ℕ) → IsWord word → run (Some Start) (word ++ 58 ∷ []) ≡ Some (Whole HeaderName)
 header_run [] word = absurd (omega arith)
 header_run (byte ∷ rest) word = run_append (Some Start) (byte ∷ rest) (58 ∷ [])
     ∙ ap (λ state. run state (58 ∷ [])) (word_run byte rest word.1 (All-tail (λ b. is_word_byte b ≡ true) byte rest word.2))
@@ -65,7 +81,7 @@ alias_run [] all = refl
 alias_run (byte ∷ rest) all = ap (λ state. run state rest) (choose (is_word_byte byte) _ _ (All-head (λ b. is_word_byte b ≡ true) byte rest all))
     ∙ alias_run rest (All-tail (λ b. is_word_byte b ≡ true) byte rest all)
 
-at_run : (name : List ℕ) → 0 < length name → AllPass is_word_byte name → run (Some Start) (64 ∷ name) ≡ Some Alias
+pub at_run : (name : List ℕ) → 0 < length name → AllPass is_word_byte name → run (Some Start) (64 ∷ name) ≡ Some Alias
 at_run [] some all = absurd (omega arith)
 at_run (byte ∷ rest) some all = ap (λ state. run state rest) (choose (is_word_byte byte) _ _ (All-head (λ b. is_word_byte b ≡ true) byte rest all))
     ∙ alias_run rest (All-tail (λ b. is_word_byte b ≡ true) byte rest all)
@@ -81,12 +97,8 @@ digits_run [] digits = absurd (omega (arith, digits.0))
 digits_run (byte ∷ rest) digits = ap (λ state. run state rest) (first_digit byte (All-head (λ b. is_digit b ≡ true) byte rest digits.1))
     ∙ more_digits rest (All-tail (λ b. is_digit b ≡ true) byte rest digits.1)
 
--- a test that fails
-no_test : (byte value : ℕ) → byte ≢ value → (byte == value) ≡ false
-no_test byte value differs = grind (arith, nat_tests)
-
 -- what stands between quotes, and a quote
-quoted_run : (inside : List ℕ) → IsQuotable inside → run (Some Quoted) (inside ++ 34 ∷ []) ≡ Some (Whole String)
+pub quoted_run : (inside : List ℕ) → IsQuotable inside → run (Some Quoted) (inside ++ 34 ∷ []) ≡ Some (Whole String)
 quoted_run _ empty = refl
 quoted_run _ (plain byte rest no_quote no_backslash behind) =
     ap (λ mode. run (Some mode) (rest ++ 34 ∷ [])) (pass (byte == 34) _ _ (no_test byte 34 no_quote) ∙ pass (byte == 92) _ _ (no_test byte 92 no_backslash)) ∙ quoted_run rest behind
