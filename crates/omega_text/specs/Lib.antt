@@ -1,3 +1,4 @@
+-- What contracts cite: refusals and limits, then tokens, texts and how they are read; of PGSolver's texts in `pg`.
 pub mod Cases
 pub mod Cursor
 pub mod Cut
@@ -9,3 +10,4 @@ pub mod Refusal
 pub mod Syntax
 pub mod hoa
 pub mod pg
+pub mod reader

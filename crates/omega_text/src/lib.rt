@@ -30,6 +30,3 @@ pub use syntax::TextSyntax;
 pub use token::{Span, Token};
 pub use token_kind::TokenKind;
 pub use token_reader::TokenReader;
-
-#[cfg(test)]
-mod tests;

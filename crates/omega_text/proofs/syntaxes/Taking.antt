@@ -3,7 +3,8 @@ use Rattle.std.proofs.Common.{◌≡◌, ℕ, Bool, true, false, Option, Some, N
 use Rattle.std.specs.Prelude.{is_some}
 use Rattle.omega_text.specs.Format.{Format, IsLexical}
 use Rattle.omega_text.specs.Lexeme.{Lexeme}
-use Rattle.omega_text.specs.Reading.{IsReadTo, IsTokenFault, TakesOrRefuses}
+use Rattle.omega_text.specs.Reading.{TakesOrRefuses}
+use Rattle.omega_text.specs.reader.Taking.{IsReadTo, IsTokenFault}
 use Rattle.omega_text.specs.declared.refusal.text.TextFault.{TextFault}
 use Rattle.omega_text.specs.declared.refusal.text.TextFault.TheVariants.{Lex, Number, Syntax, TooLong}
 use Rattle.omega_text.proofs.formats.Cutting.{cuts_more}

@@ -9,6 +9,7 @@ impl TokenKind for PgKind {
 
     ghost format = { pg_format };
 
+    #[inline(always)]
     fn next_token(source: &[u8], at: usize) -> Result<Option<Token<'_, PgKind>>, TextFault> {
         next_pg_token(source, at)
     }

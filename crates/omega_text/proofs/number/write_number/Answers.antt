@@ -1,3 +1,4 @@
+-- A number below ten is its digit.
 use Rattle.std.proofs.Common.{rules}
 use Rattle.std.proofs.lemmas.Fmt.{decimal_digit}
 use Rattle.omega_text.proofs.number.write_number.Goals as goal

@@ -1,3 +1,4 @@
+-- The law by its lemma.
 use Rattle.omega_text.proofs.pg_texts.Written.{number_plain}
 use Rattle.omega_text.proofs.pg.laws.numbers_are_plain.Goals as goal
 

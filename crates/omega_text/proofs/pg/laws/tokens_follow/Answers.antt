@@ -1,3 +1,4 @@
+-- The law by its lemma.
 use Rattle.omega_text.proofs.pg_texts.Written.{written_follows}
 use Rattle.omega_text.proofs.pg.laws.tokens_follow.Goals as goal
 

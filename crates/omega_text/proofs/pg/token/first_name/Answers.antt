@@ -1,3 +1,4 @@
+-- A name ends at the next quote, or the bytes begin no form.
 use Rattle.std.proofs.Common.{◌≡◌, ◌+◌, ◌<◌, length, get_or, drop, inl, refl, ap, ◌∙◌, arith, length-drop}
 use Rattle.std.proofs.lemmas.List.Sums.{prefix_len-le-length}
 use Rattle.std.specs.List.{prefix_len}

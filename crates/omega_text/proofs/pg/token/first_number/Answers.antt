@@ -1,3 +1,4 @@
+-- The whole run of digits is the longest form, and is a number or none.
 use Rattle.std.proofs.Common.{◌≡◌, length, get_or, take, refl, sym, subst, ◌∙◌, arith, length-take-le}
 use Rattle.std.proofs.lemmas.List.{get_or-take}
 use Rattle.omega_text.specs.pg.Forms.{IsDigits, IsLongest, IsNoToken}

@@ -1,3 +1,4 @@
+-- Bytes whose first is of no class begin no form.
 use Rattle.std.proofs.Common.{inl, refl, sym, ◌∙◌}
 use Rattle.omega_text.proofs.pg_texts.Longest.{no_head}
 use Rattle.omega_text.proofs.pg.token.first_token.Goals as goal

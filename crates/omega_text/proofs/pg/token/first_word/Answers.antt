@@ -1,3 +1,4 @@
+-- The longest word is one of the two words, or no token.
 use Rattle.std.proofs.Common.{take, inr, refl, sym, subst, ◌∙◌}
 use Rattle.std.specs.Cmp.Lexicographic.{bytes_decides}
 use Rattle.omega_text.specs.pg.Forms.{IsLongest, IsWord}

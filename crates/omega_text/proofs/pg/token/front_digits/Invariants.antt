@@ -1,3 +1,4 @@
+-- The digits so far with their value, or that it is above the greatest number.
 use Rattle.std.proofs.Common.{◌≡◌, ◌+◌, ◌*◌, ◌≤◌, ◌<◌, ℕ, true, get_or, take}
 use Rattle.std.specs.Str.Parse.{digits_value}
 use Rattle.omega_text.specs.pg.Bytes.{is_digit}

@@ -1,3 +1,4 @@
+-- The white bytes that are counted are a gap, and a black byte ends it.
 use Rattle.std.proofs.Common.{◌≡◌, ◌+◌, ◌<◌, false, length, get_or, drop, sym, ap, ◌∙◌, subst, arith}
 use Rattle.std.specs.List.{prefix_len}
 use Rattle.omega_text.specs.pg.Bytes.{is_white}

@@ -1,4 +1,4 @@
-use super::{AutomatonFault, GameFault, Refusal, TaskFault, TextFault};
+use omega_text::{AutomatonFault, GameFault, Refusal, TaskFault, TextFault};
 use std::test::Fail;
 
 // Each refusal with its number, its name, its place and the text that it prints.

@@ -1,0 +1,2 @@
+-- What only the loop over tokens cites.
+pub mod Taking

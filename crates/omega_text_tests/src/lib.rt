@@ -1,0 +1,15 @@
+//! Tests of the public calls of `omega_text`, apart from it, so that the library is proved once.
+#![tactic(auto)]
+
+#[cfg(test)]
+mod cursor;
+#[cfg(test)]
+mod number;
+#[cfg(test)]
+mod pg;
+#[cfg(test)]
+mod reading;
+#[cfg(test)]
+mod refusal;
+#[cfg(test)]
+mod seq;

@@ -1,0 +1,125 @@
+use omega_text::{PgKind, TextFault, next_pg_token, pg_tokens};
+use std::alloc::Global;
+use std::test::Fail;
+
+// How many tokens a text has, or the number and the place of its refusal.
+fn answer(alloc: Global, text: &[u8]) -> Result<usize, (u32, Option<usize>)> {
+    match pg_tokens(alloc, text) {
+        Ok(tokens) => Ok(tokens.len()),
+        Err(refusal) => Err((refusal.number(), refusal.at())),
+    }
+}
+
+const TOKENS: [(PgKind, &str, u32, usize, usize); 16] = [
+    (PgKind::Parity, "parity", 0, 0, 6),
+    (PgKind::Number, "9", 9, 7, 8),
+    (PgKind::Semicolon, ";", 0, 8, 9),
+    (PgKind::Number, "9", 9, 10, 11),
+    (PgKind::Number, "3", 3, 12, 13),
+    (PgKind::Number, "1", 1, 14, 15),
+    (PgKind::Number, "4", 4, 16, 17),
+    (PgKind::Semicolon, ";", 0, 17, 18),
+    (PgKind::Number, "4", 4, 19, 20),
+    (PgKind::Number, "2", 2, 21, 22),
+    (PgKind::Number, "0", 0, 23, 24),
+    (PgKind::Number, "9", 9, 25, 26),
+    (PgKind::Comma, ",", 0, 26, 27),
+    (PgKind::Number, "4", 4, 27, 28),
+    (PgKind::Name, "\"a\"", 0, 29, 32),
+    (PgKind::Semicolon, ";", 0, 32, 33),
+];
+
+#[test]
+fn a_game_text_is_cut(rt: HostRuntime) -> Result<(), Fail> {
+    let text = b"parity 9; 9 3 1 4;\t4 2 0 9,4 \"a\";\r\n".as_slice();
+    let tokens = pg_tokens(rt.alloc(), text)?;
+    assert_eq!(rt; tokens.len(), TOKENS.len());
+    for (token, want) in tokens.iter().zip(TOKENS.iter()) {
+        let (kind, bytes, value, start, end) = *want;
+        assert_eq!(rt; token.kind, kind);
+        assert_eq!(rt; token.text, bytes.as_bytes());
+        assert_eq!(rt; token.value, value);
+        assert_eq!(rt; token.span.start, start);
+        assert_eq!(rt; token.span.end, end);
+    }
+    Ok(())
+}
+
+// How many tokens texts have, or the number and the place of their refusal.
+const TEXTS: [(&str, Result<usize, (u32, Option<usize>)>); 31] = [
+    ("", Ok(0)),
+    (" \t\n\r", Ok(0)),
+    ("12 34", Ok(2)),
+    ("1,2;3", Ok(5)),
+    ("paritysol 0;", Ok(3)),
+    ("0parity", Ok(2)),
+    ("2147483647 0", Ok(2)),
+    ("\"\"\" ~!\"", Ok(2)),
+    ("\"a;00 $b\"", Ok(1)),
+    ("00 0 0 0;", Err((2, Some(0)))),
+    ("0 0 0 1; $", Err((1, Some(9)))),
+    ("2147483648 0 0 0;", Err((2, Some(0)))),
+    ("0 01", Err((2, Some(2)))),
+    (
+        "1 99999999999999999999999999999999999999999",
+        Err((2, Some(2))),
+    ),
+    ("parit", Err((1, Some(0)))),
+    ("; parity9 00", Err((1, Some(2)))),
+    ("parity-sol", Err((1, Some(0)))),
+    ("start 0;", Err((1, Some(0)))),
+    ("Parity", Err((1, Some(0)))),
+    ("_", Err((1, Some(0)))),
+    ("-1", Err((1, Some(0)))),
+    ("0\x0C1", Err((1, Some(1)))),
+    ("0 \"", Err((1, Some(2)))),
+    ("0 \"a;", Err((1, Some(2)))),
+    ("\"\x1F\"", Err((1, Some(0)))),
+    ("\"\x7F\"", Err((1, Some(0)))),
+    ("\"a\nb\"", Err((1, Some(0)))),
+    ("\"\" \"", Err((1, Some(3)))),
+    ("// 0", Err((1, Some(0)))),
+    ("$ 00", Err((1, Some(0)))),
+    ("00 $", Err((2, Some(0)))),
+];
+
+#[test]
+fn texts_are_cut_into_longest_tokens_or_refused(rt: HostRuntime) {
+    for (text, want) in TEXTS.iter() {
+        assert_eq!(rt; answer(rt.alloc(), text.as_bytes()), *want, "for {text:?}");
+    }
+}
+
+#[test]
+fn tokens_come_one_at_a_time(rt: HostRuntime) -> Result<(), Fail> {
+    let text = b" 7;x".as_slice();
+    let number = next_pg_token(text, 0)?.ok_or("a number")?;
+    assert_eq!(rt; number.value, 7);
+    let sign = next_pg_token(text, 2)?.ok_or("a sign")?;
+    assert_eq!(rt; sign.kind, PgKind::Semicolon);
+    assert_eq!(rt; next_pg_token(text, 4)?.is_none(), true);
+    assert_eq!(rt;
+        next_pg_token(text, 3).err(),
+        Some(TextFault::Lex { at: 3 })
+    );
+    Ok(())
+}
+
+#[test]
+fn names_are_cut_at_each_length(rt: HostRuntime) -> Result<(), Fail> {
+    let mut text = vec![in rt.alloc(); b'"']?;
+    for length in 0..300usize {
+        text.push(b'"')?;
+        let name = next_pg_token(text.as_slice(), 0)?.ok_or("a name")?;
+        assert_eq!(rt; name.kind, PgKind::Name);
+        assert_eq!(rt; name.text, text.as_slice());
+        text.pop();
+        text.push(b'a')?;
+        assert_eq!(rt;
+            answer(rt.alloc(), text.as_slice()),
+            Err((1, Some(0))),
+            "after {length}"
+        );
+    }
+    Ok(())
+}
