@@ -4,4 +4,5 @@ pub mod Fault
 pub mod Format
 pub mod Forms
 pub mod Laws
-pub mod Modes
+pub mod Pieces
+pub mod scanning

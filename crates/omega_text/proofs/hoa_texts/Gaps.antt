@@ -8,7 +8,7 @@ use Rattle.omega_text.specs.hoa.Cut.{Ends, Follows, IsGap}
 use Rattle.omega_text.specs.hoa.Cut.IsGap.{blank, nothing}
 use Rattle.omega_text.specs.hoa.Fault.{Faults, IsFaultOf}
 use Rattle.omega_text.specs.hoa.Forms.{IsBlank}
-use Rattle.omega_text.specs.hoa.Modes.{IsFirstUnit}
+use Rattle.omega_text.specs.hoa.scanning.Modes.{IsFirstUnit}
 
 -- a gap with one part more
 pub gap_more : (gap text : List ℕ) → IsGap gap → IsBlank text → IsGap (gap ++ text)

@@ -1,6 +1,6 @@
 ghost use Rattle.std.specs.Prelude.{◌≡◌, ◌^◌, ◌-◌, ◌<◌, length};
 ghost use Rattle.omega_text.specs.hoa.Forms.{spelling};
-ghost use Rattle.omega_text.specs.hoa.Modes.{alias_mode, bracket_kind, closed_mode, comment_mode, dash_mode, dashes_mode, digits_mode, first_mode, letter_kind, mark_mode, marked, next_mode, quoted_mode, sign_kind, slash_mode, slashed_mode, star_mode, whole, word_mode};
+ghost use Rattle.omega_text.specs.hoa.scanning.Modes.{alias_mode, bracket_kind, closed_mode, comment_mode, dash_mode, dashes_mode, digits_mode, first_mode, letter_kind, mark_mode, marked, next_mode, quoted_mode, sign_kind, slash_mode, slashed_mode, star_mode, whole, word_mode};
 
 use super::kind::{HoaKind, spelling};
 use crate::pg::bytes::{is_letter, is_white, is_word_byte};
@@ -43,7 +43,7 @@ pub(crate) enum Mode {
 }
 
 impl Mode {
-    ghost use Rattle.omega_text.specs.hoa.Modes.{IsWithin, next_mode, unit_of};
+    ghost use Rattle.omega_text.specs.hoa.scanning.Modes.{IsWithin, next_mode, unit_of};
 
     /// How far it has been read with one more byte, or none if no unit goes on so.
     pub(crate) fn next(self, byte: u8) -> Option<Mode>

@@ -1,6 +1,6 @@
 ghost use Rattle.std.specs.Prelude.{◌≡◌, ◌<◌, ◌≤◌, ◌^◌, length, slice_index, true, false, None, Some, IfErr, IfOk};
 ghost use Rattle.omega_text.specs.hoa.Fault.{IsFaultOf};
-ghost use Rattle.omega_text.specs.hoa.Modes.{IsFirstUnit, IsScanned, sign_kind};
+ghost use Rattle.omega_text.specs.hoa.scanning.Modes.{IsFirstUnit, IsScanned, sign_kind};
 ghost use Rattle.omega_text.specs.pg.Bytes.{is_digit, is_letter, is_white};
 
 use super::kind::HoaKind;

@@ -3,7 +3,7 @@ use Rattle.std.proofs.Common.{[], ◌++◌, drop, take, refl, sym, subst, arith,
 use Rattle.omega_text.specs.Lexeme.{lexeme_at}
 use Rattle.omega_text.specs.hoa.Cut.{Follows}
 use Rattle.omega_text.specs.hoa.Cut.IsGap.{nothing}
-use Rattle.omega_text.specs.hoa.Modes.{IsFirstUnit}
+use Rattle.omega_text.specs.hoa.scanning.Modes.{IsFirstUnit}
 use Rattle.omega_text.proofs.hoa_texts.Gaps.{blank_passed, blank_place, blank_split, unit_follows}
 use Rattle.omega_text.proofs.hoa.token.next_hoa_token.Goals as goal
 

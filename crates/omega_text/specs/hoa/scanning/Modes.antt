@@ -1,4 +1,4 @@
--- How units are read byte by byte. Only contracts inside this crate speak of it.
+-- How units are read byte by byte.
 use Rattle.std.specs.Prelude.{◌≡◌, ◌<◌, ◌≤◌, take, drop, ℕ, zero, suc, ◌+◌, Option, Some, None, List, [], ◌∷◌, length, slice_index, if◌then◌else◌, ◌==◌}
 use Rattle.omega_text.specs.declared.hoa.kind.HoaKind.{HoaKind}
 use Rattle.omega_text.specs.declared.hoa.kind.HoaKind.TheVariants.{Identifier, HeaderName, AliasName, True, False, Int, String, Body, End, Abort, Not, And, Or, OpenParenthesis, CloseParenthesis, OpenBracket, CloseBracket, OpenBrace, CloseBrace}
