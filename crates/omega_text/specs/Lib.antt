@@ -8,5 +8,6 @@ pub mod Limits
 pub mod Reading
 pub mod Refusal
 pub mod Syntax
+pub mod hoa
 pub mod pg
 pub mod reader

@@ -4,6 +4,7 @@
 #![tactic(auto)]
 
 mod cursor;
+pub mod hoa;
 pub mod laws;
 mod limits;
 mod number;
@@ -18,6 +19,7 @@ mod token_reader;
 mod tokens;
 
 pub use cursor::Cursor;
+pub use hoa::{HoaKind, HoaTokenizer, PlacedToken, Settled, hoa_tokens, next_hoa_token};
 pub use limits::{MOST_NUMBER, MOST_TEXT};
 pub use number::write_number;
 pub use pg::{PgKind, next_pg_token, pg_tokens};

@@ -1,10 +1,10 @@
 //! PGSolver's texts, of games and of solutions, as tokens.
 
-mod bytes;
+pub(crate) mod bytes;
 mod format;
 mod kind;
 pub mod laws;
-mod token;
+pub(crate) mod token;
 mod tokens;
 
 pub use kind::PgKind;

@@ -4,6 +4,8 @@
 #[cfg(test)]
 mod cursor;
 #[cfg(test)]
+mod hoa;
+#[cfg(test)]
 mod number;
 #[cfg(test)]
 mod pg;

@@ -44,7 +44,7 @@ fn gap_end(source: &[u8], from: usize) -> usize
 }
 
 /// The bytes from a place on.
-fn tail(source: &[u8], from: usize) -> &[u8]
+pub(crate) fn tail(source: &[u8], from: usize) -> &[u8]
     requires { from ≤ length source.now }
     ensures { result.now ≡ drop from source.now }
 {
@@ -96,7 +96,7 @@ fn first_number(bytes: &[u8], place: usize) -> Result<Token<'_, PgKind>, TextFau
 
 /// How many bytes at the front are digits, and their value, or some value above the greatest number's where theirs is.
 #[inline(always)]
-fn front_digits(bytes: &[u8]) -> (usize, u64)
+pub(crate) fn front_digits(bytes: &[u8]) -> (usize, u64)
     ensures count { result.0 ≡ prefix_len is_digit bytes.now }
     ensures value { result.1 ≤ most_number → result.1 ≡ digits_value 10 (take result.0 bytes.now) }
     ensures great { most_number < result.1 → most_number < digits_value 10 (take result.0 bytes.now) }
@@ -114,7 +114,7 @@ fn front_digits(bytes: &[u8]) -> (usize, u64)
 }
 
 /// Whether the digits at the front begin with a zero and go on.
-fn has_needless_zero(bytes: &[u8], count: usize) -> bool
+pub(crate) fn has_needless_zero(bytes: &[u8], count: usize) -> bool
     requires { 0 < length bytes.now }
     ensures { MatchBool result
         ((slice_index bytes.now 0 ≡ 48) × (1 < count))

@@ -1,0 +1,64 @@
+-- What is settled of a text that comes byte by byte: what is so in whichever way the text goes on.
+use Rattle.std.specs.Prelude.{◌≡◌, ℕ, ◌-◌, ◌<◌, Option, Some, None, List, [], ◌∷◌, ◌++◌, length, take, drop}
+use Rattle.omega_text.specs.Cut.{Cuts, IsCut}
+use Rattle.omega_text.specs.Lexeme.{Lexeme}
+use Rattle.omega_text.specs.declared.hoa.kind.HoaKind.{HoaKind}
+use Rattle.omega_text.specs.declared.hoa.placed.PlacedToken.{PlacedToken}
+use Rattle.omega_text.specs.declared.hoa.placed.Settled.{Settled}
+use Rattle.omega_text.specs.declared.refusal.text.TextFault.{TextFault}
+use Rattle.omega_text.specs.hoa.Cut.{IsGap}
+use Rattle.omega_text.specs.hoa.Fault.{Faults}
+use Rattle.omega_text.specs.hoa.Format.{hoa_format}
+use Rattle.omega_text.specs.hoa.Forms.{IsUnit}
+
+-- a placed token of a text, with its bytes
+abbrev pub lexeme_in : List ℕ → PlacedToken → Lexeme HoaKind
+lexeme_in source token = record { kind = token.kind; text = take (token.span.end - token.span.start) (drop token.span.start source); value = token.value; span = token.span }
+
+-- the tokens of a text that may have been settled
+abbrev pub lexemes_in : List ℕ → Option PlacedToken → List (Lexeme HoaKind)
+lexemes_in source None = []
+lexemes_in source (Some token) = lexeme_in source token ∷ []
+
+-- the tokens of a text that were settled at once
+abbrev pub settled_lexemes : List ℕ → Settled → List (Lexeme HoaKind)
+settled_lexemes source settled = lexemes_in source settled.first ++ lexemes_in source settled.second
+
+-- some unit begins with these bytes and is longer
+pub record GoesOn (bytes : List ℕ) : Type 0 where
+  pub more : List ℕ
+  pub sort : Option HoaKind
+  pub longer : 0 < length more
+  pub unit : IsUnit sort (bytes ++ more)
+
+-- the cut begins with these tokens however the text goes on, and behind them is a gap and then what may be the beginning of a longer unit
+pub record Settles (seen : List ℕ) (lexemes : List (Lexeme HoaKind)) : Type 0 where
+  pub end : ℕ
+  pub gap : List ℕ
+  pub pending : List ℕ
+  pub cuts : (rest : List ℕ) → Cuts hoa_format (seen ++ rest) 0 lexemes end
+  pub split : drop end seen ≡ gap ++ pending
+  pub passed : IsGap gap
+  pub goes_on : GoesOn pending
+
+-- the text has this fault behind these tokens however it goes on
+pub record SettlesFault (seen : List ℕ) (lexemes : List (Lexeme HoaKind)) (fault : TextFault) : Type 0 where
+  pub end : ℕ
+  pub cuts : (rest : List ℕ) → Cuts hoa_format (seen ++ rest) 0 lexemes end
+  pub faults : (rest : List ℕ) → Faults (seen ++ rest) end fault
+
+-- what is settled, with the fault if there is one
+abbrev pub IsSettled : Option TextFault → List ℕ → List (Lexeme HoaKind) → Type 0
+IsSettled None seen lexemes = Settles seen lexemes
+IsSettled (Some fault) seen lexemes = SettlesFault seen lexemes fault
+
+-- the text has this fault behind these tokens
+pub record FaultsBehind (source : List ℕ) (lexemes : List (Lexeme HoaKind)) (fault : TextFault) : Type 0 where
+  pub end : ℕ
+  pub cuts : Cuts hoa_format source 0 lexemes end
+  pub faults : Faults source end fault
+
+-- the tokens are the text's, or those before its fault
+abbrev pub IsFinished : Option TextFault → List ℕ → List (Lexeme HoaKind) → Type 0
+IsFinished None source lexemes = IsCut hoa_format source lexemes
+IsFinished (Some fault) source lexemes = FaultsBehind source lexemes fault

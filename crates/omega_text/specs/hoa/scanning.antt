@@ -1,0 +1,4 @@
+-- How units are read byte by byte. Only contracts inside this crate look into it.
+pub mod Modes
+pub mod Reading
+pub mod Unfinished

@@ -1,0 +1,18 @@
+//! Texts in the Hanoi format, of automata and of streams of them, as tokens.
+
+mod format;
+mod kind;
+pub mod laws;
+mod mode;
+mod pending;
+mod placed;
+mod token;
+mod tokenizer;
+mod tokens;
+mod unit;
+
+pub use kind::HoaKind;
+pub use placed::{PlacedToken, Settled};
+pub use token::next_hoa_token;
+pub use tokenizer::HoaTokenizer;
+pub use tokens::hoa_tokens;

@@ -1,0 +1,332 @@
+ghost use Rattle.std.specs.Prelude.{◌≡◌, ◌^◌, ◌-◌, ◌<◌, length};
+ghost use Rattle.omega_text.specs.hoa.Forms.{spelling};
+ghost use Rattle.omega_text.specs.hoa.scanning.Modes.{alias_mode, bracket_kind, closed_mode, comment_mode, dash_mode, dashes_mode, digits_mode, first_mode, letter_kind, mark_mode, marked, next_mode, quoted_mode, sign_kind, slash_mode, slashed_mode, star_mode, whole, word_mode};
+
+use super::kind::{HoaKind, spelling};
+use crate::pg::bytes::{is_letter, is_white, is_word_byte};
+
+/// How far a token, or a part of a gap, has been read.
+#[derive(Clone, Copy, Debug, PartialEq, Eq)]
+pub(crate) enum Mode {
+    /// Nothing of it.
+    Start,
+    /// A word, which is a token of this kind if it ends here.
+    Word(HoaKind),
+    /// `@`.
+    At,
+    /// `@` and the beginning of a name.
+    Alias,
+    /// Digits.
+    Digits,
+    /// A string without its second quote.
+    Quoted,
+    /// The same, with a backslash as its last byte, which takes the next byte with it.
+    Escaped,
+    /// `/`, which begins a comment.
+    Slash,
+    /// A comment without its end, inside so many others.
+    Comment(usize),
+    /// The same, with `*` as its last byte, which may end the innermost comment.
+    Star(usize),
+    /// The same, with `/` as its last byte, which may begin a comment.
+    Slashed(usize),
+    /// `-`.
+    Dash,
+    /// `--`.
+    Dashes,
+    /// So many bytes of a mark.
+    Mark(HoaKind, usize),
+    /// A whole token of this kind, which no byte can make longer.
+    Whole(HoaKind),
+    /// A white byte or a whole comment.
+    Blank,
+}
+
+impl Mode {
+    ghost use Rattle.omega_text.specs.hoa.scanning.Modes.{IsWithin, next_mode, unit_of};
+
+    /// How far it has been read with one more byte, or none if no unit goes on so.
+    pub(crate) fn next(self, byte: u8) -> Option<Mode>
+        requires { IsWithin (2 ^ 64 - 1) self }
+        ensures { result ≡ next_mode self byte }
+    {
+        match self {
+            Mode::Start => first_mode(byte),
+            Mode::Word(_) => word_mode(byte),
+            Mode::At | Mode::Alias => alias_mode(byte),
+            Mode::Digits => digits_mode(byte),
+            Mode::Quoted => Some(quoted_mode(byte)),
+            Mode::Escaped => Some(Mode::Quoted),
+            Mode::Slash => slash_mode(byte),
+            Mode::Comment(around) => Some(comment_mode(around, byte)),
+            Mode::Star(around) => Some(star_mode(around, byte)),
+            Mode::Slashed(around) => Some(slashed_mode(around, byte)),
+            Mode::Dash => dash_mode(byte),
+            Mode::Dashes => dashes_mode(byte),
+            Mode::Mark(kind, count) => mark_byte_mode(kind, count, byte),
+            Mode::Whole(_) | Mode::Blank => None,
+        }
+    }
+
+    /// The unit that has been read, if it may end here: a token of a kind, or a part of a gap.
+    pub(crate) fn unit(self) -> Option<Option<HoaKind>>
+        ensures { result ≡ unit_of self }
+    {
+        match self {
+            Mode::Word(kind) | Mode::Whole(kind) => Some(Some(kind)),
+            Mode::Alias => Some(Some(HoaKind::AliasName)),
+            Mode::Digits => Some(Some(HoaKind::Int)),
+            Mode::Blank => Some(None),
+            _ => None,
+        }
+    }
+}
+
+/// What a byte begins.
+fn first_mode(byte: u8) -> Option<Mode>
+    ensures { result ≡ first_mode byte }
+{
+    if is_white(byte) {
+        Some(Mode::Blank)
+    } else if is_letter(byte) {
+        Some(Mode::Word(letter_kind(byte)))
+    } else if byte.is_ascii_digit() {
+        Some(Mode::Digits)
+    } else {
+        mark_mode(byte)
+    }
+}
+
+/// The kind of a word of one letter.
+pub(crate) fn letter_kind(byte: u8) -> HoaKind
+    ensures { result ≡ letter_kind byte }
+{
+    if byte == b't' {
+        HoaKind::True
+    } else if byte == b'f' {
+        HoaKind::False
+    } else {
+        HoaKind::Identifier
+    }
+}
+
+/// What a byte begins that is neither white, a letter nor a digit.
+fn mark_mode(byte: u8) -> Option<Mode>
+    ensures { result ≡ mark_mode byte }
+{
+    if byte == b'"' {
+        Some(Mode::Quoted)
+    } else if byte == b'@' {
+        Some(Mode::At)
+    } else if byte == b'-' {
+        Some(Mode::Dash)
+    } else if byte == b'/' {
+        Some(Mode::Slash)
+    } else {
+        sign_mode(byte)
+    }
+}
+
+fn sign_mode(byte: u8) -> Option<Mode>
+    ensures { result ≡ whole (sign_kind byte) }
+{
+    match sign_kind(byte) {
+        Some(kind) => Some(Mode::Whole(kind)),
+        None => None,
+    }
+}
+
+/// The sign that a byte is.
+pub(crate) fn sign_kind(byte: u8) -> Option<HoaKind>
+    ensures { result ≡ sign_kind byte }
+{
+    if byte == b'!' {
+        Some(HoaKind::Not)
+    } else if byte == b'&' {
+        Some(HoaKind::And)
+    } else if byte == b'|' {
+        Some(HoaKind::Or)
+    } else {
+        bracket_kind(byte)
+    }
+}
+
+fn bracket_kind(byte: u8) -> Option<HoaKind>
+    ensures { result ≡ bracket_kind byte }
+{
+    if byte == b'(' {
+        Some(HoaKind::OpenParenthesis)
+    } else if byte == b')' {
+        Some(HoaKind::CloseParenthesis)
+    } else if byte == b'[' {
+        Some(HoaKind::OpenBracket)
+    } else if byte == b']' {
+        Some(HoaKind::CloseBracket)
+    } else if byte == b'{' {
+        Some(HoaKind::OpenBrace)
+    } else if byte == b'}' {
+        Some(HoaKind::CloseBrace)
+    } else {
+        None
+    }
+}
+
+/// Behind the beginning of a word.
+fn word_mode(byte: u8) -> Option<Mode>
+    ensures { result ≡ word_mode byte }
+{
+    if is_word_byte(byte) {
+        Some(Mode::Word(HoaKind::Identifier))
+    } else if byte == b':' {
+        Some(Mode::Whole(HoaKind::HeaderName))
+    } else {
+        None
+    }
+}
+
+/// Behind `@`, and behind the beginning of a name that follows it.
+fn alias_mode(byte: u8) -> Option<Mode>
+    ensures { result ≡ alias_mode byte }
+{
+    if is_word_byte(byte) {
+        Some(Mode::Alias)
+    } else {
+        None
+    }
+}
+
+/// Behind digits.
+fn digits_mode(byte: u8) -> Option<Mode>
+    ensures { result ≡ digits_mode byte }
+{
+    if byte.is_ascii_digit() {
+        Some(Mode::Digits)
+    } else {
+        None
+    }
+}
+
+/// Between the quotes of a string.
+fn quoted_mode(byte: u8) -> Mode
+    ensures { result ≡ quoted_mode byte }
+{
+    if byte == b'"' {
+        Mode::Whole(HoaKind::String)
+    } else if byte == b'\\' {
+        Mode::Escaped
+    } else {
+        Mode::Quoted
+    }
+}
+
+/// Behind `/`.
+fn slash_mode(byte: u8) -> Option<Mode>
+    ensures { result ≡ slash_mode byte }
+{
+    if byte == b'*' {
+        Some(Mode::Comment(0))
+    } else {
+        None
+    }
+}
+
+/// In a comment.
+fn comment_mode(around: usize, byte: u8) -> Mode
+    ensures { result ≡ comment_mode around byte }
+{
+    if byte == b'*' {
+        Mode::Star(around)
+    } else if byte == b'/' {
+        Mode::Slashed(around)
+    } else {
+        Mode::Comment(around)
+    }
+}
+
+/// In a comment, behind `*`.
+fn star_mode(around: usize, byte: u8) -> Mode
+    ensures { result ≡ star_mode around byte }
+{
+    if byte == b'/' {
+        closed_mode(around)
+    } else if byte == b'*' {
+        Mode::Star(around)
+    } else {
+        Mode::Comment(around)
+    }
+}
+
+/// Behind the end of a comment that stands inside so many others.
+fn closed_mode(around: usize) -> Mode
+    ensures { result ≡ closed_mode around }
+{
+    if around == 0 {
+        Mode::Blank
+    } else {
+        Mode::Comment(around - 1)
+    }
+}
+
+/// In a comment, behind `/`.
+fn slashed_mode(around: usize, byte: u8) -> Mode
+    requires { around < 2 ^ 64 - 1 }
+    ensures { result ≡ slashed_mode around byte }
+{
+    if byte == b'*' {
+        Mode::Comment(around + 1)
+    } else if byte == b'/' {
+        Mode::Slashed(around)
+    } else {
+        Mode::Comment(around)
+    }
+}
+
+/// Behind `-`.
+fn dash_mode(byte: u8) -> Option<Mode>
+    ensures { result ≡ dash_mode byte }
+{
+    if byte == b'-' {
+        Some(Mode::Dashes)
+    } else {
+        None
+    }
+}
+
+/// Behind `--`.
+fn dashes_mode(byte: u8) -> Option<Mode>
+    ensures { result ≡ dashes_mode byte }
+{
+    if byte == b'B' {
+        Some(Mode::Mark(HoaKind::Body, 3))
+    } else if byte == b'E' {
+        Some(Mode::Mark(HoaKind::End, 3))
+    } else if byte == b'A' {
+        Some(Mode::Mark(HoaKind::Abort, 3))
+    } else {
+        None
+    }
+}
+
+/// Behind so many bytes of a mark.
+fn mark_byte_mode(kind: HoaKind, count: usize, byte: u8) -> Option<Mode>
+    requires { count < length (spelling kind) }
+    ensures { result ≡ next_mode (Mode.Mark kind count) byte }
+{
+    let text = spelling(kind);
+    if byte == text[count] {
+        Some(marked(kind, count + 1))
+    } else {
+        None
+    }
+}
+
+/// A mark of which so many bytes were read.
+fn marked(kind: HoaKind, count: usize) -> Mode
+    ensures { result ≡ marked kind count }
+{
+    if count == spelling(kind).len() {
+        Mode::Whole(kind)
+    } else {
+        Mode::Mark(kind, count)
+    }
+}

@@ -1,0 +1,62 @@
+ghost use Rattle.std.specs.Prelude.{◌≡◌, ◌+◌, ◌<◌, ◌≤◌, ◌^◌, drop, take, length, IfErr, IfNone, IfOk, IfSome};
+ghost use Rattle.omega_text.specs.Format.{IsLexical, IsPartBehind};
+ghost use Rattle.omega_text.specs.Lexeme.{lexeme_at, lexeme_of};
+ghost use Rattle.omega_text.specs.hoa.Cut.{Ends, Follows};
+ghost use Rattle.omega_text.specs.hoa.Fault.{Faults};
+
+use super::kind::HoaKind;
+use super::unit::first_unit;
+use crate::pg::token::tail;
+use crate::refusal::TextFault;
+use crate::token::{Span, Token};
+
+/// The next token of a Hanoi text from a place on, or none where only a gap is left.
+///
+/// White space and comments before the token are skipped. A fault is 1 or 2, at the least place from there. No memory is
+/// taken, and each byte up to the end of the token is looked at once, the one behind it perhaps too.
+#[inline(always)]
+pub fn next_hoa_token(source: &[u8], at: usize) -> Result<Option<Token<'_, HoaKind>>, TextFault>
+    requires { at ≤ length source.now }
+    ensures token { IfOk result (λ found. IfSome found (λ token. Follows source.now at (lexeme_of token))) }
+    ensures end { IfOk result (λ found. IfNone found (Ends source.now at)) }
+    ensures fault { IfErr result (Faults source.now at) }
+    ensures lexical { IfErr result IsLexical }
+    ensures progress { IfOk result (λ found. IfSome found (λ token. IsPartBehind source.now at token.span)) }
+{
+    let mut start = at;
+    while start < source.len() {
+        let bytes = tail(source, start);
+        let unit = first_unit(bytes, start)?;
+        match unit.kind {
+            Some(kind) => {
+                let token = front_token(bytes, start, kind, unit.value, unit.count);
+                return Ok(Some(token));
+            }
+            None => start += unit.count,
+        }
+    }
+    Ok(None)
+}
+
+/// The token of a kind and value that the first bytes are.
+fn front_token(
+    bytes: &[u8],
+    place: usize,
+    kind: HoaKind,
+    value: u32,
+    count: usize,
+) -> Token<'_, HoaKind>
+    requires within { count ≤ length bytes.now }
+    requires room { place + length bytes.now < 2 ^ 64 }
+    ensures { lexeme_of result ≡ lexeme_at place kind value (take count bytes.now) }
+{
+    Token {
+        text: &bytes[..count],
+        span: Span {
+            start: place,
+            end: place + count,
+        },
+        value,
+        kind,
+    }
+}

@@ -1,0 +1,138 @@
+ghost use Rattle.std.specs.Prelude.{◌≡◌, ◌<◌, ◌-◌, ◌^◌, [], ◌∷◌, ◌++◌, ℕ, List, None, Some, length};
+ghost use Rattle.omega_text.specs.Lexeme.{Lexeme};
+ghost use Rattle.omega_text.specs.declared.hoa.kind.HoaKind.{HoaKind};
+ghost use Rattle.omega_text.specs.hoa.scanning.Modes.{next_mode};
+ghost use Rattle.omega_text.specs.hoa.Pieces.{IsFinished, IsSettled, settled_lexemes};
+ghost use Rattle.omega_text.specs.hoa.scanning.Reading.{Any, IsAt, IsKept, IsOnWay};
+
+use super::mode::Mode;
+use super::pending::Pending;
+use super::placed::{PlacedToken, Settled};
+use crate::refusal::TextFault;
+
+/// Cuts a Hanoi text that comes byte by byte, in pieces of any length, into the tokens that `hoa_tokens` gives of the whole.
+///
+/// It keeps a few words and takes no memory. A token is settled by the first byte that is not part of it, or at the end;
+/// signs, marks, header names and strings by their last byte. A fault is settled by the first byte that rules out a token,
+/// that of a number when its digits have ended, that of a string or comment without end at the end. Behind a fault nothing
+/// more is settled.
+#[derive(Clone, Copy, Debug, PartialEq, Eq)]
+pub struct HoaTokenizer {
+    pending: Pending,
+    /// How many bytes were read.
+    place: usize,
+    fault: Option<TextFault>,
+}
+
+impl HoaTokenizer {
+    ghost use Rattle.omega_text.specs.hoa.scanning.Reading.{HasRead, IsReading};
+
+    /// Before the first byte.
+    pub fn new() -> HoaTokenizer
+        ensures { HasRead [] [] result }
+    {
+        HoaTokenizer {
+            pending: Pending::new(0),
+            place: 0,
+            fault: None,
+        }
+    }
+
+    /// Reads one byte, and gives what it settles.
+    pub fn step(&mut self, byte: u8) -> Settled
+        requires { IsReading self.old }
+        ensures reads { (seen : List ℕ) (lexemes : List (Lexeme HoaKind)) → HasRead seen lexemes self.old
+            → HasRead (seen ++ byte ∷ []) (lexemes ++ settled_lexemes (seen ++ byte ∷ []) result) self.new }
+        ensures settles { (seen : List ℕ) (lexemes : List (Lexeme HoaKind)) → HasRead seen lexemes self.old
+            → IsSettled result.fault (seen ++ byte ∷ []) (lexemes ++ settled_lexemes (seen ++ byte ∷ []) result) }
+    {
+        let place = self.place;
+        self.place = place + 1;
+        match self.fault {
+            Some(fault) => settled(None, None, Some(fault)),
+            None => {
+                let (pending, settled) = read_byte(self.pending, place, byte);
+                self.pending = pending;
+                self.fault = settled.fault;
+                settled
+            }
+        }
+    }
+
+    /// What is settled where the text ends.
+    pub fn finish(&self) -> Settled
+        ensures { (seen : List ℕ) (lexemes : List (Lexeme HoaKind)) → HasRead seen lexemes self.now
+            → IsFinished result.fault seen (lexemes ++ settled_lexemes seen result) }
+    {
+        match self.fault {
+            Some(fault) => settled(None, None, Some(fault)),
+            None => end_of_text(self.pending, self.place),
+        }
+    }
+}
+
+fn settled(
+    first: Option<PlacedToken>,
+    second: Option<PlacedToken>,
+    fault: Option<TextFault>,
+) -> Settled
+    ensures first { result.first ≡ first }
+    ensures second { result.second ≡ second }
+    ensures fault { result.fault ≡ fault }
+{
+    Settled {
+        first,
+        second,
+        fault,
+    }
+}
+
+/// Reads one byte at a place: into the unit that is being read, if it goes on so.
+fn read_byte(pending: Pending, place: usize, byte: u8) -> (Pending, Settled)
+    requires { IsOnWay pending place }
+    ensures { (seen : List ℕ) (lexemes : List (Lexeme HoaKind)) → place ≡ length seen → IsAt Any seen lexemes pending
+        → IsKept result.1.fault (seen ++ byte ∷ []) (lexemes ++ settled_lexemes (seen ++ byte ∷ []) result.1) result.0 }
+{
+    match pending.mode.next(byte) {
+        Some(next) => {
+            let (after, token) = pending.grow(next, byte, place + 1);
+            (after, settled(None, token, None))
+        }
+        None => end_unit(pending, place, byte),
+    }
+}
+
+/// Reads one byte at a place where the unit before it has ended, and another begins.
+fn end_unit(pending: Pending, place: usize, byte: u8) -> (Pending, Settled)
+    requires { place < 2 ^ 64 - 1 }
+    ensures { (seen : List ℕ) (lexemes : List (Lexeme HoaKind)) → place ≡ length seen → IsAt Any seen lexemes pending → next_mode pending.mode byte ≡ None
+        → IsKept result.1.fault (seen ++ byte ∷ []) (lexemes ++ settled_lexemes (seen ++ byte ∷ []) result.1) result.0 }
+{
+    match pending.judge(place) {
+        Err(fault) => (pending, settled(None, None, Some(fault))),
+        Ok(token) => match Mode::Start.next(byte) {
+            None => {
+                let fault = TextFault::Lex { at: place };
+                (pending, settled(Some(token), None, Some(fault)))
+            }
+            Some(next) => {
+                let (after, second) = Pending::new(place).grow(next, byte, place + 1);
+                (after, settled(Some(token), second, None))
+            }
+        },
+    }
+}
+
+/// What is settled where the text ends at a place.
+fn end_of_text(pending: Pending, place: usize) -> Settled
+    ensures { (seen : List ℕ) (lexemes : List (Lexeme HoaKind)) → place ≡ length seen → IsAt Any seen lexemes pending
+        → IsFinished result.fault seen (lexemes ++ settled_lexemes seen result) }
+{
+    match pending.mode {
+        Mode::Start => settled(None, None, None),
+        _ => match pending.judge(place) {
+            Ok(token) => settled(Some(token), None, None),
+            Err(fault) => settled(None, None, Some(fault)),
+        },
+    }
+}

@@ -1,0 +1,135 @@
+ghost use Rattle.std.specs.Prelude.{◌≡◌, ◌<◌, ◌≤◌, ◌^◌, length, slice_index, true, false, None, Some, IfErr, IfOk};
+ghost use Rattle.omega_text.specs.hoa.Fault.{IsFaultOf};
+ghost use Rattle.omega_text.specs.hoa.scanning.Modes.{IsFirstUnit, IsScanned, sign_kind};
+ghost use Rattle.omega_text.specs.pg.Bytes.{is_digit, is_letter, is_white};
+
+use super::kind::HoaKind;
+use super::mode::{Mode, letter_kind, sign_kind};
+use crate::limits::MOST_NUMBER;
+use crate::pg::bytes::{is_letter, is_white, word_count};
+use crate::pg::token::{front_digits, has_needless_zero};
+use crate::refusal::TextFault;
+
+/// The longest unit that bytes begin with: a token, or a part of a gap, which has no kind.
+#[derive(Clone, Copy, Debug, PartialEq, Eq)]
+pub(crate) struct Unit {
+    pub(crate) kind: Option<HoaKind>,
+    pub(crate) value: u32,
+    /// How many bytes it has.
+    pub(crate) count: usize,
+}
+
+/// The unit that bytes begin with, which stand at a place of the text. A fault is 1 or 2 there.
+#[inline(always)]
+pub(crate) fn first_unit(bytes: &[u8], place: usize) -> Result<Unit, TextFault>
+    requires some { 0 < length bytes.now }
+    requires room { length bytes.now < 2 ^ 64 }
+    ensures unit { IfOk result (λ unit. IsFirstUnit bytes.now unit.kind unit.value unit.count) }
+    ensures fault { IfErr result (IsFaultOf bytes.now place) }
+{
+    let first = bytes[0];
+    if is_white(first) {
+        Ok(whole_byte(None))
+    } else if is_letter(first) {
+        Ok(first_word(bytes))
+    } else if first.is_ascii_digit() {
+        first_number(bytes, place)
+    } else if let Some(kind) = sign_kind(first) {
+        Ok(whole_byte(Some(kind)))
+    } else {
+        other_unit(bytes, place)
+    }
+}
+
+/// A unit of one byte.
+fn whole_byte(kind: Option<HoaKind>) -> Unit
+    ensures kind { result.kind ≡ kind }
+    ensures value { result.value ≡ 0 }
+    ensures count { result.count ≡ 1 }
+{
+    Unit {
+        kind,
+        value: 0,
+        count: 1,
+    }
+}
+
+/// The word that bytes begin with, with the colon that follows it directly.
+#[inline(always)]
+fn first_word(bytes: &[u8]) -> Unit
+    requires some { 0 < length bytes.now }
+    requires letter { is_letter (slice_index bytes.now 0) ≡ true }
+    ensures { IsFirstUnit bytes.now result.kind result.value result.count }
+{
+    let count = word_count(bytes);
+    if count < bytes.len() && bytes[count] == b':' {
+        return Unit {
+            kind: Some(HoaKind::HeaderName),
+            value: 0,
+            count: count + 1,
+        };
+    }
+    let kind = if count == 1 {
+        letter_kind(bytes[0])
+    } else {
+        HoaKind::Identifier
+    };
+    Unit {
+        kind: Some(kind),
+        value: 0,
+        count,
+    }
+}
+
+/// The number that bytes begin with: their whole run of digits is one, or is refused.
+#[inline(always)]
+fn first_number(bytes: &[u8], place: usize) -> Result<Unit, TextFault>
+    requires some { 0 < length bytes.now }
+    requires digit { is_digit (slice_index bytes.now 0) ≡ true }
+    ensures unit { IfOk result (λ unit. IsFirstUnit bytes.now unit.kind unit.value unit.count) }
+    ensures fault { IfErr result (IsFaultOf bytes.now place) }
+{
+    let (count, value) = front_digits(bytes);
+    if has_needless_zero(bytes, count) || value > MOST_NUMBER as u64 {
+        return Err(TextFault::Number { at: place });
+    }
+    Ok(Unit {
+        kind: Some(HoaKind::Int),
+        value: value as u32,
+        count,
+    })
+}
+
+/// Any other unit, byte by byte.
+fn other_unit(bytes: &[u8], place: usize) -> Result<Unit, TextFault>
+    requires some { 0 < length bytes.now }
+    requires room { length bytes.now < 2 ^ 64 }
+    requires no_digit { is_digit (slice_index bytes.now 0) ≡ false }
+    ensures unit { IfOk result (λ unit. IsFirstUnit bytes.now unit.kind unit.value unit.count) }
+    ensures fault { IfErr result (IsFaultOf bytes.now place) }
+{
+    let (count, mode) = scan(bytes);
+    match mode.unit() {
+        Some(kind) => Ok(Unit {
+            kind,
+            value: 0,
+            count,
+        }),
+        None => Err(TextFault::Lex { at: place }),
+    }
+}
+
+/// How many bytes at the front can be read as one unit or as its beginning, and how far they are one.
+fn scan(bytes: &[u8]) -> (usize, Mode)
+    requires { length bytes.now < 2 ^ 64 }
+    ensures { IsScanned bytes.now result.0 result.1 }
+{
+    let mut mode = Mode::Start;
+    for (count, byte) in bytes.iter().enumerate() {
+        match mode.next(*byte) {
+            Some(next) => mode = next,
+            None => return (count, mode),
+        }
+    }
+    (bytes.len(), mode)
+}

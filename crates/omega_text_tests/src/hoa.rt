@@ -1,0 +1,229 @@
+ghost use Rattle.std.specs.Prelude.{◌+◌, ◌<◌, ◌≤◌, ◌^◌, length, IfOk};
+ghost use Rattle.omega_text_tests.specs.Read.{HasReadTo};
+
+use omega_text::{HoaKind, HoaTokenizer, PlacedToken, Settled, TextFault, hoa_tokens};
+use std::alloc::{AllocError, Global};
+use std::test::Fail;
+
+type Part = (HoaKind, usize, usize);
+
+// Texts, the kinds and places of their tokens, and the number and the place of the fault behind them.
+const TEXTS: [(&[u8], &[Part], Option<(u32, usize)>); 42] = [
+    (b"", &[], None),
+    (b" \t\r\n", &[], None),
+    (b"t", &[(HoaKind::True, 0, 1)], None),
+    (b"f", &[(HoaKind::False, 0, 1)], None),
+    (b"true", &[(HoaKind::Identifier, 0, 4)], None),
+    (b"T", &[(HoaKind::Identifier, 0, 1)], None),
+    (b"t:", &[(HoaKind::HeaderName, 0, 2)], None),
+    (b"a--END--", &[(HoaKind::Identifier, 0, 8)], None),
+    (b"0--END--", &[(HoaKind::Int, 0, 1), (HoaKind::End, 1, 8)], None),
+    (b"9a", &[(HoaKind::Int, 0, 1), (HoaKind::Identifier, 1, 2)], None),
+    (b"--ENDX", &[], Some((1, 0))),
+    (b"--BODY----ABORT--", &[(HoaKind::Body, 0, 8), (HoaKind::Abort, 8, 17)], None),
+    (b"t --EN", &[(HoaKind::True, 0, 1)], Some((1, 2))),
+    (b"--BODYX-", &[], Some((1, 0))),
+    (b"-", &[], Some((1, 0))),
+    (b"HOA :", &[(HoaKind::Identifier, 0, 3)], Some((1, 4))),
+    (b"HOA:", &[(HoaKind::HeaderName, 0, 4)], None),
+    (b"acc-name:all", &[(HoaKind::HeaderName, 0, 9), (HoaKind::Identifier, 9, 12)], None),
+    (b"@", &[], Some((1, 0))),
+    (b"@ a", &[], Some((1, 0))),
+    (b"@a@-9", &[(HoaKind::AliasName, 0, 2), (HoaKind::AliasName, 2, 5)], None),
+    (b"/", &[], Some((1, 0))),
+    (b"t//", &[(HoaKind::True, 0, 1)], Some((1, 1))),
+    (b"/*/", &[], Some((1, 0))),
+    (b"/*/**/*/", &[], None),
+    (b"/***/f/**/t", &[(HoaKind::False, 5, 6), (HoaKind::True, 10, 11)], None),
+    (b" /* /* */ t", &[], Some((1, 1))),
+    (b"t /* */ */", &[(HoaKind::True, 0, 1)], Some((1, 8))),
+    (b"\"/*\"t", &[(HoaKind::String, 0, 4), (HoaKind::True, 4, 5)], None),
+    (b"/*\"*/t", &[(HoaKind::True, 5, 6)], None),
+    (b"\"a\\\"b\\\\\"1", &[(HoaKind::String, 0, 8), (HoaKind::Int, 8, 9)], None),
+    (b"\"\x00\xFF\n\"", &[(HoaKind::String, 0, 5)], None),
+    (b"f \"a\\\"", &[(HoaKind::False, 0, 1)], Some((1, 2))),
+    (b"\"", &[], Some((1, 0))),
+    (b"007", &[], Some((2, 0))),
+    (b"0 7", &[(HoaKind::Int, 0, 1), (HoaKind::Int, 2, 3)], None),
+    (b"2147483647", &[(HoaKind::Int, 0, 10)], None),
+    (b"t 2147483648", &[(HoaKind::True, 0, 1)], Some((2, 2))),
+    (b"99999999999999999999999999", &[], Some((2, 0))),
+    (
+        b"!&|()",
+        &[
+            (HoaKind::Not, 0, 1),
+            (HoaKind::And, 1, 2),
+            (HoaKind::Or, 2, 3),
+            (HoaKind::OpenParenthesis, 3, 4),
+            (HoaKind::CloseParenthesis, 4, 5),
+        ],
+        None,
+    ),
+    (
+        b"[]{}",
+        &[
+            (HoaKind::OpenBracket, 0, 1),
+            (HoaKind::CloseBracket, 1, 2),
+            (HoaKind::OpenBrace, 2, 3),
+            (HoaKind::CloseBrace, 3, 4),
+        ],
+        None,
+    ),
+    (b"x$ 00", &[(HoaKind::Identifier, 0, 1)], Some((1, 1))),
+];
+
+// Texts, and how many of their tokens are settled by each byte; 9 from the fault on.
+const SETTLED: [(&str, &[usize]); 12] = [
+    ("a b", &[0, 1, 1]),
+    ("ab:", &[0, 0, 1]),
+    ("t(0)", &[0, 2, 2, 4]),
+    ("\"a\\\"\"", &[0, 0, 0, 0, 1]),
+    ("--END--", &[0, 0, 0, 0, 0, 0, 1]),
+    ("--EX", &[0, 0, 0, 9]),
+    ("@ a", &[0, 9, 9]),
+    ("x$", &[0, 9]),
+    ("00 ", &[0, 0, 9]),
+    ("1/**/", &[0, 1, 1, 1, 1]),
+    ("1//", &[0, 1, 9]),
+    ("/* ", &[0, 0, 0]),
+];
+
+// What a tokenizer settles of a piece that begins at a place is put behind other tokens; the answer is its fault.
+fn read(
+    tokenizer: &mut HoaTokenizer,
+    place: usize,
+    piece: &[u8],
+    tokens: &mut Vec<PlacedToken>,
+) -> Result<Option<TextFault>, AllocError>
+    requires read { HasReadTo place tokenizer.old }
+    requires room { place + length piece.now < 2 ^ 60 }
+    ensures { IfOk result (λ _. HasReadTo (place + length piece.now) tokenizer.new) }
+{
+    let mut fault = None;
+    for byte in piece {
+        let settled = tokenizer.step(*byte);
+        keep(&settled, tokens)?;
+        fault = settled.fault;
+    }
+    Ok(fault)
+}
+
+fn keep(settled: &Settled, tokens: &mut Vec<PlacedToken>) -> Result<(), AllocError> {
+    if let Some(token) = settled.first {
+        tokens.push(token)?;
+    }
+    if let Some(token) = settled.second {
+        tokens.push(token)?;
+    }
+    Ok(())
+}
+
+// Whether a text that comes in two pieces is cut into these parts, with this fault behind them.
+fn is_cut_in_two(
+    alloc: Global,
+    pieces: (&[u8], &[u8]),
+    parts: &[Part],
+    fault: Option<(u32, usize)>,
+) -> Result<bool, AllocError>
+    requires { length pieces.0.now + length pieces.1.now < 2 ^ 60 }
+{
+    let (front, back) = pieces;
+    let mut tokens = Vec::new(alloc);
+    let mut tokenizer = HoaTokenizer::new();
+    read(&mut tokenizer, 0, front, &mut tokens)?;
+    read(&mut tokenizer, front.len(), back, &mut tokens)?;
+    let settled = tokenizer.finish();
+    keep(&settled, &mut tokens)?;
+    Ok(settled.fault.map(number_and_place) == fault && are_parts(tokens.as_slice(), parts))
+}
+
+// The first place at which a text is not cut into these parts if it comes in two pieces.
+fn wrong_cut(
+    alloc: Global,
+    text: &[u8],
+    parts: &[Part],
+    fault: Option<(u32, usize)>,
+) -> Result<Option<usize>, AllocError>
+    requires { length text.now < 2 ^ 59 }
+{
+    for cut in 0..text.len() + 1 {
+        if !is_cut_in_two(alloc, (&text[..cut], &text[cut..]), parts, fault)? {
+            return Ok(Some(cut));
+        }
+    }
+    Ok(None)
+}
+
+// The first byte by which not so many tokens are settled; 9 stands for a fault.
+fn wrong_byte(alloc: Global, text: &[u8], counts: &[usize]) -> Result<Option<usize>, AllocError>
+    requires { length text.now < 2 ^ 59 }
+{
+    for last in 0..text.len() {
+        let mut tokens = Vec::new(alloc);
+        let mut tokenizer = HoaTokenizer::new();
+        let fault = read(&mut tokenizer, 0, &text[..last + 1], &mut tokens)?;
+        let count = if fault.is_some() { 9 } else { tokens.len() };
+        if counts.get(last).copied() != Some(count) {
+            return Ok(Some(last));
+        }
+    }
+    Ok(None)
+}
+
+fn are_parts(tokens: &[PlacedToken], parts: &[Part]) -> bool {
+    tokens.len() == parts.len()
+        && tokens.iter().zip(parts.iter()).all(|(token, part)| is_part(token, part))
+}
+
+fn is_part(token: &PlacedToken, part: &Part) -> bool {
+    token.kind == part.0 && token.span.start == part.1 && token.span.end == part.2
+}
+
+fn number_and_place(fault: TextFault) -> (u32, usize) {
+    match fault {
+        TextFault::Lex { at } => (1, at),
+        TextFault::Number { at } => (2, at),
+        TextFault::Syntax { at } => (3, at),
+        TextFault::TooLong => (4, 0),
+    }
+}
+
+// Whether a text is cut into these parts, with this fault behind them.
+fn is_cut(alloc: Global, text: &[u8], parts: &[Part], fault: Option<(u32, usize)>) -> bool {
+    match hoa_tokens(alloc, text) {
+        Ok(tokens) => {
+            fault.is_none()
+                && tokens.len() == parts.len()
+                && tokens.iter().zip(parts.iter()).all(|(token, part)| {
+                    token.kind == part.0
+                        && token.span.start == part.1
+                        && token.span.end == part.2
+                })
+        }
+        Err(refusal) => match fault {
+            Some((number, place)) => refusal.number() == number && refusal.at() == Some(place),
+            None => false,
+        },
+    }
+}
+
+const LONGEST: usize = 100;
+
+#[test]
+fn texts_are_cut_whole_and_in_two_pieces(rt: HostRuntime) -> Result<(), Fail> {
+    for (text, parts, fault) in TEXTS.iter() {
+        assert_eq!(rt; text.len() < LONGEST, true);
+        assert_eq!(rt; is_cut(rt.alloc(), *text, *parts, *fault), true);
+        assert_eq!(rt; wrong_cut(rt.alloc(), *text, *parts, *fault)?, None);
+    }
+    Ok(())
+}
+
+#[test]
+fn each_token_is_settled_at_its_byte(rt: HostRuntime) -> Result<(), Fail> {
+    for (text, counts) in SETTLED.iter() {
+        assert_eq!(rt; text.len() < LONGEST, true);
+        assert_eq!(rt; wrong_byte(rt.alloc(), text.as_bytes(), *counts)?, None);
+    }
+    Ok(())
+}
