@@ -1,6 +1,6 @@
 -- Hanoi texts go on from each place in one way.
 use Rattle.std.proofs.Common.{ℕ, ◌+◌, List, ◌++◌, length, ap, arith, length-append, length-drop}
-use Rattle.omega_text.specs.Format.{IsExact, IsLexical, IsPartBehind}
+use Rattle.omega_text.specs.Format.{GoesOneWay, IsLexical, IsPartBehind}
 use Rattle.omega_text.specs.Lexeme.{Lexeme}
 use Rattle.omega_text.specs.declared.hoa.kind.HoaKind.{HoaKind}
 use Rattle.omega_text.specs.declared.refusal.text.TextFault.{TextFault}
@@ -31,7 +31,7 @@ follows_behind source from lexeme follows =
     let end = follows.end in
     record { forward = omega arith; nonempty = omega arith; within = omega arith }
 
-pub hoa_exact : IsExact hoa_format
+pub hoa_exact : GoesOneWay hoa_format
 hoa_exact = record {
   behind = follows_behind;
   lexical = λ source from fault faults. lexical faults.bytes (from + length faults.gap) fault faults.fault_there;
