@@ -1,0 +1,3 @@
+pub mod AccLemmas
+pub mod LabelLemmas
+pub mod RawLabelLemmas

@@ -1,0 +1,7 @@
+pub mod AccFields
+pub mod Acceptance
+pub mod Joins
+pub mod Label
+pub mod LabelFields
+pub mod RawLabel
+pub mod RawLabelFields

@@ -1,0 +1,61 @@
+ghost use Rattle.std.specs.Prelude.{◌≡◌};
+
+use omega_text::Seq;
+use std::marker::Model;
+
+/// A node of a label. Its parts stand before it.
+#[derive(Clone, Copy, Debug, PartialEq, Eq)]
+pub(crate) enum LabelNode {
+    Constant(bool),
+    Proposition(u32),
+    Not,
+    And,
+    Or,
+}
+
+/// A label without aliases and parentheses, at most 256 deep, in one allocation.
+///
+/// Contracts see its tree. Reading, comparing and dropping it need no recursion.
+#[derive(Debug, PartialEq, Eq, Drop)]
+pub struct Label {
+    nodes: Seq<LabelNode>,
+    depth: u32,
+}
+
+impl Model for Label {
+    ghost use Rattle.omega_acc.specs.Label.{LabelTree};
+    ghost use Rattle.omega_acc.specs.Label.{label_depth};
+    ghost use Rattle.omega_acc.specs.layout.Label.{IsLabel, label_code, postfix, tree_of};
+
+    ghost Value = { LabelTree };
+
+    ghost coded = { label_code };
+
+    ghost use Rattle.omega_acc.specs.layout.LabelFields.{label_given_back};
+
+    ghost view = { λ a. tree_of a.nodes };
+
+    ghost invariant = { λ a. IsLabel a.nodes a.depth };
+
+    ghost inverse = { λ tree. record { nodes = postfix tree; depth = label_depth tree } };
+
+    ghost inverse_ok = { label_given_back };
+}
+
+impl Label {
+    ghost use Rattle.omega_acc.specs.Label.{label_depth, label_size};
+
+    /// The count of its atoms and operators.
+    pub fn size(&self) -> usize
+        ensures { result ≡ label_size self.now }
+    {
+        self.nodes.len()
+    }
+
+    /// Its depth, at most 256.
+    pub fn depth(&self) -> u32
+        ensures { result ≡ label_depth self.now }
+    {
+        self.depth
+    }
+}
