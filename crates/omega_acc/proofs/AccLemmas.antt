@@ -34,3 +34,7 @@ pub acc_nodes-disjunction : (left right : AccTree) (one other both all : List Ac
     → all ≡ acc_postfix (disjunction left right)
 acc_nodes-disjunction left right one other both all is_left is_right joined ended =
     let regrouped = append_assoc (acc_postfix left) (acc_postfix right) (Or ∷ []) in cc
+
+-- formulas with the same nodes are the same
+pub acc_postfix-same : (one other : AccTree) → acc_postfix one ≡ acc_postfix other → one ≡ other
+acc_postfix-same one other same = sym (acc_tree_of-postfix one) ∙ (ap acc_tree_of same ∙ acc_tree_of-postfix other)

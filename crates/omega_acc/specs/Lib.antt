@@ -1,6 +1,9 @@
 pub mod Acceptance
 pub mod Depth
+pub mod Kind
+pub mod KindLaws
 pub mod Label
 pub mod Limits
+pub mod Names
 pub mod RawLabel
 pub mod layout

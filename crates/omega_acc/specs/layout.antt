@@ -1,5 +1,6 @@
 pub mod AccFields
 pub mod Acceptance
+pub mod Chain
 pub mod Joins
 pub mod Label
 pub mod LabelFields

@@ -48,6 +48,8 @@ impl Model for Acc {
 }
 
 impl Acc {
+    ghost use Rattle.omega_acc.specs.layout.Acceptance.{acc_postfix};
+
     /// `t` or `f`.
     pub fn constant(alloc: Global, value: bool) -> Result<Acc, Refusal>
         ensures ok { IfOk result (λ formula. formula ≡ constant_tree value) }
@@ -111,6 +113,13 @@ impl Acc {
         ensures limit { acc_depth self.now ≤ most_depth }
     {
         self.depth
+    }
+
+    /// Its nodes, parts before their operators.
+    pub(crate) fn nodes(&self) -> &[AccNode]
+        ensures { result.now ≡ acc_postfix self.now }
+    {
+        self.nodes.as_slice()
     }
 }
 

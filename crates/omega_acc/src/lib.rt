@@ -2,14 +2,24 @@
 #![tactic(auto)]
 
 mod acc;
+mod acc_name;
 mod depth;
+mod kind;
 mod label;
+mod laws;
 mod limits;
+mod priorities;
 mod raw_label;
+mod recognition;
 
 pub use acc::Acc;
+pub use acc_name::{AccName, Parameter};
+pub use kind::{AccKind, Order, Parity, ParityKind};
 pub use label::Label;
+pub use laws::{buchi_is_every_set, parity_is_priority};
 pub use limits::{
     MOST_BUCHI_SETS, MOST_DEPTH, MOST_MENTIONED, MOST_SIZE, expression_limits_are_stated,
 };
+pub use priorities::priority;
 pub use raw_label::RawLabel;
+pub use recognition::{acceptance_kind, parity_of};
