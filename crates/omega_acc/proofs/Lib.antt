@@ -5,3 +5,5 @@ pub mod KindLemmas
 pub mod LabelLemmas
 pub mod Parities
 pub mod RawLabelLemmas
+pub mod Valuations
+pub mod WordLemmas

@@ -6,4 +6,5 @@ pub mod Label
 pub mod Limits
 pub mod Names
 pub mod RawLabel
+pub mod Satisfiable
 pub mod layout

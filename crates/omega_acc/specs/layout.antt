@@ -6,3 +6,4 @@ pub mod Label
 pub mod LabelFields
 pub mod RawLabel
 pub mod RawLabelFields
+pub mod Words

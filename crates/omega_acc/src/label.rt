@@ -1,4 +1,4 @@
-ghost use Rattle.std.specs.Prelude.{◌≡◌};
+ghost use Rattle.std.specs.Prelude.{◌≡◌, ◌≤◌};
 
 use omega_text::Seq;
 use std::marker::Model;
@@ -44,6 +44,8 @@ impl Model for Label {
 
 impl Label {
     ghost use Rattle.omega_acc.specs.Label.{label_depth, label_size};
+    ghost use Rattle.omega_acc.specs.Limits.{most_depth};
+    ghost use Rattle.omega_acc.specs.layout.Label.{postfix};
 
     /// The count of its atoms and operators.
     pub fn size(&self) -> usize
@@ -57,5 +59,13 @@ impl Label {
         ensures { result ≡ label_depth self.now }
     {
         self.depth
+    }
+
+    /// Its nodes, parts before their operators.
+    pub(crate) fn nodes(&self) -> &[LabelNode]
+        ensures nodes { result.now ≡ postfix self.now }
+        ensures shallow { label_depth self.now ≤ most_depth }
+    {
+        self.nodes.as_slice()
     }
 }

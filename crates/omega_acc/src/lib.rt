@@ -8,9 +8,12 @@ mod kind;
 mod label;
 mod laws;
 mod limits;
+mod mentioned;
 mod priorities;
 mod raw_label;
 mod recognition;
+mod satisfying;
+mod words;
 
 pub use acc::Acc;
 pub use acc_name::{AccName, Parameter};
@@ -23,3 +26,4 @@ pub use limits::{
 pub use priorities::priority;
 pub use raw_label::RawLabel;
 pub use recognition::{acceptance_kind, parity_of};
+pub use satisfying::satisfiable;
