@@ -31,4 +31,4 @@ returns-clause-judged c =
     let count : c.len.result ≡ length (mentioned c.args.label.now) = c.len.ensures.len ∙ ap length c.requires in
     let blocks : 2 ^ (c.len.result - 6) ≡ 2 ^ (length (mentioned c.args.label.now) - 6) = ap (λ n. 2 ^ (n - 6)) count in
     absurd (some-block possible.0 c.args.label.now possible.1
-    (ap (λ found. word_of (word_among (valuation / 64) 0 found) c.args.label.now) (sym c.requires) ∙ c.loop-block.invariant (valuation / 64) (omega (arith, within, blocks, c.blocks-block-end.ensures, c.loop-block-test.false))))
+    (ap (λ found. word_of (word_among (valuation / 64) 0 found) c.args.label.now) (sym c.requires) ∙ c.loop-block.invariant (valuation / 64) (omega (arith, within, blocks, c.blocks-block-end.ensures, c.loop-block-test.false)))))
