@@ -1,5 +1,5 @@
 -- What a label means once each alias is replaced by its definition (HOA v1, aliases; formats, expressions).
-use Rattle.std.specs.Prelude.{◌≡◌, ℕ, ◌+◌, nat_lt, if◌then◌else◌, List, [], ◌∷◌, ◌++◌, Option, Some, None, option_map, max}
+use Rattle.std.specs.Prelude.{◌≡◌, ℕ, suc, ◌+◌, ◌<◌, ◌≤◌, length, slice_get, nat_lt, if◌then◌else◌, List, [], ◌∷◌, ◌++◌, Option, Some, None, option_map, max}
 use Rattle.std.specs.Coded.{Coded, code_by, coded_list, coded×, coded_ℕ}
 use Rattle.std.specs.Str.{bytes_eq}
 use Rattle.omega_text.specs.Cases.{never, or_automaton, or_memory}
@@ -91,11 +91,28 @@ pub record IsExpansion (definitions : List Defined) (raw : RawLabelTree) (tree :
   pub sound : fault_of (expansion definitions raw) ≡ None
   pub tree_is : option_map (λ meaning. meaning.tree) (expansion definitions raw) ≡ Some tree
 
+-- what the label means has no fault and this many tree nodes
+pub record IsExpanded (definitions : List Defined) (raw : RawLabelTree) (size : ℕ) : Type 0 where
+  pub sound : fault_of (expansion definitions raw) ≡ None
+  pub size_is : option_map (λ meaning. label_size meaning.tree) (expansion definitions raw) ≡ Some size
+
 -- a refusal by the fault of the meaning, or want of memory
 abbrev pub IsUnexpanded : List Defined → RawLabelTree → Refusal → Type 0
 IsUnexpanded definitions raw = or_automaton (λ fault. fault_of (expansion definitions raw) ≡ Some fault) (or_memory never)
 
--- the name is not among definitions
+-- the place of a name among definitions, or how many they are
 abbrev pub place_of : List Defined → List ℕ → ℕ
 place_of [] name = 0
-place_of (next ∷ rest) name = if bytes_eq name next.name then 0 else place_of rest name + 1
+place_of (next ∷ rest) name = if bytes_eq name next.name then 0 else suc (place_of rest name)
+
+-- one definition is put last
+abbrev pub IsAdded : List Defined → List ℕ → RawLabelTree → List Defined → Type 0
+IsAdded old name body new = (length old ≤ place_of old name) × (new ≡ old ++ record { name = name; body = body } ∷ [])
+
+-- the name is there, or want of memory
+abbrev pub IsRepeated : List Defined → List ℕ → Refusal → Type 0
+IsRepeated old name = or_automaton (λ fault. (fault ≡ Alias) × (place_of old name < length old)) (or_memory never)
+
+-- the body of the definition at a place
+abbrev pub IsBodyAt : List Defined → ℕ → RawLabelTree → Type 0
+IsBodyAt definitions place body = option_map (λ d. d.body) (slice_get definitions place) ≡ Some body

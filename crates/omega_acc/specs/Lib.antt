@@ -1,5 +1,6 @@
 pub mod Acceptance
 pub mod Depth
+pub mod Expanding
 pub mod Kind
 pub mod KindLaws
 pub mod Label
@@ -7,4 +8,5 @@ pub mod Limits
 pub mod Names
 pub mod RawLabel
 pub mod Satisfiable
+pub mod Writing
 pub mod layout

@@ -19,12 +19,10 @@ pub(crate) enum LabelNode {
 #[derive(Debug, PartialEq, Eq, Drop)]
 pub struct Label {
     nodes: Seq<LabelNode>,
-    depth: u32,
 }
 
 impl Model for Label {
     ghost use Rattle.omega_acc.specs.Label.{LabelTree};
-    ghost use Rattle.omega_acc.specs.Label.{label_depth};
     ghost use Rattle.omega_acc.specs.layout.Label.{IsLabel, label_code, postfix, tree_of};
 
     ghost Value = { LabelTree };
@@ -35,9 +33,9 @@ impl Model for Label {
 
     ghost view = { λ a. tree_of a.nodes };
 
-    ghost invariant = { λ a. IsLabel a.nodes a.depth };
+    ghost invariant = { λ a. IsLabel a.nodes };
 
-    ghost inverse = { λ tree. record { nodes = postfix tree; depth = label_depth tree } };
+    ghost inverse = { λ tree. record { nodes = postfix tree } };
 
     ghost inverse_ok = { label_given_back };
 }
@@ -45,7 +43,7 @@ impl Model for Label {
 impl Label {
     ghost use Rattle.omega_acc.specs.Label.{label_depth, label_size};
     ghost use Rattle.omega_acc.specs.Limits.{most_depth};
-    ghost use Rattle.omega_acc.specs.layout.Label.{postfix};
+    ghost use Rattle.omega_acc.specs.layout.Label.{IsLabel, postfix, tree_of};
 
     /// The count of its atoms and operators.
     pub fn size(&self) -> usize
@@ -54,11 +52,14 @@ impl Label {
         self.nodes.len()
     }
 
-    /// Its depth, at most 256.
-    pub fn depth(&self) -> u32
-        ensures { result ≡ label_depth self.now }
+    /// The label of nodes in postfix order.
+    pub(crate) fn of_nodes(nodes: Vec<LabelNode>) -> Label
+        requires { IsLabel nodes.items }
+        ensures { result ≡ tree_of nodes.items }
     {
-        self.depth
+        Label {
+            nodes: Seq::from_vec(nodes),
+        }
     }
 
     /// Its nodes, parts before their operators.

@@ -3,7 +3,10 @@
 
 mod acc;
 mod acc_name;
+mod aliases;
 mod depth;
+mod expansion;
+mod extents;
 mod kind;
 mod label;
 mod laws;
@@ -13,10 +16,14 @@ mod priorities;
 mod raw_label;
 mod recognition;
 mod satisfying;
+mod texts;
 mod words;
+mod writing;
 
 pub use acc::Acc;
 pub use acc_name::{AccName, Parameter};
+pub use aliases::Aliases;
+pub use expansion::{expand, expanded_size};
 pub use kind::{AccKind, Order, Parity, ParityKind};
 pub use label::Label;
 pub use laws::{buchi_is_every_set, parity_is_priority};
@@ -27,3 +34,7 @@ pub use priorities::priority;
 pub use raw_label::RawLabel;
 pub use recognition::{acceptance_kind, parity_of};
 pub use satisfying::satisfiable;
+pub use writing::{write_acc, write_label};
+
+#[cfg(test)]
+mod tests;

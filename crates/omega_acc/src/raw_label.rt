@@ -50,6 +50,8 @@ impl Model for RawLabel {
 }
 
 impl RawLabel {
+    ghost use Rattle.omega_acc.specs.layout.RawLabel.{alias_names, raw_postfix};
+
     /// `t` or `f`.
     pub fn constant(alloc: Global, value: bool) -> Result<RawLabel, Refusal>
         ensures ok { IfOk result (λ label. label ≡ constant_tree value) }
@@ -138,6 +140,20 @@ impl RawLabel {
             names: with_names(self.names, other.names)?,
             depth,
         })
+    }
+
+    /// Its nodes, parts before their operators.
+    pub(crate) fn nodes(&self) -> &[RawNode]
+        ensures { result.now ≡ raw_postfix self.now }
+    {
+        self.nodes.as_slice()
+    }
+
+    /// Its alias names from left to right, joined.
+    pub(crate) fn names(&self) -> &[u8]
+        ensures { result.now ≡ alias_names self.now }
+    {
+        self.names.as_slice()
     }
 }
 

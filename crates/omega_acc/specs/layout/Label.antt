@@ -66,8 +66,7 @@ tree_of-postfix tree =
 abbrev pub label_code : Coded LabelTree
 label_code = code_by (List LabelNode) (coded_list node.the_row.coded) postfix tree_of tree_of-postfix
 
--- nodes that are a tree in postfix order, with its depth, which is within the limit
-pub record IsLabel (nodes : List LabelNode) (deep : ℕ) : Type 0 where
+-- nodes that are a tree in postfix order, which is not too deep
+pub record IsLabel (nodes : List LabelNode) : Type 0 where
   pub flat : postfix (tree_of nodes) ≡ nodes
-  pub depth_is : label_depth (tree_of nodes) ≡ deep
-  pub shallow : deep ≤ most_depth
+  pub shallow : label_depth (tree_of nodes) ≤ most_depth

@@ -8,4 +8,4 @@ pub returns-clause-nodes : goal.returns-clause-nodes
 returns-clause-nodes c = c.as_slice.ensures ∙ (sym c.self.invariant.flat ∙ ap postfix c.self.view_is)
 
 pub returns-clause-shallow : goal.returns-clause-shallow
-returns-clause-shallow c = omega (arith, ap label_depth c.self.view_is, c.self.invariant.depth_is, c.self.invariant.shallow)
+returns-clause-shallow c = omega (arith, ap label_depth c.self.view_is, c.self.invariant.shallow)
