@@ -1,5 +1,5 @@
 -- Acceptance formulas in postfix order: what makes nodes a formula.
-use Rattle.std.proofs.Common.{◌≡◌, ℕ, ◌+◌, ◌≤◌, List, [], ◌∷◌, ◌++◌, max, ap, append_assoc, sym, ◌∙◌}
+use Rattle.std.proofs.Common.{◌≡◌, ℕ, ◌≤◌, List, [], ◌∷◌, ◌++◌, ap, append_assoc, sym, ◌∙◌}
 use Rattle.omega_acc.specs.Acceptance.{AccTree, acc_depth, conjunction, disjunction}
 use Rattle.omega_acc.specs.Limits.{most_depth}
 use Rattle.omega_acc.specs.layout.Acceptance.{IsAcc, acc_postfix, acc_tree_of, acc_tree_of-postfix}

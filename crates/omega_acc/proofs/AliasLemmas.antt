@@ -1,5 +1,5 @@
 -- The names of aliases as a set, and their places.
-use Rattle.std.proofs.Common.{◌≡◌, ℕ, ◌+◌, ◌<◌, ◌≤◌, zero, suc, Bool, true, false, cond, not, ltb, List, [], ◌∷◌, ◌++◌, Option, Some, None, length, map, get_or, ap, refl, sym, ◌∙◌, arith}
+use Rattle.std.proofs.Common.{◌≡◌, ℕ, ◌+◌, ◌<◌, ◌≤◌, zero, suc, Bool, true, false, cond, not, ltb, List, [], ◌∷◌, Option, Some, None, length, map, get_or, ap, refl, sym, ◌∙◌, arith}
 use Rattle.std.specs.List.{list_any, position, position_or_len}
 use Rattle.std.specs.Str.{bytes_eq}
 use Rattle.std.proofs.lemmas.Bool.{ltb-false, or_from}
@@ -70,7 +70,7 @@ module _ {K D : Type 0} (name_of : K → List ℕ) (defined_of : D → Defined) 
       → length definitions ≡ place_of (map defined_of definitions) name
   place-missing name keys definitions found same is none =
       let past = ltb-false (position_or_len (λ key. bytes_eq name (name_of key)) keys) (length keys)
-        (missing-at (ltb (position_or_len (λ key. bytes_eq name (name_of key)) keys) (length keys)) (position_or_len (λ key. bytes_eq name (name_of key)) keys) (sym is ∙ none)) in
+      (missing-at (ltb (position_or_len (λ key. bytes_eq name (name_of key)) keys) (length keys)) (position_or_len (λ key. bytes_eq name (name_of key)) keys) (sym is ∙ none)) in
       let counts : length keys ≡ length definitions = sym (length-map keys name_of) ∙ (ap length same ∙ length-map definitions (λ d. (defined_of d).name)) in
       omega (arith, position-place name keys definitions same, place_of-le (map defined_of definitions) name, length-map definitions defined_of)
 

@@ -12,7 +12,7 @@ every-occurs (suc zero) forever is set lt = let e : set ≡ 0 = omega arith in a
 every-occurs (suc (suc count)) forever is set lt =
     let parts = and_parts (accepts forever (buchi_formula (suc count))) (occurs forever false (suc count)) is in
     elim (cases_eq set (suc count)) [
-      inl same ↦ ap (occurs forever false) same ∙ parts.1
+      | inl same ↦ ap (occurs forever false) same ∙ parts.1
       | inr other ↦ every-occurs (suc count) forever parts.0 set (omega arith)
     ]
 

@@ -1,5 +1,5 @@
 -- Parity and generalized Büchi formulas in postfix order: what stands at their ends.
-use Rattle.std.proofs.Common.{◌≡◌, ◌↔◌, ℕ, zero, suc, Bool, true, false, cond, List, [], ◌∷◌, ◌++◌, ap, append_assoc, refl, subst, sym, ◌∙◌}
+use Rattle.std.proofs.Common.{◌≡◌, ◌↔◌, ℕ, suc, Bool, true, false, cond, List, [], ◌∷◌, ◌++◌, ap, append_assoc, refl, subst, sym, ◌∙◌}
 use Rattle.std.proofs.lemmas.List.{append_cancel_right}
 use Rattle.omega_acc.specs.Acceptance.{AccTree, conjunction, disjunction, fin, inf}
 use Rattle.omega_acc.specs.Kind.{buchi_formula, first_left, formula_of, has_parity, sets_left}
@@ -52,11 +52,12 @@ pub chain-middle : (order : Order) (parity : Parity) (count behind fewer : ℕ) 
     → (rest ≡ chain order parity count (suc behind)) ↔ (middle ≡ chain order parity count (suc fewer))
 chain-middle order parity count behind fewer rest others middle atom joining e first last atom_is joining_is =
     let ends = ends-at order parity count behind fewer e in
-    let shorter = ap (chain order parity count) e in
-    (λ same.
-      let tails : middle ++ joining ∷ [] ≡ chain order parity count behind ++ joining ∷ [] = cc in
-      append_cancel_right middle (chain order parity count behind) (joining ∷ []) tails ∙ sym shorter,
-    λ same. cc)
+    let shorter = ap (chain order parity count) e in (
+      λ same.
+          let tails : middle ++ joining ∷ [] ≡ chain order parity count behind ++ joining ∷ [] = cc in
+          append_cancel_right middle (chain order parity count behind) (joining ∷ []) tails ∙ sym shorter,
+      λ same. cc,
+    )
 
 -- nodes without the last end are no formula
 pub chain-unended : (order : Order) (parity : Parity) (count behind fewer : ℕ) (rest others : List AccNode) (atom joining : AccNode)
@@ -80,12 +81,13 @@ pub buchi-front : (set fewer : ℕ) (rest others front : List AccNode) → suc f
     → (rest ≡ acc_postfix (buchi_formula (suc set))) ↔ (front ≡ acc_postfix (buchi_formula (suc fewer)))
 buchi-front set fewer rest others front e last before =
     let ends = buchi-ends set fewer e in
-    let shorter = ap (λ n. acc_postfix (buchi_formula n)) e in
-    (λ same.
-      let both : others ++ And ∷ [] ≡ (acc_postfix (buchi_formula set) ++ Inf false set ∷ []) ++ And ∷ [] = cc in
-      let ones = append_cancel_right others (acc_postfix (buchi_formula set) ++ Inf false set ∷ []) (And ∷ []) both in
-      append_cancel_right front (acc_postfix (buchi_formula set)) (Inf false set ∷ []) (sym before ∙ ones) ∙ sym shorter,
-    λ same. cc)
+    let shorter = ap (λ n. acc_postfix (buchi_formula n)) e in (
+      λ same.
+          let both : others ++ And ∷ [] ≡ (acc_postfix (buchi_formula set) ++ Inf false set ∷ []) ++ And ∷ [] = cc in
+          let ones = append_cancel_right others (acc_postfix (buchi_formula set) ++ Inf false set ∷ []) (And ∷ []) both in
+          append_cancel_right front (acc_postfix (buchi_formula set)) (Inf false set ∷ []) (sym before ∙ ones) ∙ sym shorter,
+      λ same. cc,
+    )
 
 -- nodes without the last end are no formula
 pub buchi-unended : (set fewer : ℕ) (rest : List AccNode) → suc fewer ≡ set

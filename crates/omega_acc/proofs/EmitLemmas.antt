@@ -8,7 +8,6 @@ use Rattle.omega_acc.specs.Label as label
 use Rattle.omega_acc.specs.RawLabel.{RawLabelTree, alias, conjunction, constant, disjunction, group, negation, proposition}
 use Rattle.omega_acc.specs.layout.Emitting.{AllStand, emitted, nodes_of}
 use Rattle.omega_acc.specs.layout.Joins.{regrouped}
-use Rattle.omega_acc.specs.layout.Label.{postfix}
 use Rattle.omega_acc.specs.layout.RawLabel.{alias_names, raw_postfix}
 use Rattle.omega_acc.specs.declared.label.LabelNode.{LabelNode}
 use Rattle.omega_acc.specs.declared.label.LabelNode.TheVariants as plain
@@ -99,9 +98,10 @@ stand-postfix : (entries : List Entry) (tree : RawLabelTree) (names : List ℕ) 
     → AllStand entries names rest → AllStand entries (alias_names tree ++ names) (raw_postfix tree ++ rest)
 stand-postfix entries (constant value) names rest is all = all
 stand-postfix entries (proposition number) names rest is all = all
-stand-postfix entries (alias name) names rest is all =
-    (subst (λ front. IsSome (stands_for entries front)) (sym (take-append_seam name names)) (some-part in_parentheses (stands_for entries name) is),
-    subst (λ back. AllStand entries back rest) (sym (drop-append_seam name names)) all)
+stand-postfix entries (alias name) names rest is all = (
+  subst (λ front. IsSome (stands_for entries front)) (sym (take-append_seam name names)) (some-part in_parentheses (stands_for entries name) is),
+  subst (λ back. AllStand entries back rest) (sym (drop-append_seam name names)) all,
+)
 stand-postfix entries (negation part) names rest is all =
     subst (AllStand entries (alias_names part ++ names)) (sym (append_assoc (raw_postfix part) (Not ∷ []) rest))
     (stand-postfix entries part names (Not ∷ rest) (some-part negated (replaced entries part) is) all)
@@ -164,8 +164,8 @@ emitted-alias entries names more nodes place count d meaning before out whole wi
     ∙ (ap (λ ns. (before ++ nodes_of meaning) ++ emitted entries ns (drop (place + 1) nodes)) rest
     ∙ (append_assoc before (nodes_of meaning) (emitted entries (drop count names) (drop (place + 1) nodes))
     ∙ (ap (λ back. before ++ back)
-      (ap (λ m. nodes_of m ++ emitted entries (drop count names) (drop (place + 1) nodes)) (sym stands)
-      ∙ sym (emitted-at entries names nodes place (Alias count) d within here))
+    (ap (λ m. nodes_of m ++ emitted entries (drop count names) (drop (place + 1) nodes)) (sym stands)
+    ∙ sym (emitted-at entries names nodes place (Alias count) d within here))
     ∙ so_far)))
 
 -- parentheses put nothing out

@@ -1,8 +1,8 @@
 -- A meaning without fault, and the label of its nodes.
-use Rattle.std.proofs.Common.{◌≡◌, ℕ, ◌<◌, ◌≤◌, Bool, true, false, cond, ltb, List, [], ◌++◌, Option, Some, None, option_map, IsSome, ap, refl, sym, ◌∙◌, arith}
+use Rattle.std.proofs.Common.{◌≡◌, Bool, true, false, cond, ltb, List, Option, Some, None, option_map, IsSome, ap, refl, sym, ◌∙◌, arith}
 use Rattle.std.proofs.lemmas.Bool.{ltb-false}
 use Rattle.omega_text.specs.declared.refusal.automaton.AutomatonFault.{AutomatonFault}
-use Rattle.omega_text.specs.declared.refusal.automaton.AutomatonFault.TheVariants.{Alias, Expansion, TooDeep}
+use Rattle.omega_text.specs.declared.refusal.automaton.AutomatonFault.TheVariants.{Expansion, TooDeep}
 use Rattle.omega_acc.specs.Expanding.{Meaning, fault_of}
 use Rattle.omega_acc.specs.Label.{label_depth, label_size}
 use Rattle.omega_acc.specs.layout.Emitting.{nodes_of}

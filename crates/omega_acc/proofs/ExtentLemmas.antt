@@ -1,16 +1,16 @@
 -- The extent that nodes make is that of what their label means.
-use Rattle.std.proofs.Common.{◌≡◌, ℕ, ◌+◌, List, [], ◌∷◌, ◌++◌, Option, Some, None, option_map, length, max, min, take, drop, ap, append-nil, append_assoc, refl, sym, ◌∙◌, arith}
+use Rattle.std.proofs.Common.{◌≡◌, ℕ, List, [], ◌∷◌, ◌++◌, Option, Some, None, option_map, length, drop, ap, append-nil, append_assoc, refl, sym, ◌∙◌, arith}
 use Rattle.std.proofs.Math.Seq.{drop-append_seam, take-append_seam}
 use Rattle.omega_acc.specs.Expanding.{Entry, Meaning, both, in_parentheses, negated, replaced, stands_for}
 use Rattle.omega_acc.specs.Label.{LabelTree, label_size}
 use Rattle.omega_acc.specs.Label as label
 use Rattle.omega_acc.specs.RawLabel.{RawLabelTree, alias, conjunction, constant, disjunction, group, negation, proposition}
-use Rattle.omega_acc.specs.layout.Extents.{atom_extent, both_extents, deeper_extent, extent_named, extent_of, extents_behind, negated_extent, top_extent}
+use Rattle.omega_acc.specs.layout.Extents.{atom_extent, both_extents, deeper_extent, extent_named, extent_of, extents_behind, negated_extent}
 use Rattle.omega_acc.specs.layout.Joins.{regrouped}
 use Rattle.omega_acc.specs.layout.RawLabel.{alias_names, raw_postfix}
 use Rattle.omega_acc.specs.declared.extents.Extent.{Extent}
 use Rattle.omega_acc.specs.declared.raw_label.RawNode.{RawNode}
-use Rattle.omega_acc.specs.declared.raw_label.RawNode.TheVariants.{Alias, And, Group, Not, Or}
+use Rattle.omega_acc.specs.declared.raw_label.RawNode.TheVariants.{And, Group, Not, Or}
 
 -- the extent of a label, where names have these extents
 abbrev measured : (List ℕ → Option Extent) → RawLabelTree → Option Extent

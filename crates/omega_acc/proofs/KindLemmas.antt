@@ -1,7 +1,7 @@
 -- Parity formulas hold where the greatest priority is even: the deciding set, and what the formula and the priorities make of it.
-use Rattle.std.proofs.Common.{◌≡◌, ℕ, ◌+◌, ◌-◌, ◌%◌, ◌<◌, ◌≤◌, zero, suc, Bool, true, false, not, ◌&&◌, ◌||◌, eqb, List, [], ◌∷◌, length, map, max, min, ap, refl, sym, ◌∙◌, arith, eq-eqb, add-one, inl, inr}
+use Rattle.std.proofs.Common.{◌≡◌, ℕ, ◌+◌, ◌-◌, ◌<◌, ◌≤◌, zero, suc, true, false, not, ◌&&◌, ◌||◌, eqb, List, [], ◌∷◌, length, map, max, min, ap, refl, sym, ◌∙◌, arith, eq-eqb, add-one, inl, inr}
 use Rattle.std.specs.List.{All}
-use Rattle.std.proofs.lemmas.Bool.{and_left, cases_eq, cond_both, not_from_true, ne_eqb, or_from, or_left, or_right}
+use Rattle.std.proofs.lemmas.Bool.{cases_eq, cond_both, ne_eqb, or_from, or_left, or_right}
 use Rattle.omega_acc.specs.Acceptance.{accepts, fin, holds, inf, occurs, disjunction, conjunction}
 use Rattle.omega_acc.specs.Kind.{beyond, formula_of, greatest, has_parity, least_from, least_mark, priority_by, sets_left, without_sets}
 use Rattle.omega_acc.specs.declared.kind.Order.{Order}
@@ -16,9 +16,9 @@ use Rattle.omega_acc.proofs.Parities.{even-difference, even-not-odd, has_parity-
 holds-beyond : (marks : List ℕ) (set : ℕ) → beyond marks ≡ suc set → holds set marks ≡ true
 holds-beyond [] set e = absurd (omega arith)
 holds-beyond (mark ∷ marks) set e = elim (cases_eq mark set) [
-    inl same ↦ or_left (eqb mark set) (holds set marks) (eq-eqb mark set same)
-    | inr other ↦ or_right (eqb mark set) (holds set marks) (holds-beyond marks set (omega arith))
-  ]
+  | inl same ↦ or_left (eqb mark set) (holds set marks) (eq-eqb mark set same)
+  | inr other ↦ or_right (eqb mark set) (holds set marks) (holds-beyond marks set (omega arith))
+]
 
 -- no set from there on is held
 lacks-beyond : (marks : List ℕ) (set : ℕ) → beyond marks ≤ set → holds set marks ≡ false
@@ -34,9 +34,9 @@ most_beyond (marks ∷ forever) = max (beyond marks) (most_beyond forever)
 occurs-beyond : (forever : List (List ℕ)) (set : ℕ) → most_beyond forever ≡ suc set → occurs forever false set ≡ true
 occurs-beyond [] set e = absurd (omega arith)
 occurs-beyond (marks ∷ forever) set e = elim (cases_eq (beyond marks) (suc set)) [
-    inl same ↦ or_left (holds set marks) (occurs forever false set) (holds-beyond marks set same)
-    | inr other ↦ or_right (holds set marks) (occurs forever false set) (occurs-beyond forever set (omega arith))
-  ]
+  | inl same ↦ or_left (holds set marks) (occurs forever false set) (holds-beyond marks set same)
+  | inr other ↦ or_right (holds set marks) (occurs forever false set) (occurs-beyond forever set (omega arith))
+]
 
 misses-beyond : (forever : List (List ℕ)) (set : ℕ) → most_beyond forever ≤ set → occurs forever false set ≡ false
 misses-beyond [] set le = refl
@@ -54,9 +54,9 @@ least_mark-le count (mark ∷ marks) = omega (arith, least_mark-le count marks)
 holds-least : (count : ℕ) (marks : List ℕ) (set : ℕ) → set < count → least_mark count marks ≡ set → holds set marks ≡ true
 holds-least count [] set within e = absurd (omega arith)
 holds-least count (mark ∷ marks) set within e = elim (cases_eq mark set) [
-    inl same ↦ or_left (eqb mark set) (holds set marks) (eq-eqb mark set same)
-    | inr other ↦ or_right (eqb mark set) (holds set marks) (holds-least count marks set within (omega arith))
-  ]
+  | inl same ↦ or_left (eqb mark set) (holds set marks) (eq-eqb mark set same)
+  | inr other ↦ or_right (eqb mark set) (holds set marks) (holds-least count marks set within (omega arith))
+]
 
 -- no set below it is held
 lacks-least : (count : ℕ) (marks : List ℕ) (set : ℕ) → set < least_mark count marks → holds set marks ≡ false
@@ -76,9 +76,9 @@ lowest-le count (marks ∷ forever) = omega (arith, lowest-le count forever)
 occurs-lowest : (count : ℕ) (forever : List (List ℕ)) (set : ℕ) → set < count → lowest count forever ≡ set → occurs forever false set ≡ true
 occurs-lowest count [] set within e = absurd (omega arith)
 occurs-lowest count (marks ∷ forever) set within e = elim (cases_eq (least_mark count marks) set) [
-    inl same ↦ or_left (holds set marks) (occurs forever false set) (holds-least count marks set within same)
-    | inr other ↦ or_right (holds set marks) (occurs forever false set) (occurs-lowest count forever set within (omega arith))
-  ]
+  | inl same ↦ or_left (holds set marks) (occurs forever false set) (holds-least count marks set within same)
+  | inr other ↦ or_right (holds set marks) (occurs forever false set) (occurs-lowest count forever set within (omega arith))
+]
 
 misses-lowest : (count : ℕ) (forever : List (List ℕ)) (set : ℕ) → set < lowest count forever → occurs forever false set ≡ false
 misses-lowest count [] set lt = refl
@@ -125,21 +125,21 @@ max-value : (parity : Parity) (count left : ℕ) (forever : List (List ℕ)) →
 max-value parity count zero forever le =
     let none : 0 ≡ most_beyond forever = omega arith in max-without parity ∙ ap (λ n. not (has_parity parity n)) none
 max-value parity count (suc zero) forever le = elim (cases_eq (most_beyond forever) 1) [
-    inl same ↦
+  | inl same ↦
       value-held forever Max parity 0 [] (occurs-beyond forever 0 same)
       ∙ (sym (not-not (has_parity parity 0)) ∙ (ap not (sym (has_parity-suc parity 0)) ∙ ap (λ n. not (has_parity parity n)) (sym same)))
-    | inr other ↦
+  | inr other ↦
       let none : 0 ≡ most_beyond forever = omega arith in
       value-last forever Max parity 0 (misses-beyond forever 0 (omega arith)) ∙ ap (λ n. not (has_parity parity n)) none
-  ]
+]
 max-value parity count (suc (suc left)) forever le = elim (cases_eq (most_beyond forever) (suc (suc left))) [
-    inl same ↦
+  | inl same ↦
       value-held forever Max parity (suc left) (sets_left Max count (suc left)) (occurs-beyond forever (suc left) same)
       ∙ (sym (not-not (has_parity parity (suc left))) ∙ (ap not (sym (has_parity-suc parity (suc left))) ∙ ap (λ n. not (has_parity parity n)) (sym same)))
-    | inr other ↦
+  | inr other ↦
       value-passed forever Max parity (suc left) left (sets_left Max count left) (misses-beyond forever (suc left) (omega arith))
       ∙ max-value parity count (suc left) forever (omega arith)
-  ]
+]
 
 min-without : (parity : Parity) → without_sets Min parity ≡ has_parity parity 0
 min-without Even = refl
@@ -149,21 +149,21 @@ min-without Odd = refl
 min-value : (parity : Parity) (count left : ℕ) (forever : List (List ℕ)) → suc left ≤ count → count - suc left ≤ lowest count forever
     → accepts forever (formula_of Min parity (sets_left Min count (suc left))) ≡ has_parity parity (lowest count forever)
 min-value parity count zero forever within le = elim (cases_eq (lowest count forever) (count - 1)) [
-    inl same ↦
+  | inl same ↦
       value-held forever Min parity (count - 1) [] (occurs-lowest count forever (count - 1) (omega arith) same) ∙ ap (has_parity parity) (sym same)
-    | inr other ↦
+  | inr other ↦
       let at_count : suc (count - 1) ≡ lowest count forever = omega (arith, lowest-le count forever) in
       value-last forever Min parity (count - 1) (misses-lowest count forever (count - 1) (omega arith))
       ∙ (sym (has_parity-suc parity (count - 1)) ∙ ap (has_parity parity) at_count)
-  ]
+]
 min-value parity count (suc left) forever within le = elim (cases_eq (lowest count forever) (count - suc (suc left))) [
-    inl same ↦
+  | inl same ↦
       value-held forever Min parity (count - suc (suc left)) (sets_left Min count (suc left)) (occurs-lowest count forever (count - suc (suc left)) (omega arith) same)
       ∙ ap (has_parity parity) (sym same)
-    | inr other ↦
+  | inr other ↦
       value-passed forever Min parity (count - suc (suc left)) (count - suc left) (sets_left Min count left) (misses-lowest count forever (count - suc (suc left)) (omega arith))
       ∙ min-value parity count left forever (omega arith) (omega arith)
-  ]
+]
 
 min-value-all : (parity : Parity) (count : ℕ) (forever : List (List ℕ))
     → accepts forever (formula_of Min parity (sets_left Min count count)) ≡ has_parity parity (lowest count forever)

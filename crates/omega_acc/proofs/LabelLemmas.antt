@@ -1,5 +1,5 @@
 -- Labels in postfix order: their count of nodes, and what is kept of a label's nodes.
-use Rattle.std.proofs.Common.{◌≡◌, ◌+◌, List, [], ◌∷◌, ◌++◌, length, ap, refl, sym, ◌∙◌, arith, length-append}
+use Rattle.std.proofs.Common.{◌≡◌, ◌+◌, [], ◌∷◌, ◌++◌, length, ap, refl, ◌∙◌, arith, length-append}
 use Rattle.omega_acc.specs.Label.{LabelTree, conjunction, constant, disjunction, label_size, negation, proposition}
 use Rattle.omega_acc.specs.layout.Label.{postfix}
 use Rattle.omega_acc.specs.declared.label.LabelNode.TheVariants.{And, Not, Or}

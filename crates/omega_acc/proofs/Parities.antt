@@ -8,16 +8,16 @@ use Rattle.omega_acc.specs.declared.kind.Parity.TheVariants.{Even, Odd}
 -- two tests of numbers agree where the numbers do
 pub same-tests : (a b c d : ℕ) → (a ≡ b → c ≡ d) → (c ≡ d → a ≡ b) → eqb a b ≡ eqb c d
 same-tests a b c d forth back = elim (cases_eq a b) [
-    inl same ↦ eq-eqb a b same ∙ sym (eq-eqb c d (forth same))
-    | inr other ↦ ne_eqb a b other ∙ sym (ne_eqb c d (λ e. other (back e)))
-  ]
+  | inl same ↦ eq-eqb a b same ∙ sym (eq-eqb c d (forth same))
+  | inr other ↦ ne_eqb a b other ∙ sym (ne_eqb c d (λ e. other (back e)))
+]
 
 -- a test is the opposite of another where the numbers are
 pub opposite-tests : (a b c d : ℕ) → (a ≡ b → c ≡ d → ⊥) → ((a ≡ b → ⊥) → c ≡ d) → eqb a b ≡ not (eqb c d)
 opposite-tests a b c d forth back = elim (cases_eq a b) [
-    inl same ↦ eq-eqb a b same ∙ sym (ap not (ne_eqb c d (forth same)))
-    | inr other ↦ ne_eqb a b other ∙ sym (ap not (eq-eqb c d (back other)))
-  ]
+  | inl same ↦ eq-eqb a b same ∙ sym (ap not (ne_eqb c d (forth same)))
+  | inr other ↦ ne_eqb a b other ∙ sym (ap not (eq-eqb c d (back other)))
+]
 
 -- twice the opposite
 pub not-not : (b : Bool) → not (not b) ≡ b

@@ -1,5 +1,5 @@
 -- Aliases with one more, or as they were.
-use Rattle.std.proofs.Common.{◌≡◌, ℕ, false, cond, List, [], ◌∷◌, ◌++◌, Option, option_map, Result, Ok, Err, map, ap, refl, sym, ◌∙◌, Vec, OnOk, OnErr}
+use Rattle.std.proofs.Common.{◌≡◌, ℕ, false, cond, List, [], ◌∷◌, ◌++◌, option_map, Result, Ok, Err, map, ap, sym, ◌∙◌, Vec, OnOk, OnErr}
 use Rattle.std.specs.Global.{Global}
 use Rattle.std.specs.List.{list_any}
 use Rattle.std.specs.Str.{bytes_eq}
@@ -33,16 +33,16 @@ pub Keeps-push : (names new : List (List ℕ)) (items more : List Definition) (l
     → last.extent ≡ option_map extent_of (expansion (map defined_of items) last.body) → Keeps new more
 Keeps-push names new items more last keeps named pushed measured = record {
   named = named ∙ (ap (λ ns. ns ++ last.name ∷ []) keeps.named
-    ∙ (sym (map-append (λ (d : Definition). d.name) items (last ∷ [])) ∙ ap (map (λ (d : Definition). d.name)) (sym pushed)));
+      ∙ (sym (map-append (λ (d : Definition). d.name) items (last ∷ [])) ∙ ap (map (λ (d : Definition). d.name)) (sym pushed)));
   measured =
-    ap (map (λ (d : Definition). d.extent)) pushed
-    ∙ (map-append (λ (d : Definition). d.extent) items (last ∷ [])
-    ∙ (ap (λ xs. xs ++ last.extent ∷ []) keeps.measured
-    ∙ (ap (λ x. map (λ (entry : Entry). option_map extent_of entry.meaning) (entries_of [] (map defined_of items)) ++ x ∷ []) measured
-    ∙ (sym (map-append (λ (entry : Entry). option_map extent_of entry.meaning) (entries_of [] (map defined_of items)) (entry_of (entries_of [] (map defined_of items)) (defined_of last) ∷ []))
-    ∙ (ap (map (λ (entry : Entry). option_map extent_of entry.meaning)) (sym (entries_of-push [] (map defined_of items) (defined_of last)))
-    ∙ ap (λ ds. map (λ (entry : Entry). option_map extent_of entry.meaning) (entries_of [] ds))
-      (sym (map-append defined_of items (last ∷ [])) ∙ ap (map defined_of) (sym pushed)))))))
+      ap (map (λ (d : Definition). d.extent)) pushed
+      ∙ (map-append (λ (d : Definition). d.extent) items (last ∷ [])
+      ∙ (ap (λ xs. xs ++ last.extent ∷ []) keeps.measured
+      ∙ (ap (λ x. map (λ (entry : Entry). option_map extent_of entry.meaning) (entries_of [] (map defined_of items)) ++ x ∷ []) measured
+      ∙ (sym (map-append (λ (entry : Entry). option_map extent_of entry.meaning) (entries_of [] (map defined_of items)) (entry_of (entries_of [] (map defined_of items)) (defined_of last) ∷ []))
+      ∙ (ap (map (λ (entry : Entry). option_map extent_of entry.meaning)) (sym (entries_of-push [] (map defined_of items) (defined_of last)))
+      ∙ ap (λ ds. map (λ (entry : Entry). option_map extent_of entry.meaning) (entries_of [] ds))
+      (sym (map-append defined_of items (last ∷ [])) ∙ ap (map defined_of) (sym pushed)))))));
 }
 
 -- whichever way it went
@@ -55,5 +55,5 @@ Keeps-put (Ok done) names new items more last keeps named pushed same_names same
 Keeps-put (Err fault) names new items more last keeps named pushed same_names same_items measured = record {
   named = same_names ∙ (keeps.named ∙ ap (map (λ (d : Definition). d.name)) (sym same_items));
   measured = ap (map (λ (d : Definition). d.extent)) same_items
-    ∙ (keeps.measured ∙ ap (λ ds. map (λ (entry : Entry). option_map extent_of entry.meaning) (entries_of [] (map defined_of ds))) (sym same_items))
+      ∙ (keeps.measured ∙ ap (λ ds. map (λ (entry : Entry). option_map extent_of entry.meaning) (entries_of [] (map defined_of ds))) (sym same_items));
 }

@@ -1,5 +1,5 @@
 -- Labels as they are written in postfix order: what makes nodes and names a label.
-use Rattle.std.proofs.Common.{◌≡◌, ℕ, ◌+◌, ◌≤◌, List, [], ◌∷◌, ◌++◌, max, ap, append_assoc, sym, ◌∙◌}
+use Rattle.std.proofs.Common.{◌≡◌, ℕ, ◌≤◌, List, [], ◌∷◌, ◌++◌, ap, append_assoc, sym, ◌∙◌}
 use Rattle.omega_acc.specs.RawLabel.{RawLabelTree, conjunction, disjunction, group, negation, raw_depth}
 use Rattle.omega_acc.specs.Limits.{most_depth}
 use Rattle.omega_acc.specs.layout.RawLabel.{IsRawLabel, alias_names, raw_postfix, raw_tree_of, raw_tree_of-postfix}
@@ -25,7 +25,7 @@ IsRawLabel-of tree nodes names deep are depth_is shallow =
       flat = ap raw_postfix is ∙ sym are.flat;
       named = ap alias_names is ∙ sym are.named;
       depth_is = ap raw_depth is ∙ sym depth_is;
-      shallow = shallow
+      shallow = shallow;
     }
 
 -- a label's nodes and names are those of the tree that is seen

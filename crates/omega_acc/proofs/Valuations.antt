@@ -1,9 +1,9 @@
 -- Each set of propositions, as far as a label mentions them, is a lane of a block.
-use Rattle.std.proofs.Common.{◌≡◌, ℕ, ◌+◌, ◌-◌, ◌*◌, ◌/◌, ◌%◌, ◌^◌, ◌<◌, ◌≤◌, zero, suc, Bool, true, false, cond, eqb, ltb, List, [], ◌∷◌, ◌++◌, length, ap, refl, subst, sym, ◌∙◌, arith, inl, inr, lt-ltb, eq-eqb, length-append, add-zero, pow-suc, drop, drop-cons, get_or, not, ◌&&◌, ◌||◌}
+use Rattle.std.proofs.Common.{◌≡◌, ℕ, ◌+◌, ◌-◌, ◌*◌, ◌/◌, ◌%◌, ◌^◌, ◌<◌, ◌≤◌, zero, suc, Bool, true, false, cond, eqb, ltb, List, [], ◌∷◌, ◌++◌, length, ap, refl, sym, ◌∙◌, arith, inl, inr, lt-ltb, eq-eqb, length-append, add-zero, pow-suc, drop, drop-cons, get_or, not, ◌&&◌, ◌||◌}
 use Rattle.std.specs.Int.{bit_at}
 use Rattle.std.specs.List.{list_any}
 use Rattle.std.proofs.lemmas.Bool.{agree_below_at, cases_Bool, cases_lt, false≢true, cond-false, cond-true, cond_both, eqb-true, le-ltb, or_cases, or_left, or_right}
-use Rattle.std.proofs.lemmas.Nat.Bits.{bit_at-suc, bit_at-zero, bit_at_cat_high, bit_at_cat_low, bit_at_lowest, bit_at_ones}
+use Rattle.std.proofs.lemmas.Nat.Bits.{bit_at-suc, bit_at_cat_high, bit_at_cat_low, bit_at_lowest}
 use Rattle.omega_acc.specs.Label.{LabelTree, conjunction, constant, disjunction, negation, proposition, propositions, truth}
 use Rattle.omega_acc.specs.Satisfiable.{each_once, mentioned}
 use Rattle.omega_acc.specs.layout.Words.{mask, pattern, propositions_of, word_among, word_of, word_of_truth}
@@ -18,9 +18,9 @@ among number numbers = list_any (λ other. eqb other number) numbers
 among-left : (number : ℕ) (left right : List ℕ) → among number left ≡ true → among number (left ++ right) ≡ true
 among-left number [] right is = absurd (false≢true is)
 among-left number (next ∷ left) right is = elim (or_cases (eqb next number) (among number left) is) [
-    inl here ↦ or_left (eqb next number) (among number (left ++ right)) here
-    | inr there ↦ or_right (eqb next number) (among number (left ++ right)) (among-left number left right there)
-  ]
+  | inl here ↦ or_left (eqb next number) (among number (left ++ right)) here
+  | inr there ↦ or_right (eqb next number) (among number (left ++ right)) (among-left number left right there)
+]
 
 among-right : (number : ℕ) (left right : List ℕ) → among number right ≡ true → among number (left ++ right) ≡ true
 among-right number [] right is = is
@@ -50,13 +50,13 @@ seen-kept number seen (next ∷ rest) is =
 each-kept : (number : ℕ) (seen rest : List ℕ) → among number rest ≡ true → among number (each_once seen rest) ≡ true
 each-kept number seen [] is = absurd (false≢true is)
 each-kept number seen (next ∷ rest) is = elim (or_cases (eqb next number) (among number rest) is) [
-    inl here ↦
+  | inl here ↦
       seen-kept number (cond (among next seen) seen (seen ++ next ∷ [])) rest
       (cond_both (among next seen) seen (seen ++ next ∷ []) (λ numbers. among number numbers ≡ true)
       (λ old. ap (λ n. among n seen) (sym (eqb-true next number here)) ∙ old)
       (λ new. among-right number seen (next ∷ []) (or_left (eqb next number) false here)))
-    | inr there ↦ each-kept number (cond (among next seen) seen (seen ++ next ∷ [])) rest there
-  ]
+  | inr there ↦ each-kept number (cond (among next seen) seen (seen ++ next ∷ [])) rest there
+]
 
 -- no number is lost
 pub length-each_once : (seen rest : List ℕ) → length seen ≤ length (each_once seen rest)
@@ -64,7 +64,7 @@ length-each_once seen [] = omega arith
 length-each_once seen (next ∷ rest) =
     let more = length-each_once (cond (among next seen) seen (seen ++ next ∷ [])) rest in
     let longer : length seen ≤ length (cond (among next seen) seen (seen ++ next ∷ [])) =
-      cond_both (among next seen) seen (seen ++ next ∷ []) (λ numbers. length seen ≤ length numbers) (λ old. omega arith) (λ new. omega (arith, length-append seen (next ∷ []))) in
+    cond_both (among next seen) seen (seen ++ next ∷ []) (λ numbers. length seen ≤ length numbers) (λ old. omega arith) (λ new. omega (arith, length-append seen (next ∷ []))) in
     omega arith
 
 -- a number that is not among those seen makes one more
@@ -128,14 +128,14 @@ pattern-bit valuation place =
     let split : valuation ≡ valuation / 64 * 2 ^ 6 + valuation % 64 = omega arith in
     let within : valuation % 64 < 64 = omega arith in
     elim (cases_lt place 6) [
-      inl low ↦
-        ap (λ word. on word (valuation % 64)) (cond-true (ltb place 6) (mask place) (word_of_truth (on (valuation / 64) (place - 6))) (lt-ltb place 6 low))
-        ∙ (mask-bit place (valuation % 64) low within
-        ∙ (ap (λ bit. eqb bit 1) (sym (bit_at_cat_low (valuation / 64) 6 (valuation % 64) place low)) ∙ ap (λ n. on n place) (sym split)))
+      | inl low ↦
+          ap (λ word. on word (valuation % 64)) (cond-true (ltb place 6) (mask place) (word_of_truth (on (valuation / 64) (place - 6))) (lt-ltb place 6 low))
+          ∙ (mask-bit place (valuation % 64) low within
+          ∙ (ap (λ bit. eqb bit 1) (sym (bit_at_cat_low (valuation / 64) 6 (valuation % 64) place low)) ∙ ap (λ n. on n place) (sym split)))
       | inr high ↦
-        ap (λ word. on word (valuation % 64)) (cond-false (ltb place 6) (mask place) (word_of_truth (on (valuation / 64) (place - 6))) (le-ltb place 6 high))
-        ∙ (on-truth (on (valuation / 64) (place - 6)) (valuation % 64) within
-        ∙ (ap (λ bit. eqb bit 1) (sym (bit_at_cat_high (valuation / 64) 6 (valuation % 64) place within high)) ∙ ap (λ n. on n place) (sym split)))
+          ap (λ word. on word (valuation % 64)) (cond-false (ltb place 6) (mask place) (word_of_truth (on (valuation / 64) (place - 6))) (le-ltb place 6 high))
+          ∙ (on-truth (on (valuation / 64) (place - 6)) (valuation % 64) within
+          ∙ (ap (λ bit. eqb bit 1) (sym (bit_at_cat_high (valuation / 64) 6 (valuation % 64) place within high)) ∙ ap (λ n. on n place) (sym split)))
     ]
 
 -- a proposition's word has in that lane whether the proposition holds
@@ -145,19 +145,19 @@ word_among-bit : (held : ℕ → Bool) (valuation place : ℕ) (numbers : List �
 word_among-bit held valuation place [] number bits is = absurd (false≢true is)
 word_among-bit held valuation place (next ∷ rest) number bits is =
     elim (cases_Bool (eqb next number)) [
-      inl here ↦
-        ap (λ word. on word (valuation % 64)) (cond-true (eqb next number) (pattern (valuation / 64) place) (word_among (valuation / 64) (suc place) rest number) here)
-        ∙ (pattern-bit valuation place
-        ∙ (ap (λ n. on valuation n) (sym (add-zero place))
-        ∙ (ap (λ bit. eqb bit 1) (bits 0)
-        ∙ (number_of-lowest held next rest ∙ ap held (eqb-true next number here)))))
+      | inl here ↦
+          ap (λ word. on word (valuation % 64)) (cond-true (eqb next number) (pattern (valuation / 64) place) (word_among (valuation / 64) (suc place) rest number) here)
+          ∙ (pattern-bit valuation place
+          ∙ (ap (λ n. on valuation n) (sym (add-zero place))
+          ∙ (ap (λ bit. eqb bit 1) (bits 0)
+          ∙ (number_of-lowest held next rest ∙ ap held (eqb-true next number here)))))
       | inr other ↦
-        ap (λ word. on word (valuation % 64)) (cond-false (eqb next number) (pattern (valuation / 64) place) (word_among (valuation / 64) (suc place) rest number) other)
-        ∙ word_among-bit held valuation (suc place) rest number
-        (λ more.
+          ap (λ word. on word (valuation % 64)) (cond-false (eqb next number) (pattern (valuation / 64) place) (word_among (valuation / 64) (suc place) rest number) other)
+          ∙ word_among-bit held valuation (suc place) rest number
+          (λ more.
           let moved : suc place + more ≡ place + suc more = omega arith in
           ap (bit_at valuation) moved ∙ (bits (suc more) ∙ number_of-higher held next rest more))
-        (sym (ap (λ b. b || among number rest) other) ∙ is)
+          (sym (ap (λ b. b || among number rest) other) ∙ is)
     ]
 
 -- a label's truth under a set of propositions is its truth in that lane
@@ -166,9 +166,9 @@ pub truth-lane : (held : ℕ → Bool) (tree : LabelTree)
 truth-lane held tree =
     truth-agree (held_in (word_among (number_of held (mentioned tree) / 64) 0 (mentioned tree)) (number_of held (mentioned tree) % 64)) held tree
     (λ number is.
-      word_among-bit held (number_of held (mentioned tree)) 0 (mentioned tree) number
-      (λ more. let moved : 0 + more ≡ more = omega arith in ap (bit_at (number_of held (mentioned tree))) moved)
-      (each-kept number [] (propositions tree) is))
+    word_among-bit held (number_of held (mentioned tree)) 0 (mentioned tree) number
+    (λ more. let moved : 0 + more ≡ more = omega arith in ap (bit_at (number_of held (mentioned tree))) moved)
+    (each-kept number [] (propositions tree) is))
 
 -- so many valuations have so many blocks
 pub block-lt : (count valuation : ℕ) → valuation < 2 ^ count → valuation / 64 < 2 ^ (count - 6)

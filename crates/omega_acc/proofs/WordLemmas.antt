@@ -1,15 +1,13 @@
 -- A label's word under 64 valuations: how nodes make it, how high they stack up, and what each bit says.
-use Rattle.std.proofs.Common.{◌≡◌, ◌≢◌, ℕ, ◌+◌, ◌-◌, ◌*◌, ◌/◌, ◌%◌, ◌^◌, ◌<◌, ◌≤◌, zero, suc, Bool, true, false, not, ◌&&◌, ◌||◌, cond, eqb, ltb, List, [], ◌∷◌, ◌++◌, length, max, min, bit_and, bit_or, bit_xor, ap, append-nil, append_assoc, refl, subst, sym, ◌∙◌, arith, inl, inr, lt-ltb, eq-eqb, drop, drop-cons, get_or, w64}
+use Rattle.std.proofs.Common.{◌≡◌, ℕ, ◌+◌, ◌-◌, ◌%◌, ◌^◌, ◌<◌, ◌≤◌, zero, suc, Bool, true, false, not, ◌&&◌, ◌||◌, eqb, List, [], ◌∷◌, ◌++◌, length, max, min, ap, append-nil, append_assoc, refl, sym, ◌∙◌, arith, eq-eqb, drop, drop-cons, get_or, w64}
 use Rattle.std.specs.Int.{bit_at, trailing_zeros}
-use Rattle.std.specs.List.{list_any}
-use Rattle.std.proofs.lemmas.Bool.{agree_below, agree_below_at, cases_Bool, cases_eq, cases_lt, cond-false, cond-true, eqb-false, eqb-true, le-ltb, or_cases, or_left, or_right}
-use Rattle.std.proofs.lemmas.Nat.Bits.{bit_at-trailing_zeros, bit_at-lt, bit_at-suc, bit_at-zero, bit_at_and, bit_at_cat_high, bit_at_cat_low, bit_at_lowest, bit_at_ones, bit_at_or, bit_at_xor}
+use Rattle.std.proofs.lemmas.Nat.Bits.{bit_at-trailing_zeros, bit_at-lt, bit_at-zero, bit_at_and, bit_at_ones, bit_at_or, bit_at_xor}
 use Rattle.omega_acc.specs.Label.{LabelTree, conjunction, constant, disjunction, label_depth, negation, proposition, propositions, truth}
 use Rattle.omega_acc.specs.layout.Joins.{regrouped}
 use Rattle.omega_acc.specs.layout.Label.{postfix}
-use Rattle.omega_acc.specs.layout.Words.{height_with, mask, ones, pattern, peak, propositions_of, word_among, word_of, word_of_truth, top_word, words_behind}
+use Rattle.omega_acc.specs.layout.Words.{height_with, ones, peak, propositions_of, word_of, word_of_truth, top_word, words_behind}
 use Rattle.omega_acc.specs.declared.label.LabelNode.{LabelNode}
-use Rattle.omega_acc.specs.declared.label.LabelNode.TheVariants.{And, Constant, Not, Or, Proposition}
+use Rattle.omega_acc.specs.declared.label.LabelNode.TheVariants.{And, Not, Or}
 
 -- ---- nodes
 

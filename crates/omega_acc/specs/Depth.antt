@@ -1,5 +1,5 @@
 -- What a refusal of an expression that grows says.
-use Rattle.std.specs.Prelude.{◌≡◌, ℕ}
+use Rattle.std.specs.Prelude.{◌≡◌}
 use Rattle.omega_text.specs.declared.refusal.Refusal.{Refusal}
 use Rattle.omega_text.specs.declared.refusal.automaton.AutomatonFault.TheVariants.{TooDeep}
 use Rattle.omega_text.specs.Cases.{never, or_automaton, or_memory}

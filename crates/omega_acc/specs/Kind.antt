@@ -1,5 +1,5 @@
 -- Parity kinds: their formulas and priorities, and the generalized Büchi formulas (HOA v1, acceptance names).
-use Rattle.std.specs.Prelude.{ℕ, ◌+◌, ◌-◌, ◌%◌, zero, suc, Bool, true, false, ◌==◌, if◌then◌else◌, List, [], ◌∷◌, map, max, min}
+use Rattle.std.specs.Prelude.{ℕ, ◌+◌, ◌-◌, ◌%◌, zero, suc, Bool, true, false, ◌==◌, if◌then◌else◌, List, [], ◌∷◌, max, min}
 use Rattle.omega_acc.specs.Acceptance.{AccTree, conjunction, constant, disjunction, fin, inf}
 use Rattle.omega_acc.specs.declared.kind.Order.{Order}
 use Rattle.omega_acc.specs.declared.kind.Order.TheVariants.{Max, Min}

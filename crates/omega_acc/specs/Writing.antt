@@ -1,5 +1,5 @@
 -- How expressions are written (formats, canonical text of an automaton): no spaces, and parentheses only where an operator needs them.
-use Rattle.std.specs.Prelude.{ℕ, Bool, true, false, nat_le, nat_lt, if◌then◌else◌, List, [], ◌∷◌, ◌++◌, codes, decimal}
+use Rattle.std.specs.Prelude.{ℕ, Bool, nat_le, nat_lt, if◌then◌else◌, List, [], ◌∷◌, ◌++◌, codes, decimal}
 use Rattle.std.specs.Coded.{Coded, code_by, coded_list, coded×, coded_ℕ}
 use Rattle.std.proofs.Common.{refl}
 use Rattle.omega_acc.specs.Acceptance.{AccTree}
@@ -31,7 +31,7 @@ negated_text part = record { rank = 3; bytes = 33 ∷ bracketed (nat_lt part.ran
 abbrev pub joined_text : ℕ → ℕ → Text → Text → Text
 joined_text rank sign left right = record {
   rank = rank;
-  bytes = bracketed (nat_lt left.rank rank) left.bytes ++ sign ∷ bracketed (nat_le right.rank rank) right.bytes
+  bytes = bracketed (nat_lt left.rank rank) left.bytes ++ sign ∷ bracketed (nat_le right.rank rank) right.bytes;
 }
 
 -- `t` or `f`

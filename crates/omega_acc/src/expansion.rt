@@ -43,7 +43,12 @@ pub fn expanded_size(alloc: Global, raw: &RawLabel, aliases: &Aliases) -> Result
 
 /// Appends the nodes of a label with its aliases replaced by the definitions before a place. It goes down at most as far as
 /// the label is deep.
-fn emit(aliases: &Aliases, raw: &RawLabel, before: usize, out: &mut Vec<LabelNode>) -> Result<(), Refusal>
+fn emit(
+    aliases: &Aliases,
+    raw: &RawLabel,
+    before: usize,
+    out: &mut Vec<LabelNode>,
+) -> Result<(), Refusal>
     requires within { before ≤ length aliases.now }
     requires defined { IsSome (replaced (take before (entries_of [] aliases.now)) raw.now) }
     ensures ok { OnOk result (out.new.items ≡ out.old.items ++ nodes_of (replaced (take before (entries_of [] aliases.now)) raw.now)) }

@@ -62,7 +62,9 @@ impl Mentioned {
     fn has(&self, number: u32) -> bool
         ensures { result ≡ list_any (λ other. other == number) self.now }
     {
-        self.numbers[..self.count].iter().any(|other| *other == number)
+        self.numbers[..self.count]
+            .iter()
+            .any(|other| *other == number)
     }
 
     /// The word of a proposition under the valuations of a block.

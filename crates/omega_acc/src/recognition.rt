@@ -37,7 +37,11 @@ pub fn acceptance_kind(name: &AccName, count: u32, formula: &Acc) -> Result<AccK
     ensures err { IfErr result (IsNotParity ((kind : AccKind) → IsAcceptanceRow name.now count formula.now kind → ⊥)) }
 {
     if let Some(sets) = named_sets(name) {
-        if sets == count && 1 <= sets && sets <= MOST_BUCHI_SETS && is_buchi_formula(sets, formula.nodes()) {
+        if sets == count
+            && 1 <= sets
+            && sets <= MOST_BUCHI_SETS
+            && is_buchi_formula(sets, formula.nodes())
+        {
             return Ok(AccKind::GenBuchi(sets));
         }
     }
@@ -53,7 +57,11 @@ fn named_kind(name: &AccName) -> Option<ParityKind>
 {
     match name.parameters.as_slice() {
         [] => short_kind(name.name.as_slice()),
-        [Parameter::Word(order), Parameter::Word(parity), Parameter::Number(count)] => {
+        [
+            Parameter::Word(order),
+            Parameter::Word(parity),
+            Parameter::Number(count),
+        ] => {
             if name.name.as_slice() != b"parity".as_slice() {
                 return None;
             }
@@ -189,7 +197,11 @@ fn without_first(nodes: &[AccNode], node: AccNode) -> Option<&[AccNode]>
     ensures none { IfNone result ((rest : List AccNode) → nodes.now ≡ node ∷ rest → ⊥) }
 {
     let first = *nodes.first()?;
-    if is_node(first, node) { Some(&nodes[1..]) } else { None }
+    if is_node(first, node) {
+        Some(&nodes[1..])
+    } else {
+        None
+    }
 }
 
 /// The nodes before this last one, if it is the last.

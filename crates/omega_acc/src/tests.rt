@@ -1,6 +1,7 @@
 use crate::{
-    Acc, AccKind, AccName, Aliases, Order, Parameter, Parity, ParityKind, RawLabel, acceptance_kind, expand, expanded_size,
-    parity_of, priority, satisfiable, write_acc, write_label,
+    Acc, AccKind, AccName, Aliases, Order, Parameter, Parity, ParityKind, RawLabel,
+    acceptance_kind, expand, expanded_size, parity_of, priority, satisfiable, write_acc,
+    write_label,
 };
 use omega_text::{Refusal, Seq};
 use std::alloc::Global;
@@ -105,8 +106,8 @@ fn definitions_see_earlier_ones(rt: HostRuntime) {
 
 // Each but the first is twice the one before.
 const DOUBLED: [&str; 20] = [
-    "0", "AA&", "BB&", "CC&", "DD&", "EE&", "FF&", "GG&", "HH&", "II&", "JJ&", "KK&", "LL&", "MM&", "NN&", "OO&", "PP&",
-    "QQ&", "RR&", "SS&",
+    "0", "AA&", "BB&", "CC&", "DD&", "EE&", "FF&", "GG&", "HH&", "II&", "JJ&", "KK&", "LL&", "MM&",
+    "NN&", "OO&", "PP&", "QQ&", "RR&", "SS&",
 ];
 
 #[test]
@@ -206,13 +207,23 @@ fn priority_in_row(order: Order, parity: Parity, count: u32, marks: &[u32]) -> O
     if count > 9 || !marks.iter().all(|mark| *mark < count) {
         return None;
     }
-    Some(priority(ParityKind { order, parity, count }, marks))
+    Some(priority(
+        ParityKind {
+            order,
+            parity,
+            count,
+        },
+        marks,
+    ))
 }
 
 #[test]
 fn priorities_are_those_of_the_table(rt: HostRuntime) {
     for (order, parity, count, marks, want) in PRIORITIES.iter() {
-        assert_eq!(rt; priority_in_row(*order, *parity, *count, marks), Some(*want));
+        assert_eq!(rt;
+            priority_in_row(*order, *parity, *count, marks),
+            Some(*want)
+        );
     }
 }
 
@@ -280,8 +291,18 @@ fn formula(alloc: Global, postfix: &str) -> Result<Acc, Refusal> {
     acc_part(alloc, &mut stack)
 }
 
-fn kind_of(alloc: Global, text: &str, letters: &str, count: u32, postfix: &str) -> Result<AccKind, Refusal> {
-    acceptance_kind(&name(alloc, text, letters)?, count, &formula(alloc, postfix)?)
+fn kind_of(
+    alloc: Global,
+    text: &str,
+    letters: &str,
+    count: u32,
+    postfix: &str,
+) -> Result<AccKind, Refusal> {
+    acceptance_kind(
+        &name(alloc, text, letters)?,
+        count,
+        &formula(alloc, postfix)?,
+    )
 }
 
 const KINDS: [(&str, &str, u32, &str, Order, Parity); 10] = [
@@ -301,7 +322,14 @@ const KINDS: [(&str, &str, u32, &str, Order, Parity); 10] = [
 fn parity_kinds_are_recognized(rt: HostRuntime) -> Result<(), Fail> {
     for (text, letters, count, postfix, order, parity) in KINDS.iter() {
         let kind = kind_of(rt.alloc(), text, letters, *count, postfix)?;
-        assert_eq!(rt; kind, AccKind::Parity(ParityKind { order: *order, parity: *parity, count: *count }));
+        assert_eq!(rt;
+            kind,
+            AccKind::Parity(ParityKind {
+                order: *order,
+                parity: *parity,
+                count: *count
+            })
+        );
     }
     Ok(())
 }
@@ -323,14 +351,24 @@ const OTHERS: [(&str, &str, u32, &str); 11] = [
 #[test]
 fn other_acceptance_is_refused(rt: HostRuntime) {
     for (text, letters, count, postfix) in OTHERS.iter() {
-        assert_eq!(rt; number_of(kind_of(rt.alloc(), text, letters, *count, postfix)), 40);
+        assert_eq!(rt;
+            number_of(kind_of(rt.alloc(), text, letters, *count, postfix)),
+            40
+        );
     }
 }
 
 #[test]
 fn generalized_buchi_is_recognized(rt: HostRuntime) -> Result<(), Fail> {
-    assert_eq!(rt; kind_of(rt.alloc(), "generalized-Buchi", "3", 3, "01&2&")?, AccKind::GenBuchi(3));
-    let alone = parity_of(&name(rt.alloc(), "generalized-Buchi", "1")?, 1, &formula(rt.alloc(), "0")?);
+    assert_eq!(rt;
+        kind_of(rt.alloc(), "generalized-Buchi", "3", 3, "01&2&")?,
+        AccKind::GenBuchi(3)
+    );
+    let alone = parity_of(
+        &name(rt.alloc(), "generalized-Buchi", "1")?,
+        1,
+        &formula(rt.alloc(), "0")?,
+    );
     assert_eq!(rt; number_of(alone), 40);
     Ok(())
 }
@@ -339,6 +377,9 @@ fn generalized_buchi_is_recognized(rt: HostRuntime) -> Result<(), Fail> {
 fn acceptance_is_written(rt: HostRuntime) -> Result<(), Fail> {
     let mut text = Vec::new(rt.alloc());
     write_acc(&formula(rt.alloc(), "0b2d4&|&|")?, &mut text)?;
-    assert_eq!(rt; text.as_slice(), b"Inf(0)|Fin(1)&(Inf(2)|Fin(3)&Inf(4))".as_slice());
+    assert_eq!(rt;
+        text.as_slice(),
+        b"Inf(0)|Fin(1)&(Inf(2)|Fin(3)&Inf(4))".as_slice()
+    );
     Ok(())
 }

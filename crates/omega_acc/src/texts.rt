@@ -36,7 +36,12 @@ impl Text {
     }
 
     /// A word and a set in parentheses, with `!` before it or without.
-    pub(crate) fn of_set(alloc: Global, word: &[u8], negated: bool, set: u32) -> Result<Text, Refusal>
+    pub(crate) fn of_set(
+        alloc: Global,
+        word: &[u8],
+        negated: bool,
+        set: u32,
+    ) -> Result<Text, Refusal>
         ensures ok { IfOk result (λ text. text_seen text ≡ atom_text (word.now ++ set_text negated set)) }
         ensures err { IfErr result IsMemory }
     {
@@ -64,7 +69,13 @@ impl Text {
     }
 
     /// Two parts and an operator.
-    pub(crate) fn joined(self, alloc: Global, rank: u32, sign: u8, right: Text) -> Result<Text, Refusal>
+    pub(crate) fn joined(
+        self,
+        alloc: Global,
+        rank: u32,
+        sign: u8,
+        right: Text,
+    ) -> Result<Text, Refusal>
         ensures ok { IfOk result (λ text. text_seen text ≡ joined_text rank sign (text_seen self) (text_seen right)) }
         ensures err { IfErr result IsMemory }
     {

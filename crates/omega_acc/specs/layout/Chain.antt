@@ -1,5 +1,5 @@
 -- Parity and generalized Büchi formulas in postfix order.
-use Rattle.std.specs.Prelude.{◌≡◌, ℕ, Bool, false, true, if◌then◌else◌, List, []}
+use Rattle.std.specs.Prelude.{ℕ, false, if◌then◌else◌}
 use Rattle.omega_acc.specs.Kind.{has_parity}
 use Rattle.omega_acc.specs.declared.acc.AccNode.{AccNode}
 use Rattle.omega_acc.specs.declared.acc.AccNode.TheVariants.{And, Fin, Inf, Or}

@@ -1,5 +1,5 @@
 -- How deep and large meanings are, counted no further than just past the limits.
-use Rattle.std.specs.Prelude.{ℕ, ◌+◌, Bool, List, [], ◌∷◌, ◌++◌, Option, Some, None, option_map, max, min, take, drop}
+use Rattle.std.specs.Prelude.{ℕ, ◌+◌, List, [], ◌∷◌, Option, Some, None, option_map, max, min, take, drop}
 use Rattle.omega_acc.specs.Expanding.{Entry, Meaning, stands_for}
 use Rattle.omega_acc.specs.Label.{label_size}
 use Rattle.omega_acc.specs.declared.extents.Extent.{Extent}

@@ -1,5 +1,5 @@
 -- How a label lies in memory: its tree in postfix order.
-use Rattle.std.specs.Prelude.{◌≡◌, ℕ, ◌≤◌, false, List, [], ◌∷◌, ◌++◌}
+use Rattle.std.specs.Prelude.{◌≡◌, ◌≤◌, false, List, [], ◌∷◌, ◌++◌}
 use Rattle.std.specs.Coded.{Coded, code_by, coded_list}
 use Rattle.omega_acc.specs.Label.{LabelTree, conjunction, constant, label_depth, disjunction, negation, proposition}
 use Rattle.omega_acc.specs.Limits.{most_depth}

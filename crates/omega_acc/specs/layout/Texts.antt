@@ -1,5 +1,5 @@
 -- The texts that nodes in postfix order leave.
-use Rattle.std.specs.Prelude.{ℕ, List, [], ◌∷◌, ◌++◌, codes, decimal}
+use Rattle.std.specs.Prelude.{List, [], ◌∷◌, ◌++◌, codes, decimal}
 use Rattle.omega_acc.specs.Writing.{Text, atom_text, joined_text, negated_text, set_text, truth_text}
 use Rattle.omega_acc.specs.declared.texts.Text.{Text as MadeText}
 use Rattle.omega_acc.specs.declared.acc.AccNode.{AccNode}

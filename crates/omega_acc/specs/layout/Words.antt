@@ -1,5 +1,5 @@
 -- A label's truth under 64 valuations at once, in the bits of a word, and how high its nodes' words stack up.
-use Rattle.std.specs.Prelude.{ℕ, ◌+◌, ◌-◌, ◌*◌, ◌/◌, ◌%◌, zero, suc, Bool, true, false, ◌==◌, nat_lt, if◌then◌else◌, List, [], ◌∷◌, ◌++◌, max, bit_and, bit_or, bit_xor}
+use Rattle.std.specs.Prelude.{ℕ, ◌+◌, ◌-◌, suc, Bool, ◌==◌, nat_lt, if◌then◌else◌, List, [], ◌∷◌, max, bit_and, bit_or, bit_xor}
 use Rattle.std.specs.Int.{bit_at}
 use Rattle.omega_acc.specs.Label.{LabelTree, conjunction, constant, disjunction, negation, proposition}
 use Rattle.omega_acc.specs.declared.label.LabelNode.{LabelNode}

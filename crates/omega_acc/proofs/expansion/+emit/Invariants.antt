@@ -10,6 +10,6 @@ decreases-emit l = l.before
 abbrev pub invariant-loop-node : goal.invariant-loop-node
 invariant-loop-node l = record {
   rest : l.out.items ++ emitted (take l.before (entries_of [] l.aliases)) l.names (drop l.node-index l.node-items)
-    ≡ l.fn.out.items ++ nodes_of (replaced (take l.before (entries_of [] l.aliases)) l.raw);
-  stand : AllStand (take l.before (entries_of [] l.aliases)) l.names (drop l.node-index l.node-items)
+      ≡ l.fn.out.items ++ nodes_of (replaced (take l.before (entries_of [] l.aliases)) l.raw);
+  stand : AllStand (take l.before (entries_of [] l.aliases)) l.names (drop l.node-index l.node-items);
 }

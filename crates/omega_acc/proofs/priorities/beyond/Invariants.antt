@@ -6,5 +6,5 @@ use Rattle.omega_acc.proofs.priorities.beyond.Given as goal
 abbrev pub invariant-loop-mark : goal.invariant-loop-mark
 invariant-loop-mark l = record {
   rest : max l.highest (beyond (drop l.mark-index l.marks)) ≡ beyond l.marks;
-  limit : l.highest ≤ l.count
+  limit : l.highest ≤ l.count;
 }

@@ -6,5 +6,5 @@ use Rattle.omega_acc.proofs.priorities.least_mark.Given as goal
 abbrev pub invariant-loop-mark : goal.invariant-loop-mark
 invariant-loop-mark l = record {
   rest : min l.lowest (least_mark l.count (drop l.mark-index l.marks)) ≡ least_mark l.count l.marks;
-  limit : l.lowest ≤ l.count
+  limit : l.lowest ≤ l.count;
 }

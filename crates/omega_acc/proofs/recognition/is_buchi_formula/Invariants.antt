@@ -7,7 +7,7 @@ use Rattle.omega_acc.proofs.recognition.is_buchi_formula.Given as goal
 abbrev pub invariant-loop-set : goal.invariant-loop-set
 invariant-loop-set l = record {
   within : l.set < l.sets;
-  same : (l.nodes ≡ acc_postfix (buchi_formula l.sets)) ↔ (l.rest ≡ acc_postfix (buchi_formula (suc l.set)))
+  same : (l.nodes ≡ acc_postfix (buchi_formula l.sets)) ↔ (l.rest ≡ acc_postfix (buchi_formula (suc l.set)));
 }
 
 abbrev pub decreases-loop-set : goal.decreases-loop-set

@@ -8,7 +8,7 @@ abbrev pub invariant-loop-behind : goal.invariant-loop-behind
 invariant-loop-behind l = record {
   within : l.behind < l.kind.count;
   same : (l.nodes ≡ acc_postfix (parity_formula l.kind))
-    ↔ (l.rest ≡ acc_postfix (formula_of l.kind.order l.kind.parity (sets_left l.kind.order l.kind.count (suc l.behind))))
+      ↔ (l.rest ≡ acc_postfix (formula_of l.kind.order l.kind.parity (sets_left l.kind.order l.kind.count (suc l.behind))));
 }
 
 abbrev pub decreases-loop-behind : goal.decreases-loop-behind

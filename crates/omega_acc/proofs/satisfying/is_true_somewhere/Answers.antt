@@ -1,5 +1,5 @@
 -- A word that is not 0 shows a valuation; a valuation shows its block.
-use Rattle.std.proofs.Common.{◌≡◌, ◌/◌, ◌-◌, ◌^◌, ℕ, Bool, ap, below_more, refl, sym, ◌∙◌, arith, length}
+use Rattle.std.proofs.Common.{◌≡◌, ◌/◌, ◌-◌, ◌^◌, ap, below_more, refl, sym, ◌∙◌, arith, length}
 use Rattle.std.proofs.lemmas.Bool.{false≢true}
 use Rattle.omega_acc.specs.Satisfiable.{mentioned}
 use Rattle.omega_acc.specs.layout.Words.{peak, word_among, word_of}
@@ -23,12 +23,13 @@ loop-block-preserved c =
     (sym (word-is (word_among c.loop-block.block 0 c.args.found.now) c.args.label.now _ _ c.nodes-nodes.ensures.nodes c.word_of.ensures) ∙ c.if-word_of-ne0.false)
 
 pub returns-clause-judged : goal.returns-clause-judged
-returns-clause-judged c =
-    (λ none. absurd (false≢true none),
-    λ possible.
-    let valuation = number_of possible.0 (mentioned c.args.label.now) in
-    let within = block-lt (length (mentioned c.args.label.now)) valuation (number_of-lt possible.0 (mentioned c.args.label.now)) in
-    let count : c.len.result ≡ length (mentioned c.args.label.now) = c.len.ensures.len ∙ ap length c.requires in
-    let blocks : 2 ^ (c.len.result - 6) ≡ 2 ^ (length (mentioned c.args.label.now) - 6) = ap (λ n. 2 ^ (n - 6)) count in
-    absurd (some-block possible.0 c.args.label.now possible.1
-    (ap (λ found. word_of (word_among (valuation / 64) 0 found) c.args.label.now) (sym c.requires) ∙ c.loop-block.invariant (valuation / 64) (omega (arith, within, blocks, c.blocks-block-end.ensures, c.loop-block-test.false)))))
+returns-clause-judged c = (
+  λ none. absurd (false≢true none),
+  λ possible.
+      let valuation = number_of possible.0 (mentioned c.args.label.now) in
+      let within = block-lt (length (mentioned c.args.label.now)) valuation (number_of-lt possible.0 (mentioned c.args.label.now)) in
+      let count : c.len.result ≡ length (mentioned c.args.label.now) = c.len.ensures.len ∙ ap length c.requires in
+      let blocks : 2 ^ (c.len.result - 6) ≡ 2 ^ (length (mentioned c.args.label.now) - 6) = ap (λ n. 2 ^ (n - 6)) count in
+      absurd (some-block possible.0 c.args.label.now possible.1
+      (ap (λ found. word_of (word_among (valuation / 64) 0 found) c.args.label.now) (sym c.requires) ∙ c.loop-block.invariant (valuation / 64) (omega (arith, within, blocks, c.blocks-block-end.ensures, c.loop-block-test.false)))),
+)

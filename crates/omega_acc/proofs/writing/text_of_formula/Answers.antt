@@ -1,5 +1,5 @@
 -- At the end the text alone is left.
-use Rattle.std.proofs.Common.{[], ap, sym, ◌∙◌, arith}
+use Rattle.std.proofs.Common.{ap, sym, ◌∙◌, arith}
 use Rattle.std.proofs.lemmas.List.{at_drop_all}
 use Rattle.omega_acc.specs.layout.Texts.{acc_texts_behind, top_text}
 use Rattle.omega_acc.proofs.TextLemmas.{texts_behind-formula}

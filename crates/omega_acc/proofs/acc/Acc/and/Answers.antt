@@ -1,7 +1,6 @@
 -- Two formulas and their operator are a formula, one deeper than the deeper part.
-use Rattle.std.proofs.Common.{◌≡◌, ◌+◌, max, List, ap, arith, sym, ◌∙◌}
+use Rattle.std.proofs.Common.{ap, arith}
 use Rattle.omega_acc.specs.Acceptance.{acc_depth, conjunction}
-use Rattle.omega_acc.specs.layout.Acceptance.{acc_postfix}
 use Rattle.omega_acc.proofs.AccLemmas.{IsAcc-of, acc_nodes-conjunction, acc_nodes-seen, acc_tree-is}
 use Rattle.omega_acc.proofs.acc.Acc.and.Goals as goal
 

@@ -1,5 +1,5 @@
 -- The extent at the place of a name is that of what it stands for.
-use Rattle.std.proofs.Common.{◌≡◌, ◌<◌, ◌≤◌, [], Option, None, get_or, length, map, option_map, ap, arith, sym, ◌∙◌}
+use Rattle.std.proofs.Common.{◌≡◌, [], None, get_or, length, map, option_map, ap, arith, sym, ◌∙◌}
 use Rattle.std.proofs.lemmas.List.{length-map}
 use Rattle.omega_acc.specs.Expanding.{entries_of, place_of}
 use Rattle.omega_acc.specs.layout.Aliases.{defined_of, definitions_of}

@@ -1,5 +1,5 @@
 -- The place in the set is that among the definitions.
-use Rattle.std.proofs.Common.{◌≡◌, length, ap, sym, ◌∙◌}
+use Rattle.std.proofs.Common.{length, ap, sym, ◌∙◌}
 use Rattle.std.proofs.lemmas.List.{length-map}
 use Rattle.omega_acc.specs.Expanding.{place_of}
 use Rattle.omega_acc.specs.layout.Aliases.{defined_of}

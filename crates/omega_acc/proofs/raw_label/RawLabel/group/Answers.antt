@@ -1,5 +1,5 @@
 -- A label and what stands round it are a label, one deeper.
-use Rattle.std.proofs.Common.{◌≡◌, ◌+◌, List, ap, arith}
+use Rattle.std.proofs.Common.{ap, arith}
 use Rattle.omega_acc.specs.RawLabel.{raw_depth, group}
 use Rattle.omega_acc.proofs.RawLabelLemmas.{AreOf-group, AreOf-seen, IsRawLabel-of, raw_tree-is}
 use Rattle.omega_acc.proofs.raw_label.RawLabel.group.Goals as goal

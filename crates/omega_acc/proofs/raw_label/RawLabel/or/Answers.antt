@@ -1,5 +1,5 @@
 -- Two labels and their operator are a label, one deeper than the deeper part.
-use Rattle.std.proofs.Common.{◌≡◌, ◌+◌, max, List, ap, arith}
+use Rattle.std.proofs.Common.{ap, arith}
 use Rattle.omega_acc.specs.RawLabel.{raw_depth, disjunction}
 use Rattle.omega_acc.proofs.RawLabelLemmas.{AreOf-disjunction, AreOf-seen, IsRawLabel-of, raw_tree-is}
 use Rattle.omega_acc.proofs.raw_label.RawLabel.or.Goals as goal
