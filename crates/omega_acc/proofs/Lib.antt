@@ -1,0 +1,16 @@
+pub mod AccLemmas
+pub mod AliasLemmas
+pub mod BuchiLemmas
+pub mod ChainLemmas
+pub mod EmitLemmas
+pub mod EntryLemmas
+pub mod ExpansionLemmas
+pub mod ExtentLemmas
+pub mod KindLemmas
+pub mod LabelLemmas
+pub mod Parities
+pub mod PutLemmas
+pub mod RawLabelLemmas
+pub mod TextLemmas
+pub mod Valuations
+pub mod WordLemmas

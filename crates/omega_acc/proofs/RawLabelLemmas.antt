@@ -1,0 +1,68 @@
+-- Labels as they are written in postfix order: what makes nodes and names a label.
+use Rattle.std.proofs.Common.{◌≡◌, ℕ, ◌≤◌, List, [], ◌∷◌, ◌++◌, ap, append_assoc, sym, ◌∙◌}
+use Rattle.omega_acc.specs.RawLabel.{RawLabelTree, conjunction, disjunction, group, negation, raw_depth}
+use Rattle.omega_acc.specs.Limits.{most_depth}
+use Rattle.omega_acc.specs.layout.RawLabel.{IsRawLabel, alias_names, raw_postfix, raw_tree_of, raw_tree_of-postfix}
+use Rattle.omega_acc.specs.declared.raw_label.RawNode.{RawNode}
+use Rattle.omega_acc.specs.declared.raw_label.RawNode.TheVariants.{And, Group, Not, Or}
+
+-- nodes and names are those of a tree
+pub record AreOf (tree : RawLabelTree) (nodes : List RawNode) (names : List ℕ) : Type 0 where
+  pub flat : nodes ≡ raw_postfix tree
+  pub named : names ≡ alias_names tree
+
+-- a tree's nodes and names give that tree
+pub raw_tree-is : (tree : RawLabelTree) (nodes : List RawNode) (names : List ℕ) → AreOf tree nodes names → raw_tree_of nodes names ≡ tree
+raw_tree-is tree nodes names are =
+    ap (λ more. raw_tree_of more names) are.flat ∙ (ap (λ more. raw_tree_of (raw_postfix tree) more) are.named ∙ raw_tree_of-postfix tree)
+
+-- a tree's nodes, names and depth are a label
+pub IsRawLabel-of : (tree : RawLabelTree) (nodes : List RawNode) (names : List ℕ) (deep : ℕ)
+    → AreOf tree nodes names → deep ≡ raw_depth tree → deep ≤ most_depth → IsRawLabel nodes names deep
+IsRawLabel-of tree nodes names deep are depth_is shallow =
+    let is : raw_tree_of nodes names ≡ tree = raw_tree-is tree nodes names are in
+    record {
+      flat = ap raw_postfix is ∙ sym are.flat;
+      named = ap alias_names is ∙ sym are.named;
+      depth_is = ap raw_depth is ∙ sym depth_is;
+      shallow = shallow;
+    }
+
+-- a label's nodes and names are those of the tree that is seen
+pub AreOf-seen : (tree : RawLabelTree) (nodes : List RawNode) (names : List ℕ) (deep : ℕ)
+    → IsRawLabel nodes names deep → raw_tree_of nodes names ≡ tree → AreOf tree nodes names
+AreOf-seen tree nodes names deep is seen = record { flat = sym is.flat ∙ ap raw_postfix seen; named = sym is.named ∙ ap alias_names seen }
+
+-- the nodes of a label and `!`
+pub AreOf-negation : (part : RawLabelTree) (one all : List RawNode) (names : List ℕ)
+    → AreOf part one names → all ≡ one ++ Not ∷ [] → AreOf (negation part) all names
+AreOf-negation part one all names are ended = record { flat = ended ∙ ap (λ nodes. nodes ++ Not ∷ []) are.flat; named = are.named }
+
+-- the nodes of a label in parentheses
+pub AreOf-group : (part : RawLabelTree) (one all : List RawNode) (names : List ℕ)
+    → AreOf part one names → all ≡ one ++ Group ∷ [] → AreOf (group part) all names
+AreOf-group part one all names are ended = record { flat = ended ∙ ap (λ nodes. nodes ++ Group ∷ []) are.flat; named = are.named }
+
+-- the nodes and names of two labels and `&`
+pub AreOf-conjunction : (left right : RawLabelTree) (one other both all : List RawNode) (these those names : List ℕ)
+    → AreOf left one these → AreOf right other those → both ≡ one ++ other → all ≡ both ++ And ∷ [] → names ≡ these ++ those
+    → AreOf (conjunction left right) all names
+AreOf-conjunction left right one other both all these those names is_left is_right joined ended named =
+    let regrouped = append_assoc (raw_postfix left) (raw_postfix right) (And ∷ []) in
+    let left_flat = is_left.flat in
+    let right_flat = is_right.flat in
+    let left_named = is_left.named in
+    let right_named = is_right.named in
+    record { flat = cc; named = cc }
+
+-- the nodes and names of two labels and `|`
+pub AreOf-disjunction : (left right : RawLabelTree) (one other both all : List RawNode) (these those names : List ℕ)
+    → AreOf left one these → AreOf right other those → both ≡ one ++ other → all ≡ both ++ Or ∷ [] → names ≡ these ++ those
+    → AreOf (disjunction left right) all names
+AreOf-disjunction left right one other both all these those names is_left is_right joined ended named =
+    let regrouped = append_assoc (raw_postfix left) (raw_postfix right) (Or ∷ []) in
+    let left_flat = is_left.flat in
+    let right_flat = is_right.flat in
+    let left_named = is_left.named in
+    let right_named = is_right.named in
+    record { flat = cc; named = cc }

@@ -1,0 +1,11 @@
+-- The extents so far and the nodes that are left make the extent.
+use Rattle.std.proofs.Common.{◌≡◌, [], drop}
+use Rattle.omega_acc.specs.Expanding.{entries_of}
+use Rattle.omega_acc.specs.layout.Extents.{extent_named, extents_behind}
+use Rattle.omega_acc.specs.layout.RawLabel.{alias_names, raw_postfix}
+use Rattle.omega_acc.proofs.aliases.Aliases.measure.Given as goal
+
+abbrev pub invariant-loop-node : goal.invariant-loop-node
+invariant-loop-node l =
+    extents_behind (extent_named (entries_of [] l.self)) l.stack l.names (drop l.node-index l.node-items)
+    ≡ extents_behind (extent_named (entries_of [] l.self)) [] (alias_names l.raw) (raw_postfix l.raw)

@@ -1,0 +1,18 @@
+-- A label and what stands round it are a label, one deeper.
+use Rattle.std.proofs.Common.{ap, arith}
+use Rattle.omega_acc.specs.RawLabel.{raw_depth, negation}
+use Rattle.omega_acc.proofs.RawLabelLemmas.{AreOf-negation, AreOf-seen, IsRawLabel-of, raw_tree-is}
+use Rattle.omega_acc.proofs.raw_label.RawLabel.not.Goals as goal
+
+pub invariant_of-result : goal.invariant_of-result
+invariant_of-result c =
+    let one = ap raw_depth c.self.view_is in
+    IsRawLabel-of (negation c.args.self) _ _ _
+    (AreOf-negation c.args.self _ _ _ (AreOf-seen _ _ _ _ c.self.invariant c.self.view_is) c.in_ok-with_node.ensures.ok)
+    (omega (arith, c.in_ok-depth.ensures.ok.0, c.self.invariant.depth_is))
+    c.in_ok-depth.ensures.ok.1
+
+pub returns-clause-ok : goal.returns-clause-ok
+returns-clause-ok c =
+    raw_tree-is (negation c.args.self) _ _
+    (AreOf-negation c.args.self _ _ _ (AreOf-seen _ _ _ _ c.self.invariant c.self.view_is) c.in_ok-with_node.ensures.ok)

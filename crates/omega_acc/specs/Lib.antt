@@ -1,0 +1,12 @@
+pub mod Acceptance
+pub mod Depth
+pub mod Expanding
+pub mod Kind
+pub mod KindLaws
+pub mod Label
+pub mod Limits
+pub mod Names
+pub mod RawLabel
+pub mod Satisfiable
+pub mod Writing
+pub mod layout

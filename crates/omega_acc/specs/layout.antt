@@ -1,0 +1,13 @@
+pub mod AccFields
+pub mod Acceptance
+pub mod Aliases
+pub mod Chain
+pub mod Emitting
+pub mod Extents
+pub mod Joins
+pub mod Label
+pub mod LabelFields
+pub mod RawLabel
+pub mod RawLabelFields
+pub mod Texts
+pub mod Words

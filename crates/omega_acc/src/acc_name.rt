@@ -1,0 +1,17 @@
+use omega_text::Seq;
+
+/// The name of an acceptance condition as a header gives it (HOA v1, `acc-name:`): an identifier and its parameters.
+#[derive(Debug, PartialEq, Eq, Drop)]
+pub struct AccName {
+    pub name: Seq<u8>,
+    pub parameters: Seq<Parameter>,
+}
+
+/// A parameter of an acceptance name. Parameters are compared by kind and value.
+#[derive(Debug, PartialEq, Eq, Drop)]
+pub enum Parameter {
+    Boolean(bool),
+    Number(u32),
+    /// An identifier.
+    Word(Seq<u8>),
+}

@@ -1,0 +1,76 @@
+ghost use Rattle.std.specs.Prelude.{◌≡◌, ◌≤◌, ◌++◌, [], length, take, IfErr, IfOk, IsSome, OnOk};
+ghost use Rattle.omega_acc.specs.Depth.{IsMemory};
+ghost use Rattle.omega_acc.specs.Expanding.{IsExpanded, IsExpansion, IsUnexpanded, entries_of, replaced};
+ghost use Rattle.omega_acc.specs.layout.Emitting.{nodes_of};
+
+use crate::aliases::{Aliases, behind, front};
+use crate::label::{Label, LabelNode};
+use crate::limits::{MOST_DEPTH, MOST_SIZE};
+use crate::raw_label::{RawLabel, RawNode};
+use omega_text::{AutomatonFault, Refusal};
+use std::alloc::Global;
+
+/// A label with its aliases replaced by their definitions and its parentheses gone.
+///
+/// Refusal 27 where it reaches an undefined alias, else 32 where it is over 256 deep, an alias counting as its definition
+/// between parentheses, else 33 where it has over 65,536 tree nodes; all before anything is copied.
+pub fn expand(alloc: Global, raw: &RawLabel, aliases: &Aliases) -> Result<Label, Refusal>
+    ensures ok { IfOk result (λ label. IsExpansion aliases.now raw.now label) }
+    ensures err { IfErr result (IsUnexpanded aliases.now raw.now) }
+{
+    expanded_size(alloc, raw, aliases)?;
+    let mut nodes = Vec::new(alloc);
+    emit(aliases, raw, aliases.len(), &mut nodes)?;
+    Ok(Label::of_nodes(nodes))
+}
+
+/// How many tree nodes a label has once expanded, with the refusals of `expand` and nothing copied.
+pub fn expanded_size(alloc: Global, raw: &RawLabel, aliases: &Aliases) -> Result<u32, Refusal>
+    ensures ok { IfOk result (λ size. IsExpanded aliases.now raw.now size) }
+    ensures err { IfErr result (IsUnexpanded aliases.now raw.now) }
+{
+    let Some(extent) = aliases.measure(alloc, raw)? else {
+        return Err(Refusal::Automaton(AutomatonFault::Alias));
+    };
+    if extent.depth > MOST_DEPTH {
+        return Err(Refusal::Automaton(AutomatonFault::TooDeep));
+    }
+    if extent.size > MOST_SIZE {
+        return Err(Refusal::Automaton(AutomatonFault::Expansion));
+    }
+    Ok(extent.size)
+}
+
+/// Appends the nodes of a label with its aliases replaced by the definitions before a place. It goes down at most as far as
+/// the label is deep.
+fn emit(
+    aliases: &Aliases,
+    raw: &RawLabel,
+    before: usize,
+    out: &mut Vec<LabelNode>,
+) -> Result<(), Refusal>
+    requires within { before ≤ length aliases.now }
+    requires defined { IsSome (replaced (take before (entries_of [] aliases.now)) raw.now) }
+    ensures ok { OnOk result (out.new.items ≡ out.old.items ++ nodes_of (replaced (take before (entries_of [] aliases.now)) raw.now)) }
+    ensures err { IfErr result IsMemory }
+{
+    let mut names = raw.names();
+    for node in raw.nodes() {
+        match node {
+            RawNode::Constant(value) => out.push(LabelNode::Constant(*value))?,
+            RawNode::Proposition(number) => out.push(LabelNode::Proposition(*number))?,
+            RawNode::Not => out.push(LabelNode::Not)?,
+            RawNode::And => out.push(LabelNode::And)?,
+            RawNode::Or => out.push(LabelNode::Or)?,
+            RawNode::Group => {}
+            RawNode::Alias(count) => {
+                let place = aliases.place(front(names, *count));
+                names = behind(names, *count);
+                if place < before {
+                    emit(aliases, aliases.body(place), place, out)?;
+                }
+            }
+        }
+    }
+    Ok(())
+}

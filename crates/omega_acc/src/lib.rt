@@ -1,0 +1,40 @@
+//! Label and acceptance formulas of omega-automata, aliases, acceptance kinds and priorities.
+#![tactic(auto)]
+
+mod acc;
+mod acc_name;
+mod aliases;
+mod depth;
+mod expansion;
+mod extents;
+mod kind;
+mod label;
+mod laws;
+mod limits;
+mod mentioned;
+mod priorities;
+mod raw_label;
+mod recognition;
+mod satisfying;
+mod texts;
+mod words;
+mod writing;
+
+pub use acc::Acc;
+pub use acc_name::{AccName, Parameter};
+pub use aliases::Aliases;
+pub use expansion::{expand, expanded_size};
+pub use kind::{AccKind, Order, Parity, ParityKind};
+pub use label::Label;
+pub use laws::{buchi_is_every_set, parity_is_priority};
+pub use limits::{
+    MOST_BUCHI_SETS, MOST_DEPTH, MOST_MENTIONED, MOST_SIZE, expression_limits_are_stated,
+};
+pub use priorities::priority;
+pub use raw_label::RawLabel;
+pub use recognition::{acceptance_kind, parity_of};
+pub use satisfying::satisfiable;
+pub use writing::{write_acc, write_label};
+
+#[cfg(test)]
+mod tests;

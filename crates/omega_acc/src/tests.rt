@@ -1,0 +1,385 @@
+use crate::{
+    Acc, AccKind, AccName, Aliases, Order, Parameter, Parity, ParityKind, RawLabel,
+    acceptance_kind, expand, expanded_size, parity_of, priority, satisfiable, write_acc,
+    write_label,
+};
+use omega_text::{Refusal, Seq};
+use std::alloc::Global;
+use std::test::Fail;
+
+// A node of a label in postfix order: digits are propositions, capitals aliases, and `(` puts a part in parentheses.
+fn step(alloc: Global, stack: &mut Vec<RawLabel>, node: u8) -> Result<RawLabel, Refusal> {
+    match node {
+        b'0'..=b'9' => RawLabel::proposition(alloc, u32::from(node - b'0')),
+        b't' => RawLabel::constant(alloc, true),
+        b'f' => RawLabel::constant(alloc, false),
+        b'!' => part(alloc, stack)?.not(),
+        b'(' => part(alloc, stack)?.group(),
+        b'&' => {
+            let right = part(alloc, stack)?;
+            part(alloc, stack)?.and(right)
+        }
+        b'|' => {
+            let right = part(alloc, stack)?;
+            part(alloc, stack)?.or(right)
+        }
+        _ => RawLabel::alias(alloc, &[node]),
+    }
+}
+
+fn part(alloc: Global, stack: &mut Vec<RawLabel>) -> Result<RawLabel, Refusal> {
+    match stack.pop() {
+        Some(part) => Ok(part),
+        None => RawLabel::constant(alloc, false),
+    }
+}
+
+fn label(alloc: Global, postfix: &str) -> Result<RawLabel, Refusal> {
+    let mut stack = Vec::new(alloc);
+    for node in postfix.as_bytes() {
+        let next = step(alloc, &mut stack, *node)?;
+        stack.push(next)?;
+    }
+    part(alloc, &mut stack)
+}
+
+// The text of a label once expanded.
+fn text_of(alloc: Global, raw: &RawLabel, aliases: &Aliases) -> Result<Vec<u8>, Refusal> {
+    let label = expand(alloc, raw, aliases)?;
+    let mut text = Vec::new(alloc);
+    write_label(&label, &mut text)?;
+    Ok(text)
+}
+
+const LABELS: [(&str, &str); 7] = [
+    ("012&|", "0|1&2"),
+    ("01|(2&", "(0|1)&2"),
+    ("01&2&", "0&1&2"),
+    ("012&&", "0&(1&2)"),
+    ("012||", "0|(1|2)"),
+    ("t9|!!", "!!(t|9)"),
+    ("0!f&", "!0&f"),
+];
+
+#[test]
+fn labels_are_written(rt: HostRuntime) -> Result<(), Fail> {
+    let none = Aliases::new(rt.alloc());
+    for (postfix, want) in LABELS.iter() {
+        let text = text_of(rt.alloc(), &label(rt.alloc(), postfix)?, &none)?;
+        assert_eq!(rt; text.as_slice(), want.as_bytes());
+    }
+    Ok(())
+}
+
+// Aliases by their definitions, which bear the names from `A` on.
+fn aliases(alloc: Global, definitions: &[&str]) -> Result<Aliases, Refusal> {
+    let mut aliases = Aliases::new(alloc);
+    let mut name = b'A';
+    for definition in definitions {
+        aliases.add(&[name], label(alloc, definition)?)?;
+        name = name.wrapping_add(1);
+    }
+    Ok(aliases)
+}
+
+// The size of an alias once expanded, or the number of its refusal.
+fn size_of(alloc: Global, definitions: &[&str], name: &str) -> Result<u32, Refusal> {
+    expanded_size(alloc, &label(alloc, name)?, &aliases(alloc, definitions)?)
+}
+
+fn number_of<T: Drop>(answer: Result<T, Refusal>) -> u32 {
+    match answer {
+        Ok(_) => 0,
+        Err(refusal) => refusal.number(),
+    }
+}
+
+// `A` is defined by `B`, which comes later.
+const LATER: [&str; 2] = ["B", "0"];
+
+#[test]
+fn definitions_see_earlier_ones(rt: HostRuntime) {
+    assert_eq!(rt; number_of(size_of(rt.alloc(), &LATER, "A")), 27);
+    assert_eq!(rt; number_of(size_of(rt.alloc(), &LATER, "B")), 0);
+    assert_eq!(rt; number_of(size_of(rt.alloc(), &LATER, "C")), 27);
+}
+
+// Each but the first is twice the one before.
+const DOUBLED: [&str; 20] = [
+    "0", "AA&", "BB&", "CC&", "DD&", "EE&", "FF&", "GG&", "HH&", "II&", "JJ&", "KK&", "LL&", "MM&",
+    "NN&", "OO&", "PP&", "QQ&", "RR&", "SS&",
+];
+
+#[test]
+fn definitions_are_judged_before_they_are_copied(rt: HostRuntime) -> Result<(), Fail> {
+    assert_eq!(rt; size_of(rt.alloc(), &DOUBLED, "P")?, 65_535);
+    assert_eq!(rt; number_of(size_of(rt.alloc(), &DOUBLED, "Q")), 33);
+    assert_eq!(rt; number_of(size_of(rt.alloc(), &DOUBLED, "T")), 33);
+    Ok(())
+}
+
+// `0` in pairs of parentheses, alone or as what an alias stands for.
+fn wrapped(alloc: Global, pairs: u32) -> Result<RawLabel, Refusal> {
+    let mut label = RawLabel::proposition(alloc, 0)?;
+    for _ in 0..pairs {
+        label = label.group()?;
+    }
+    Ok(label)
+}
+
+fn wrapped_alias(alloc: Global, pairs: u32) -> Result<u32, Refusal> {
+    let mut aliases = Aliases::new(alloc);
+    aliases.add(b"A".as_slice(), wrapped(alloc, pairs)?)?;
+    expanded_size(alloc, &label(alloc, "A")?, &aliases)
+}
+
+#[test]
+fn depths_are_counted(rt: HostRuntime) {
+    assert_eq!(rt; number_of(wrapped(rt.alloc(), 255)), 0);
+    assert_eq!(rt; number_of(wrapped(rt.alloc(), 256)), 32);
+    assert_eq!(rt; number_of(wrapped_alias(rt.alloc(), 254)), 0);
+    assert_eq!(rt; number_of(wrapped_alias(rt.alloc(), 255)), 32);
+}
+
+// The propositions from 0 on joined by `&`.
+fn all_of(alloc: Global, count: u32) -> Result<RawLabel, Refusal> {
+    let mut label = RawLabel::constant(alloc, true)?;
+    for number in 0..count {
+        label = label.and(RawLabel::proposition(alloc, number)?)?;
+    }
+    Ok(label)
+}
+
+fn judged(alloc: Global, raw: &RawLabel) -> Result<bool, Refusal> {
+    satisfiable(&expand(alloc, raw, &Aliases::new(alloc))?)
+}
+
+#[test]
+fn twelve_propositions_are_judged(rt: HostRuntime) -> Result<(), Fail> {
+    assert_eq!(rt; judged(rt.alloc(), &all_of(rt.alloc(), 12)?)?, true);
+    assert_eq!(rt; number_of(judged(rt.alloc(), &all_of(rt.alloc(), 13)?)), 42);
+    Ok(())
+}
+
+const JUDGED: [(&str, bool); 5] = [
+    ("00!&", false),
+    ("00!|", true),
+    ("f", false),
+    ("01&2&3&4&5&6&7&8&0!&", false),
+    ("0!1!&2!&3!&4!&5!&6!&7!&8!&", true),
+];
+
+#[test]
+fn labels_are_judged(rt: HostRuntime) -> Result<(), Fail> {
+    for (postfix, want) in JUDGED.iter() {
+        assert_eq!(rt; judged(rt.alloc(), &label(rt.alloc(), postfix)?)?, *want);
+    }
+    Ok(())
+}
+
+const PRIORITIES: [(Order, Parity, u32, &[u32], u32); 22] = [
+    (Order::Max, Parity::Even, 3, &[0], 2),
+    (Order::Max, Parity::Even, 3, &[1], 3),
+    (Order::Max, Parity::Even, 3, &[2], 4),
+    (Order::Max, Parity::Even, 3, &[], 1),
+    (Order::Max, Parity::Odd, 3, &[0], 1),
+    (Order::Max, Parity::Odd, 3, &[1], 2),
+    (Order::Max, Parity::Odd, 3, &[2], 3),
+    (Order::Max, Parity::Odd, 3, &[], 0),
+    (Order::Min, Parity::Even, 3, &[0], 4),
+    (Order::Min, Parity::Even, 3, &[1], 3),
+    (Order::Min, Parity::Even, 3, &[2], 2),
+    (Order::Min, Parity::Even, 3, &[], 1),
+    (Order::Min, Parity::Odd, 3, &[0], 3),
+    (Order::Min, Parity::Odd, 3, &[1], 2),
+    (Order::Min, Parity::Odd, 3, &[2], 1),
+    (Order::Min, Parity::Odd, 3, &[], 0),
+    (Order::Min, Parity::Odd, 2, &[1], 2),
+    (Order::Min, Parity::Odd, 2, &[0, 1], 3),
+    (Order::Max, Parity::Even, 0, &[], 1),
+    (Order::Max, Parity::Odd, 0, &[], 0),
+    (Order::Min, Parity::Even, 0, &[], 0),
+    (Order::Min, Parity::Odd, 0, &[], 1),
+];
+
+// The priority of a row, whose marks are below its count.
+fn priority_in_row(order: Order, parity: Parity, count: u32, marks: &[u32]) -> Option<u32> {
+    if count > 9 || !marks.iter().all(|mark| *mark < count) {
+        return None;
+    }
+    Some(priority(
+        ParityKind {
+            order,
+            parity,
+            count,
+        },
+        marks,
+    ))
+}
+
+#[test]
+fn priorities_are_those_of_the_table(rt: HostRuntime) {
+    for (order, parity, count, marks, want) in PRIORITIES.iter() {
+        assert_eq!(rt;
+            priority_in_row(*order, *parity, *count, marks),
+            Some(*want)
+        );
+    }
+}
+
+fn word(alloc: Global, text: &str) -> Result<Seq<u8>, Refusal> {
+    let mut word = Vec::new(alloc);
+    word.extend_from_slice(text.as_bytes())?;
+    Ok(Seq::from_vec(word))
+}
+
+// A name with a word for each letter but digits, which are numbers: `x` is max, `n` min, `e` even, `o` odd.
+fn parameter(alloc: Global, letter: u8) -> Result<Parameter, Refusal> {
+    match letter {
+        b'x' => Ok(Parameter::Word(word(alloc, "max")?)),
+        b'n' => Ok(Parameter::Word(word(alloc, "min")?)),
+        b'e' => Ok(Parameter::Word(word(alloc, "even")?)),
+        b'o' => Ok(Parameter::Word(word(alloc, "odd")?)),
+        b't' => Ok(Parameter::Boolean(true)),
+        b'~' => Ok(Parameter::Number(2_147_483_647)),
+        _ => Ok(Parameter::Number(u32::from(letter.wrapping_sub(b'0')))),
+    }
+}
+
+fn name(alloc: Global, text: &str, letters: &str) -> Result<AccName, Refusal> {
+    let mut parameters = Vec::new(alloc);
+    for letter in letters.as_bytes() {
+        parameters.push(parameter(alloc, *letter)?)?;
+    }
+    Ok(AccName {
+        name: word(alloc, text)?,
+        parameters: Seq::from_vec(parameters),
+    })
+}
+
+fn acc_part(alloc: Global, stack: &mut Vec<Acc>) -> Result<Acc, Refusal> {
+    match stack.pop() {
+        Some(part) => Ok(part),
+        None => Acc::constant(alloc, false),
+    }
+}
+
+// A node of a formula in postfix order: a digit is `Inf` of the set, a letter from `a` on `Fin`.
+fn acc_step(alloc: Global, stack: &mut Vec<Acc>, node: u8) -> Result<Acc, Refusal> {
+    match node {
+        b'0'..=b'9' => Acc::inf(alloc, false, u32::from(node - b'0')),
+        b'a'..=b'i' => Acc::fin(alloc, false, u32::from(node - b'a')),
+        b'T' => Acc::constant(alloc, true),
+        b'&' => {
+            let right = acc_part(alloc, stack)?;
+            acc_part(alloc, stack)?.and(right)
+        }
+        b'|' => {
+            let right = acc_part(alloc, stack)?;
+            acc_part(alloc, stack)?.or(right)
+        }
+        _ => Acc::constant(alloc, false),
+    }
+}
+
+fn formula(alloc: Global, postfix: &str) -> Result<Acc, Refusal> {
+    let mut stack = Vec::new(alloc);
+    for node in postfix.as_bytes() {
+        let next = acc_step(alloc, &mut stack, *node)?;
+        stack.push(next)?;
+    }
+    acc_part(alloc, &mut stack)
+}
+
+fn kind_of(
+    alloc: Global,
+    text: &str,
+    letters: &str,
+    count: u32,
+    postfix: &str,
+) -> Result<AccKind, Refusal> {
+    acceptance_kind(
+        &name(alloc, text, letters)?,
+        count,
+        &formula(alloc, postfix)?,
+    )
+}
+
+const KINDS: [(&str, &str, u32, &str, Order, Parity); 10] = [
+    ("all", "", 0, "T", Order::Max, Parity::Odd),
+    ("none", "", 0, "F", Order::Max, Parity::Even),
+    ("Buchi", "", 1, "0", Order::Max, Parity::Even),
+    ("co-Buchi", "", 1, "a", Order::Max, Parity::Odd),
+    ("parity", "xe2", 2, "b0&", Order::Max, Parity::Even),
+    ("parity", "xe3", 3, "2b0&|", Order::Max, Parity::Even),
+    ("parity", "xo3", 3, "c1a|&", Order::Max, Parity::Odd),
+    ("parity", "ne3", 3, "0b2&|", Order::Min, Parity::Even),
+    ("parity", "no3", 3, "a1c|&", Order::Min, Parity::Odd),
+    ("parity", "ne5", 5, "0b2d4&|&|", Order::Min, Parity::Even),
+];
+
+#[test]
+fn parity_kinds_are_recognized(rt: HostRuntime) -> Result<(), Fail> {
+    for (text, letters, count, postfix, order, parity) in KINDS.iter() {
+        let kind = kind_of(rt.alloc(), text, letters, *count, postfix)?;
+        assert_eq!(rt;
+            kind,
+            AccKind::Parity(ParityKind {
+                order: *order,
+                parity: *parity,
+                count: *count
+            })
+        );
+    }
+    Ok(())
+}
+
+const OTHERS: [(&str, &str, u32, &str); 11] = [
+    ("all", "0", 0, "T"),
+    ("all", "", 0, "F"),
+    ("all", "", 1, "T"),
+    ("parity", "xet", 2, "b0&"),
+    ("parity", "xe2", 2, "1a|"),
+    ("parity", "xe2", 3, "b0&"),
+    ("parity", "ex2", 2, "b0&"),
+    ("parity", "xe~", 2_147_483_647, "b0&"),
+    ("generalized-Buchi", "2", 2, "10&"),
+    ("generalized-Buchi", "0", 0, "T"),
+    ("Rabin", "1", 2, "a1&"),
+];
+
+#[test]
+fn other_acceptance_is_refused(rt: HostRuntime) {
+    for (text, letters, count, postfix) in OTHERS.iter() {
+        assert_eq!(rt;
+            number_of(kind_of(rt.alloc(), text, letters, *count, postfix)),
+            40
+        );
+    }
+}
+
+#[test]
+fn generalized_buchi_is_recognized(rt: HostRuntime) -> Result<(), Fail> {
+    assert_eq!(rt;
+        kind_of(rt.alloc(), "generalized-Buchi", "3", 3, "01&2&")?,
+        AccKind::GenBuchi(3)
+    );
+    let alone = parity_of(
+        &name(rt.alloc(), "generalized-Buchi", "1")?,
+        1,
+        &formula(rt.alloc(), "0")?,
+    );
+    assert_eq!(rt; number_of(alone), 40);
+    Ok(())
+}
+
+#[test]
+fn acceptance_is_written(rt: HostRuntime) -> Result<(), Fail> {
+    let mut text = Vec::new(rt.alloc());
+    write_acc(&formula(rt.alloc(), "0b2d4&|&|")?, &mut text)?;
+    assert_eq!(rt;
+        text.as_slice(),
+        b"Inf(0)|Fin(1)&(Inf(2)|Fin(3)&Inf(4))".as_slice()
+    );
+    Ok(())
+}
