@@ -3,7 +3,7 @@ use Rattle.std.proofs.Common.{◌≡◌, ℕ, ◌<◌, ◌≤◌, zero, suc, Boo
 use Rattle.std.proofs.Math.Seq.{take-length}
 use Rattle.std.proofs.lemmas.List.{length-map}
 use Rattle.std.specs.Str.{bytes_eq}
-use Rattle.omega_acc.specs.Expanding.{Defined, Entry, IsBodyAt, Meaning, both, entries_of, in_parentheses, negated, place_of, replaced, stands_for}
+use Rattle.omega_acc.specs.Expanding.{Defined, Entry, IsBodyAt, Meaning, both, entries_of, in_parentheses, negated, place_among, replaced, stands_for}
 use Rattle.omega_acc.specs.Label.{LabelTree, label_depth}
 use Rattle.omega_acc.specs.Label as label
 use Rattle.omega_acc.specs.RawLabel.{RawLabelTree, alias, conjunction, constant, disjunction, group, negation, proposition}
@@ -38,15 +38,15 @@ extent-here true here others place d there within rest = refl
 extent-here false here others place d there within rest = rest (omega arith)
 
 -- the extent at the place of a name is that of what it stands for
-pub extent-at : (name : List ℕ) (before : List Entry) (definitions : List Defined) (d : Option Extent) → place_of definitions name < length definitions
-    → get_or (map (λ entry. option_map extent_of entry.meaning) (entries_of before definitions)) (place_of definitions name) d
+pub extent-at : (name : List ℕ) (before : List Entry) (definitions : List Defined) (d : Option Extent) → place_among definitions name < length definitions
+    → get_or (map (λ entry. option_map extent_of entry.meaning) (entries_of before definitions)) (place_among definitions name) d
     ≡ extent_named (entries_of before definitions) name
 extent-at name before [] d within = absurd (omega arith)
 extent-at name before (next ∷ rest) d within =
     let entries = entries_of (before ++ entry_of before next ∷ []) rest in
     let others = map (λ (entry : Entry). option_map extent_of entry.meaning) entries in
     let count : length others ≡ length rest = length-map entries (λ (entry : Entry). option_map extent_of entry.meaning) ∙ length-entries_of (before ++ entry_of before next ∷ []) rest in
-    extent-here (bytes_eq name next.name) (replaced before next.body) others (place_of rest name) d (stands_for entries name)
+    extent-here (bytes_eq name next.name) (replaced before next.body) others (place_among rest name) d (stands_for entries name)
     (omega (arith, within, count)) (λ lt. extent-at name (before ++ entry_of before next ∷ []) rest d (omega arith))
 
 none-here : (b : Bool) (here there : Option Meaning) (count place : ℕ) → suc count ≤ cond b 0 (suc place) → (count ≤ place → there ≡ None) → cond b here there ≡ None
@@ -54,26 +54,26 @@ none-here true here there count place past rest = absurd (omega arith)
 none-here false here there count place past rest = rest (omega arith)
 
 -- a name that is not there stands for nothing
-pub stands_for-none : (name : List ℕ) (before : List Entry) (definitions : List Defined) → length definitions ≤ place_of definitions name
+pub stands_for-none : (name : List ℕ) (before : List Entry) (definitions : List Defined) → length definitions ≤ place_among definitions name
     → stands_for (entries_of before definitions) name ≡ None
 stands_for-none name before [] past = refl
 stands_for-none name before (next ∷ rest) past =
     none-here (bytes_eq name next.name) (replaced before next.body) (stands_for (entries_of (before ++ entry_of before next ∷ []) rest) name)
-    (length rest) (place_of rest name) past (λ le. stands_for-none name (before ++ entry_of before next ∷ []) rest le)
+    (length rest) (place_among rest name) past (λ le. stands_for-none name (before ++ entry_of before next ∷ []) rest le)
 
 past-here : (b : Bool) (here there : Option Meaning) (limit place : ℕ) → suc limit ≤ cond b 0 (suc place) → (limit ≤ place → there ≡ None) → cond b here there ≡ None
 past-here true here there limit place past rest = absurd (omega arith)
 past-here false here there limit place past rest = rest (omega arith)
 
 -- a name whose place is not before the limit stands for nothing there
-pub stands_for-past : (name : List ℕ) (before : List Entry) (definitions : List Defined) (limit : ℕ) → limit ≤ place_of definitions name
+pub stands_for-past : (name : List ℕ) (before : List Entry) (definitions : List Defined) (limit : ℕ) → limit ≤ place_among definitions name
     → stands_for (take limit (entries_of before definitions)) name ≡ None
 stands_for-past name before [] zero past = refl
 stands_for-past name before [] (suc limit) past = refl
 stands_for-past name before (next ∷ rest) zero past = refl
 stands_for-past name before (next ∷ rest) (suc limit) past =
     past-here (bytes_eq name next.name) (replaced before next.body) (stands_for (take limit (entries_of (before ++ entry_of before next ∷ []) rest)) name)
-    limit (place_of rest name) past (λ le. stands_for-past name (before ++ entry_of before next ∷ []) rest limit le)
+    limit (place_among rest name) past (λ le. stands_for-past name (before ++ entry_of before next ∷ []) rest limit le)
 
 meaning-here : (b : Bool) (before : List Entry) (next : Defined) (entries : List Entry) (rest : List Defined) (place limit : ℕ) (there : Option Meaning) (body : RawLabelTree)
     → IsBodyAt (next ∷ rest) (cond b 0 (suc place)) body → cond b 0 (suc place) < suc limit
@@ -89,15 +89,15 @@ meaning-here false before next entries rest place limit there body is lt others 
 
 -- a name before the limit stands for what its definition means behind the entries before it
 pub stands_for-at : (name : List ℕ) (before : List Entry) (definitions : List Defined) (limit : ℕ) (body : RawLabelTree)
-    → IsBodyAt definitions (place_of definitions name) body → place_of definitions name < limit
-    → stands_for (take limit (entries_of before definitions)) name ≡ replaced (before ++ take (place_of definitions name) (entries_of before definitions)) body
+    → IsBodyAt definitions (place_among definitions name) body → place_among definitions name < limit
+    → stands_for (take limit (entries_of before definitions)) name ≡ replaced (before ++ take (place_among definitions name) (entries_of before definitions)) body
 stands_for-at name before [] limit body is lt = absurd (none-some is)
   where
     none-some : {one : RawLabelTree} → None ≡ Some one → ⊥
     none-some e = cc
 stands_for-at name before (next ∷ rest) zero body is lt = absurd (omega arith)
 stands_for-at name before (next ∷ rest) (suc limit) body is lt =
-    meaning-here (bytes_eq name next.name) before next (entries_of (before ++ entry_of before next ∷ []) rest) rest (place_of rest name) limit
+    meaning-here (bytes_eq name next.name) before next (entries_of (before ++ entry_of before next ∷ []) rest) rest (place_among rest name) limit
     (stands_for (take limit (entries_of (before ++ entry_of before next ∷ []) rest)) name) body is lt
     (λ at within. stands_for-at name (before ++ entry_of before next ∷ []) rest limit body at within)
 

@@ -1,4 +1,4 @@
--- What a label means once each alias is replaced by its definition (HOA v1, aliases; formats, expressions).
+-- What a label means once each alias is replaced by its definition (HOA v1, aliases; docs/formats.md, labels and acceptance formulas).
 use Rattle.std.specs.Prelude.{◌≡◌, ℕ, suc, ◌+◌, ◌<◌, ◌≤◌, length, slice_get, nat_lt, if◌then◌else◌, List, [], ◌∷◌, ◌++◌, Option, Some, None, option_map, max}
 use Rattle.std.specs.Coded.{Coded, code_by, coded_list, coded×, coded_ℕ}
 use Rattle.std.specs.Str.{bytes_eq}
@@ -80,38 +80,38 @@ abbrev pub expansion : List Defined → RawLabelTree → Option Meaning
 expansion definitions raw = replaced (entries_of [] definitions) raw
 
 -- the fault of a meaning: an undefined alias, or else its depth, or else its size
-abbrev pub fault_of : Option Meaning → Option AutomatonFault
-fault_of None = Some Alias
-fault_of (Some meaning) =
+abbrev pub fault_of_meaning : Option Meaning → Option AutomatonFault
+fault_of_meaning None = Some Alias
+fault_of_meaning (Some meaning) =
     if nat_lt most_depth meaning.depth then Some TooDeep
     else (if nat_lt most_size (label_size meaning.tree) then Some Expansion else None)
 
 -- the label is what another one as it is written means, and that has no fault
 pub record IsExpansion (definitions : List Defined) (raw : RawLabelTree) (tree : LabelTree) : Type 0 where
-  pub sound : fault_of (expansion definitions raw) ≡ None
+  pub sound : fault_of_meaning (expansion definitions raw) ≡ None
   pub tree_is : option_map (λ meaning. meaning.tree) (expansion definitions raw) ≡ Some tree
 
 -- what the label means has no fault and this many tree nodes
 pub record IsExpanded (definitions : List Defined) (raw : RawLabelTree) (size : ℕ) : Type 0 where
-  pub sound : fault_of (expansion definitions raw) ≡ None
+  pub sound : fault_of_meaning (expansion definitions raw) ≡ None
   pub size_is : option_map (λ meaning. label_size meaning.tree) (expansion definitions raw) ≡ Some size
 
 -- a refusal by the fault of the meaning, or want of memory
 abbrev pub IsUnexpanded : List Defined → RawLabelTree → Refusal → Type 0
-IsUnexpanded definitions raw = or_automaton (λ fault. fault_of (expansion definitions raw) ≡ Some fault) (or_memory never)
+IsUnexpanded definitions raw = or_automaton (λ fault. fault_of_meaning (expansion definitions raw) ≡ Some fault) (or_memory never)
 
 -- the place of a name among definitions, or how many they are
-abbrev pub place_of : List Defined → List ℕ → ℕ
-place_of [] name = 0
-place_of (next ∷ rest) name = if bytes_eq name next.name then 0 else suc (place_of rest name)
+abbrev pub place_among : List Defined → List ℕ → ℕ
+place_among [] name = 0
+place_among (next ∷ rest) name = if bytes_eq name next.name then 0 else suc (place_among rest name)
 
 -- one definition is put last
 abbrev pub IsAdded : List Defined → List ℕ → RawLabelTree → List Defined → Type 0
-IsAdded old name body new = (length old ≤ place_of old name) × (new ≡ old ++ record { name = name; body = body } ∷ [])
+IsAdded old name body new = (length old ≤ place_among old name) × (new ≡ old ++ record { name = name; body = body } ∷ [])
 
 -- the name is there, or want of memory
 abbrev pub IsRepeated : List Defined → List ℕ → Refusal → Type 0
-IsRepeated old name = or_automaton (λ fault. (fault ≡ Alias) × (place_of old name < length old)) (or_memory never)
+IsRepeated old name = or_automaton (λ fault. (fault ≡ Alias) × (place_among old name < length old)) (or_memory never)
 
 -- the body of the definition at a place
 abbrev pub IsBodyAt : List Defined → ℕ → RawLabelTree → Type 0

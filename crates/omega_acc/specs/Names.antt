@@ -1,4 +1,4 @@
--- Which acceptance a name, a count of sets and a formula stand for (formats, parity kinds and priorities).
+-- Which acceptance a name, a count of sets and a formula stand for (docs/formats.md, acceptance kinds and priorities).
 use Rattle.std.specs.Prelude.{◌≡◌, ℕ, ◌≤◌, if◌then◌else◌, List, [], ◌∷◌, Option, Some, None, codes}
 use Rattle.std.specs.Str.{bytes_eq}
 use Rattle.omega_text.specs.Cases.{never, or_task}

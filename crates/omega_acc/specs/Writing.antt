@@ -1,4 +1,4 @@
--- How expressions are written (formats, canonical text of an automaton): no spaces, and parentheses only where an operator needs them.
+-- How expressions are written (docs/formats.md, labels and acceptance formulas): no spaces, and parentheses only where an operator needs them.
 use Rattle.std.specs.Prelude.{ℕ, Bool, nat_le, nat_lt, if◌then◌else◌, List, [], ◌∷◌, ◌++◌, codes, decimal}
 use Rattle.std.specs.Coded.{Coded, code_by, coded_list, coded×, coded_ℕ}
 use Rattle.std.proofs.Common.{refl}

@@ -2,7 +2,7 @@ ghost use Rattle.std.specs.Prelude.{◌≡◌, ◌<◌, ◌++◌, [], ◌∷◌,
 ghost use Rattle.std.specs.List.{list_any};
 ghost use Rattle.std.specs.Str.{bytes_eq};
 ghost use Rattle.omega_acc.specs.Depth.{IsMemory};
-ghost use Rattle.omega_acc.specs.Expanding.{IsAdded, IsBodyAt, IsRepeated, entries_of, expansion, place_of};
+ghost use Rattle.omega_acc.specs.Expanding.{IsAdded, IsBodyAt, IsRepeated, entries_of, expansion, place_among};
 ghost use Rattle.omega_acc.specs.layout.Extents.{extent_named, extent_of};
 
 use crate::extents::{Extent, Extents, atom, both, in_parentheses, negated};
@@ -66,7 +66,7 @@ impl Aliases {
 
     /// The place of a name, or how many there are where it is not among them.
     pub(crate) fn place(&self, name: &[u8]) -> usize
-        ensures { result ≡ place_of self.now name.now }
+        ensures { result ≡ place_among self.now name.now }
     {
         match self.names.get_index_of(name) {
             Some(place) => place,

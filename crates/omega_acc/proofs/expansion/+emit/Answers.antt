@@ -1,7 +1,7 @@
 -- Each node puts out what it stands for.
 use Rattle.std.proofs.Common.{◌+◌, drop, ◌++◌, ◌<◌, ◌≤◌, [], take, ap, refl, subst, sym, ◌∙◌, arith, IsSome}
 use Rattle.std.proofs.lemmas.Bool.{false≢true}
-use Rattle.omega_acc.specs.Expanding.{IsBodyAt, entries_of, place_of, replaced, stands_for}
+use Rattle.omega_acc.specs.Expanding.{IsBodyAt, entries_of, place_among, replaced, stands_for}
 use Rattle.omega_acc.specs.layout.Emitting.{AllStand, emitted, nodes_of}
 use Rattle.omega_acc.specs.layout.RawLabel.{alias_names}
 use Rattle.omega_acc.proofs.EmitLemmas.{emitted-alias, emitted-group, emitted-label, emitted-push, stand-at, stand-label, stand-moved}
@@ -26,7 +26,7 @@ emit-requires t c =
     let stands = (stand-at entries c.loop-node.names.now c.nodes-node-items.result.now c.loop-node.node-index _ _ c.loop-node-test.true c.in-Alias.is c.loop-node.invariant.stand).0 in
     let named = subst (λ name. IsSome (stands_for entries name)) (sym c.front.ensures) stands in
     let body = subst (λ place. IsBodyAt c.args.aliases.now place c.body.result.now) c.place-place.ensures c.body.ensures in
-    let lower : place_of c.args.aliases.now c.front.result.now < c.args.before = omega (arith, c.place-place.ensures, c.if-place-before.true) in
+    let lower : place_among c.args.aliases.now c.front.result.now < c.args.before = omega (arith, c.place-place.ensures, c.if-place-before.true) in
     let means = stands_for-at c.front.result.now [] c.args.aliases.now c.args.before c.body.result.now body lower in (
       omega (arith, c.decreases, c.if-place-before.true),
       (
@@ -65,7 +65,7 @@ loop-node-preserved t c =
       }
       | in-Alias+then-place-before+in_ok-emit-in-Alias w ↦
           let body = subst (λ place. IsBodyAt c.args.aliases.now place w.body.result.now) w.place-place.ensures w.body.ensures in
-          let lower : place_of c.args.aliases.now w.front.result.now < c.args.before = omega (arith, w.place-place.ensures, w.if-place-before.true) in
+          let lower : place_among c.args.aliases.now w.front.result.now < c.args.before = omega (arith, w.place-place.ensures, w.if-place-before.true) in
           let means = stands_for-at w.front.result.now [] c.args.aliases.now c.args.before w.body.result.now body lower in
           let moved = ap (λ n. n.now) w.names-is ∙ w.behind-names.ensures in
           record {
@@ -75,7 +75,7 @@ loop-node-preserved t c =
           }
       | in-Alias+else-place-before w ↦
           let stands = (stand-at entries c.loop-node.names.now c.nodes-node-items.result.now c.loop-node.node-index _ _ c.loop-node-test.true w.in-Alias.is c.loop-node.invariant.stand).0 in
-          let higher : c.args.before ≤ place_of c.args.aliases.now w.front.result.now = omega (arith, w.place-place.ensures, w.if-place-before.false) in
+          let higher : c.args.before ≤ place_among c.args.aliases.now w.front.result.now = omega (arith, w.place-place.ensures, w.if-place-before.false) in
           let none = stands_for-past w.front.result.now [] c.args.aliases.now c.args.before higher in
           absurd (false≢true (subst IsSome (ap (stands_for entries) (sym w.front.ensures) ∙ none) stands))
     ]

@@ -1,7 +1,7 @@
 -- The name is not among the keys; with one more, or as they were, aliases keep what they keep.
 use Rattle.std.proofs.Common.{◌≡◌, length, ap, sym, ◌∙◌, arith, option_map}
 use Rattle.std.proofs.lemmas.List.{length-map}
-use Rattle.omega_acc.specs.Expanding.{expansion, place_of}
+use Rattle.omega_acc.specs.Expanding.{expansion, place_among}
 use Rattle.omega_acc.specs.layout.Aliases.{defined_of, definitions_of}
 use Rattle.omega_acc.specs.layout.Extents.{extent_of}
 use Rattle.omega_acc.proofs.AliasLemmas.{place-absent}
@@ -10,7 +10,7 @@ use Rattle.omega_acc.proofs.aliases.Aliases.add.Goals as goal
 
 pub put_last-requires : goal.put_last-requires
 put_last-requires c =
-    let seen : place_of (definitions_of c.self.inside) c.args.name.now ≡ place_of c.args.self.now c.args.name.now = ap (λ ds. place_of ds c.args.name.now) c.self.view_is in
+    let seen : place_among (definitions_of c.self.inside) c.args.name.now ≡ place_among c.args.self.now c.args.name.now = ap (λ ds. place_among ds c.args.name.now) c.self.view_is in
     let count : length (definitions_of c.self.inside) ≡ length c.args.self.now = ap length c.self.view_is in
     let size : length (definitions_of c.self.inside) ≡ length c.self.inside.definitions.items = length-map c.self.inside.definitions.items defined_of in
     place-absent (λ key. key.items) defined_of c.args.name.now c.self.inside.names.keys c.self.inside.definitions.items c.self.invariant.named

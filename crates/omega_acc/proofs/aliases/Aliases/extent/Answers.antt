@@ -1,7 +1,7 @@
 -- The extent at the place of a name is that of what it stands for.
 use Rattle.std.proofs.Common.{◌≡◌, [], None, get_or, length, map, option_map, ap, arith, sym, ◌∙◌}
 use Rattle.std.proofs.lemmas.List.{length-map}
-use Rattle.omega_acc.specs.Expanding.{entries_of, place_of}
+use Rattle.omega_acc.specs.Expanding.{entries_of, place_among}
 use Rattle.omega_acc.specs.layout.Aliases.{defined_of, definitions_of}
 use Rattle.omega_acc.specs.layout.Extents.{extent_named, extent_of}
 use Rattle.omega_acc.proofs.AliasLemmas.{get_or-made}
@@ -13,7 +13,7 @@ returns-then-place-len c =
     let definitions = definitions_of c.self.inside in
     let count : length definitions ≡ length c.self.inside.definitions.items = length-map c.self.inside.definitions.items defined_of in
     let seen : length definitions ≡ length c.args.self.now = ap length c.self.view_is in
-    let place : c.place-place.result ≡ place_of definitions c.args.name.now = c.place-place.ensures ∙ ap (λ ds. place_of ds c.args.name.now) (sym c.self.view_is) in
+    let place : c.place-place.result ≡ place_among definitions c.args.name.now = c.place-place.ensures ∙ ap (λ ds. place_among ds c.args.name.now) (sym c.self.view_is) in
     ap (λ d. d.extent) c.index.ensures
     ∙ (sym (get_or-made (λ d. d.extent) c.self.inside.definitions.items c.place-place.result c.index.result.now None (omega (arith, c.if-place-len.true, c.len.ensures, count, seen)))
     ∙ (ap (λ extents. get_or extents c.place-place.result None) c.self.invariant.measured
