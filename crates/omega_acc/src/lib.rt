@@ -35,6 +35,3 @@ pub use raw_label::RawLabel;
 pub use recognition::{acceptance_kind, parity_of};
 pub use satisfying::satisfiable;
 pub use writing::{write_acc, write_label};
-
-#[cfg(test)]
-mod tests;

@@ -83,8 +83,11 @@ module _ (text : List ℕ) (byte : ℕ) (digits : IsDigits text) (digit : is_dig
       let plain = (number_plain text value).0 spells in
       let is = value_of_all value (sym plain.2) in
       record {
-        number = λ small. (small, front_value (text ++ byte ∷ []) (value * 10 + (byte - 48)) all_digits
-            (λ zero_first. absurd (let first = first_decimal value positive (omega (arith, spells.0)) in omega (arith, ap head spells.1, same_head, zero_first))) is small);
+        number = λ small. (
+          small,
+          front_value (text ++ byte ∷ []) (value * 10 + (byte - 48)) all_digits
+              (λ zero_first. absurd (let first = first_decimal value positive (omega (arith, spells.0)) in omega (arith, ap head spells.1, same_head, zero_first))) is small,
+        );
         none = λ great. too_great (text ++ byte ∷ []) all_digits (omega (arith, is, great)) Number;
       }
 

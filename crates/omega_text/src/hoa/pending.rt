@@ -82,12 +82,7 @@ impl Pending {
                 if self.value > MOST_NUMBER as u64 {
                     return Err(TextFault::Number { at: self.start });
                 }
-                Ok(placed_token(
-                    HoaKind::Int,
-                    self.value as u32,
-                    self.start,
-                    end,
-                ))
+                Ok(placed_token(HoaKind::Int, self.value as u32, self.start, end))
             }
             _ => Err(TextFault::Lex { at: self.start }),
         }

@@ -1,4 +1,4 @@
-use crate::{
+use omega_acc::{
     Acc, AccKind, AccName, Aliases, Order, Parameter, Parity, ParityKind, RawLabel,
     acceptance_kind, expand, expanded_size, parity_of, priority, satisfiable, write_acc,
     write_label,
