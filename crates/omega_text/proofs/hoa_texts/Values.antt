@@ -1,10 +1,8 @@
 -- The value of digits, digit by digit.
-use Rattle.std.proofs.Common.{◌≡◌, ◌≢◌, ℕ, ◌+◌, ◌-◌, ◌*◌, ◌<◌, ◌≤◌, ◌⊎◌, ⊎_elim, true, List, [], ◌∷◌, ◌++◌, length, get_or, take, refl, sym, ap, ◌∙◌, subst, arith, length-append, inl, inr}
+use Rattle.std.proofs.Common.{◌≡◌, ◌≢◌, ℕ, ◌+◌, ◌-◌, ◌*◌, ◌<◌, ◌≤◌, ◌⊎◌, ⊎_elim, true, List, [], ◌∷◌, ◌++◌, length, get_or, take, refl, sym, ap, ◌∙◌, subst, arith, length-append}
 use Rattle.std.proofs.lemmas.Fmt.{decimal_digit, first_decimal}
 use Rattle.std.proofs.lemmas.List.{get_or-append_right, get_or_append_left, take_all, take_at}
 use Rattle.std.proofs.lemmas.List.Elements.{All-cons, All-nil, All-push}
-use Rattle.std.proofs.str.Laws.{order}
-use Rattle.std.specs.Fmt.{decimal}
 use Rattle.std.specs.Str.Parse.{digits_value}
 use Rattle.omega_text.specs.Limits.{most_number}
 use Rattle.omega_text.specs.declared.hoa.kind.HoaKind.TheVariants.{Int}
@@ -83,8 +81,11 @@ module _ (text : List ℕ) (byte : ℕ) (digits : IsDigits text) (digit : is_dig
       let plain = (number_plain text value).0 spells in
       let is = value_of_all value (sym plain.2) in
       record {
-        number = λ small. (small, front_value (text ++ byte ∷ []) (value * 10 + (byte - 48)) all_digits
-            (λ zero_first. absurd (let first = first_decimal value positive (omega (arith, spells.0)) in omega (arith, ap head spells.1, same_head, zero_first))) is small);
+        number = λ small. (
+          small,
+          front_value (text ++ byte ∷ []) (value * 10 + (byte - 48)) all_digits
+              (λ zero_first. absurd (let first = first_decimal value positive (omega (arith, spells.0)) in omega (arith, ap head spells.1, same_head, zero_first))) is small,
+        );
         none = λ great. too_great (text ++ byte ∷ []) all_digits (omega (arith, is, great)) Number;
       }
 
