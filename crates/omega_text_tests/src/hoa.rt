@@ -17,29 +17,61 @@ const TEXTS: [(&[u8], &[Part], Option<(u32, usize)>); 42] = [
     (b"T", &[(HoaKind::Identifier, 0, 1)], None),
     (b"t:", &[(HoaKind::HeaderName, 0, 2)], None),
     (b"a--END--", &[(HoaKind::Identifier, 0, 8)], None),
-    (b"0--END--", &[(HoaKind::Int, 0, 1), (HoaKind::End, 1, 8)], None),
-    (b"9a", &[(HoaKind::Int, 0, 1), (HoaKind::Identifier, 1, 2)], None),
+    (
+        b"0--END--",
+        &[(HoaKind::Int, 0, 1), (HoaKind::End, 1, 8)],
+        None,
+    ),
+    (
+        b"9a",
+        &[(HoaKind::Int, 0, 1), (HoaKind::Identifier, 1, 2)],
+        None,
+    ),
     (b"--ENDX", &[], Some((1, 0))),
-    (b"--BODY----ABORT--", &[(HoaKind::Body, 0, 8), (HoaKind::Abort, 8, 17)], None),
+    (
+        b"--BODY----ABORT--",
+        &[(HoaKind::Body, 0, 8), (HoaKind::Abort, 8, 17)],
+        None,
+    ),
     (b"t --EN", &[(HoaKind::True, 0, 1)], Some((1, 2))),
     (b"--BODYX-", &[], Some((1, 0))),
     (b"-", &[], Some((1, 0))),
     (b"HOA :", &[(HoaKind::Identifier, 0, 3)], Some((1, 4))),
     (b"HOA:", &[(HoaKind::HeaderName, 0, 4)], None),
-    (b"acc-name:all", &[(HoaKind::HeaderName, 0, 9), (HoaKind::Identifier, 9, 12)], None),
+    (
+        b"acc-name:all",
+        &[(HoaKind::HeaderName, 0, 9), (HoaKind::Identifier, 9, 12)],
+        None,
+    ),
     (b"@", &[], Some((1, 0))),
     (b"@ a", &[], Some((1, 0))),
-    (b"@a@-9", &[(HoaKind::AliasName, 0, 2), (HoaKind::AliasName, 2, 5)], None),
+    (
+        b"@a@-9",
+        &[(HoaKind::AliasName, 0, 2), (HoaKind::AliasName, 2, 5)],
+        None,
+    ),
     (b"/", &[], Some((1, 0))),
     (b"t//", &[(HoaKind::True, 0, 1)], Some((1, 1))),
     (b"/*/", &[], Some((1, 0))),
     (b"/*/**/*/", &[], None),
-    (b"/***/f/**/t", &[(HoaKind::False, 5, 6), (HoaKind::True, 10, 11)], None),
+    (
+        b"/***/f/**/t",
+        &[(HoaKind::False, 5, 6), (HoaKind::True, 10, 11)],
+        None,
+    ),
     (b" /* /* */ t", &[], Some((1, 1))),
     (b"t /* */ */", &[(HoaKind::True, 0, 1)], Some((1, 8))),
-    (b"\"/*\"t", &[(HoaKind::String, 0, 4), (HoaKind::True, 4, 5)], None),
+    (
+        b"\"/*\"t",
+        &[(HoaKind::String, 0, 4), (HoaKind::True, 4, 5)],
+        None,
+    ),
     (b"/*\"*/t", &[(HoaKind::True, 5, 6)], None),
-    (b"\"a\\\"b\\\\\"1", &[(HoaKind::String, 0, 8), (HoaKind::Int, 8, 9)], None),
+    (
+        b"\"a\\\"b\\\\\"1",
+        &[(HoaKind::String, 0, 8), (HoaKind::Int, 8, 9)],
+        None,
+    ),
     (b"\"\x00\xFF\n\"", &[(HoaKind::String, 0, 5)], None),
     (b"f \"a\\\"", &[(HoaKind::False, 0, 1)], Some((1, 2))),
     (b"\"", &[], Some((1, 0))),
@@ -172,7 +204,10 @@ fn wrong_byte(alloc: Global, text: &[u8], counts: &[usize]) -> Result<Option<usi
 
 fn are_parts(tokens: &[PlacedToken], parts: &[Part]) -> bool {
     tokens.len() == parts.len()
-        && tokens.iter().zip(parts.iter()).all(|(token, part)| is_part(token, part))
+        && tokens
+            .iter()
+            .zip(parts.iter())
+            .all(|(token, part)| is_part(token, part))
 }
 
 fn is_part(token: &PlacedToken, part: &Part) -> bool {
@@ -195,9 +230,7 @@ fn is_cut(alloc: Global, text: &[u8], parts: &[Part], fault: Option<(u32, usize)
             fault.is_none()
                 && tokens.len() == parts.len()
                 && tokens.iter().zip(parts.iter()).all(|(token, part)| {
-                    token.kind == part.0
-                        && token.span.start == part.1
-                        && token.span.end == part.2
+                    token.kind == part.0 && token.span.start == part.1 && token.span.end == part.2
                 })
         }
         Err(refusal) => match fault {
