@@ -8,19 +8,19 @@ use Rattle.omega_text.specs.Lexeme.{Lexeme}
 use Rattle.omega_text.specs.declared.hoa.kind.HoaKind.{HoaKind}
 use Rattle.omega_text.specs.declared.hoa.kind.HoaKind.TheVariants.{AliasName, Int}
 use Rattle.omega_text.specs.declared.hoa.mode.Mode.{Mode}
-use Rattle.omega_text.specs.declared.hoa.mode.Mode.TheVariants.{Start, Word, At, Alias, Digits, Quoted, Escaped, Slash, Comment, Star, Slashed, Dash, Dashes, Mark, Whole, Blank}
+use Rattle.omega_text.specs.declared.hoa.mode.Mode.TheVariants.{Start, Word, Alias, Digits, Whole, Blank}
 use Rattle.omega_text.specs.declared.hoa.pending.Pending.{Pending}
 use Rattle.omega_text.specs.declared.hoa.placed.PlacedToken.{PlacedToken}
 use Rattle.omega_text.specs.declared.hoa.placed.Settled.{Settled}
 use Rattle.omega_text.specs.declared.refusal.text.TextFault.{TextFault}
 use Rattle.omega_text.specs.declared.refusal.text.TextFault.TheVariants.{Lex, Number}
-use Rattle.omega_text.specs.hoa.Cut.{Ends, Follows, IsGap, IsLongest}
+use Rattle.omega_text.specs.hoa.Cut.{Follows, IsGap, IsLongest}
 use Rattle.omega_text.specs.hoa.Cut.IsGap.{nothing}
 use Rattle.omega_text.specs.hoa.Fault.{Faults, IsFaultOf}
 use Rattle.omega_text.specs.hoa.Format.{hoa_format}
-use Rattle.omega_text.specs.hoa.Forms.{IsUnit, Spells}
-use Rattle.omega_text.specs.hoa.scanning.Modes.{IsStuck, IsWithin, next_mode, run, step, unit_of}
-use Rattle.omega_text.specs.hoa.Pieces.{FaultsBehind, IsFinished, IsSettled, Settles, SettlesFault, lexeme_in, lexemes_in, settled_lexemes}
+use Rattle.omega_text.specs.hoa.Forms.{Spells}
+use Rattle.omega_text.specs.hoa.scanning.Modes.{IsStuck, IsWithin, next_mode, run, unit_of}
+use Rattle.omega_text.specs.hoa.Pieces.{FaultsBehind, IsSettled, SettlesFault, lexeme_in, lexemes_in, settled_lexemes}
 use Rattle.omega_text.specs.hoa.scanning.Reading.{Any, IsAt, IsKept, IsUnfinished, With}
 use Rattle.omega_text.specs.hoa.scanning.Unfinished.{Continues, IsFaultIn, IsGrown, IsPlaced, IsTokenIn, IsValueOf, ValueGrows, fresh}
 use Rattle.omega_text.specs.pg.Forms.{IsDigits}

@@ -1,5 +1,5 @@
 -- What is counted while units are read stays within bounds.
-use Rattle.std.proofs.Common.{◌≡◌, ℕ, zero, suc, ◌+◌, ◌<◌, ◌≤◌, false, Option, Some, None, length, get_or, subst, arith, ◌==◌, List, [], ◌∷◌, add-zero, zero-add, sym, ap}
+use Rattle.std.proofs.Common.{◌≡◌, ℕ, zero, suc, ◌+◌, ◌<◌, ◌≤◌, false, Option, Some, None, length, get_or, subst, arith, ◌==◌, List, [], ◌∷◌, add-zero, zero-add, sym}
 use Rattle.std.proofs.lemmas.Bool.Decides.{nat_tests}
 use Rattle.omega_text.specs.declared.hoa.kind.HoaKind.{HoaKind}
 use Rattle.omega_text.specs.declared.hoa.mode.Mode.{Mode}

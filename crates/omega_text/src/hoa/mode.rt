@@ -46,6 +46,7 @@ impl Mode {
     ghost use Rattle.omega_text.specs.hoa.scanning.Modes.{IsWithin, next_mode, unit_of};
 
     /// How far it has been read with one more byte, or none if no unit goes on so.
+    #[inline(always)]
     pub(crate) fn next(self, byte: u8) -> Option<Mode>
         requires { IsWithin (2 ^ 64 - 1) self }
         ensures { result ≡ next_mode self byte }
@@ -83,6 +84,7 @@ impl Mode {
 }
 
 /// What a byte begins.
+#[inline(always)]
 fn first_mode(byte: u8) -> Option<Mode>
     ensures { result ≡ first_mode byte }
 {
@@ -98,6 +100,7 @@ fn first_mode(byte: u8) -> Option<Mode>
 }
 
 /// The kind of a word of one letter.
+#[inline(always)]
 pub(crate) fn letter_kind(byte: u8) -> HoaKind
     ensures { result ≡ letter_kind byte }
 {
@@ -111,6 +114,7 @@ pub(crate) fn letter_kind(byte: u8) -> HoaKind
 }
 
 /// What a byte begins that is neither white, a letter nor a digit.
+#[inline(always)]
 fn mark_mode(byte: u8) -> Option<Mode>
     ensures { result ≡ mark_mode byte }
 {
@@ -127,6 +131,7 @@ fn mark_mode(byte: u8) -> Option<Mode>
     }
 }
 
+#[inline(always)]
 fn sign_mode(byte: u8) -> Option<Mode>
     ensures { result ≡ whole (sign_kind byte) }
 {
@@ -137,6 +142,7 @@ fn sign_mode(byte: u8) -> Option<Mode>
 }
 
 /// The sign that a byte is.
+#[inline(always)]
 pub(crate) fn sign_kind(byte: u8) -> Option<HoaKind>
     ensures { result ≡ sign_kind byte }
 {
@@ -151,6 +157,7 @@ pub(crate) fn sign_kind(byte: u8) -> Option<HoaKind>
     }
 }
 
+#[inline(always)]
 fn bracket_kind(byte: u8) -> Option<HoaKind>
     ensures { result ≡ bracket_kind byte }
 {
@@ -172,6 +179,7 @@ fn bracket_kind(byte: u8) -> Option<HoaKind>
 }
 
 /// Behind the beginning of a word.
+#[inline(always)]
 fn word_mode(byte: u8) -> Option<Mode>
     ensures { result ≡ word_mode byte }
 {
@@ -185,6 +193,7 @@ fn word_mode(byte: u8) -> Option<Mode>
 }
 
 /// Behind `@`, and behind the beginning of a name that follows it.
+#[inline(always)]
 fn alias_mode(byte: u8) -> Option<Mode>
     ensures { result ≡ alias_mode byte }
 {
@@ -196,6 +205,7 @@ fn alias_mode(byte: u8) -> Option<Mode>
 }
 
 /// Behind digits.
+#[inline(always)]
 fn digits_mode(byte: u8) -> Option<Mode>
     ensures { result ≡ digits_mode byte }
 {
@@ -207,6 +217,7 @@ fn digits_mode(byte: u8) -> Option<Mode>
 }
 
 /// Between the quotes of a string.
+#[inline(always)]
 fn quoted_mode(byte: u8) -> Mode
     ensures { result ≡ quoted_mode byte }
 {

@@ -24,6 +24,7 @@ pub(crate) struct Pending {
 
 impl Pending {
     /// Nothing of a unit, which begins here.
+    #[inline(always)]
     pub(crate) fn new(start: usize) -> Pending
         ensures { result ≡ fresh start }
     {
@@ -35,6 +36,7 @@ impl Pending {
     }
 
     /// With one byte more, which ends at this place and by which the unit has come so far; and the token that is whole then.
+    #[inline(always)]
     pub(crate) fn grow(self, next: Mode, byte: u8, end: usize) -> (Pending, Option<PlacedToken>)
         requires { self.start < end }
         ensures { IsGrown self byte end next result.0 result.1 }
@@ -71,6 +73,7 @@ impl Pending {
     }
 
     /// The token that the unit is if it ends at this place. A fault is 1 or 2, where it begins.
+    #[inline(always)]
     pub(crate) fn judge(self, end: usize) -> Result<PlacedToken, TextFault>
         ensures token { IfOk result (IsTokenIn self.mode self.value self.start end) }
         ensures fault { IfErr result (IsFaultIn self.mode self.value self.start) }
@@ -89,6 +92,7 @@ impl Pending {
     }
 }
 
+#[inline(always)]
 fn placed_token(kind: HoaKind, value: u32, start: usize, end: usize) -> PlacedToken
     ensures kind { result.kind ≡ kind }
     ensures value { result.value ≡ value }
@@ -103,6 +107,7 @@ fn placed_token(kind: HoaKind, value: u32, start: usize, end: usize) -> PlacedTo
 }
 
 /// The value of a digit.
+#[inline(always)]
 fn first_value(byte: u8) -> u64
     ensures { is_digit byte ≡ true → IsValueOf result (byte ∷ []) }
 {
@@ -110,6 +115,7 @@ fn first_value(byte: u8) -> u64
 }
 
 /// The value of digits with one more, from their value: none of them is a number that begins with a needless zero.
+#[inline(always)]
 fn more_value(value: u64, byte: u8) -> u64
     ensures { (text : List ℕ) → IsDigits text → is_digit byte ≡ true → IsValueOf value text → IsValueOf result (text ++ byte ∷ []) }
 {

@@ -39,6 +39,7 @@ impl HoaTokenizer {
     }
 
     /// Reads one byte, and gives what it settles.
+    #[inline(always)]
     pub fn step(&mut self, byte: u8) -> Settled
         requires { IsReading self.old }
         ensures reads { (seen : List ℕ) (lexemes : List (Lexeme HoaKind)) → HasRead seen lexemes self.old
@@ -71,6 +72,7 @@ impl HoaTokenizer {
     }
 }
 
+#[inline(always)]
 fn settled(
     first: Option<PlacedToken>,
     second: Option<PlacedToken>,
@@ -88,6 +90,7 @@ fn settled(
 }
 
 /// Reads one byte at a place: into the unit that is being read, if it goes on so.
+#[inline(always)]
 fn read_byte(pending: Pending, place: usize, byte: u8) -> (Pending, Settled)
     requires { IsOnWay pending place }
     ensures { (seen : List ℕ) (lexemes : List (Lexeme HoaKind)) → place ≡ length seen → IsAt Any seen lexemes pending
@@ -103,6 +106,7 @@ fn read_byte(pending: Pending, place: usize, byte: u8) -> (Pending, Settled)
 }
 
 /// Reads one byte at a place where the unit before it has ended, and another begins.
+#[inline(always)]
 fn end_unit(pending: Pending, place: usize, byte: u8) -> (Pending, Settled)
     requires { place < 2 ^ 64 - 1 }
     ensures { (seen : List ℕ) (lexemes : List (Lexeme HoaKind)) → place ≡ length seen → IsAt Any seen lexemes pending → next_mode pending.mode byte ≡ None

@@ -1,8 +1,8 @@
 -- What the last unit is.
-use Rattle.std.proofs.Common.{◌≡◌, [], ◌++◌, ◌∷◌, None, Some, sym, subst, ◌∙◌, append-nil, ap}
+use Rattle.std.proofs.Common.{None, Some, sym, subst, append-nil}
 use Rattle.omega_text.specs.Cut.{IsCut}
 use Rattle.omega_text.specs.hoa.Format.{hoa_format}
-use Rattle.omega_text.specs.hoa.Pieces.{FaultsBehind, IsFinished, lexeme_in}
+use Rattle.omega_text.specs.hoa.Pieces.{FaultsBehind, IsFinished}
 use Rattle.omega_text.specs.hoa.scanning.Unfinished.{IsTokenIn}
 use Rattle.omega_text.proofs.hoa_texts.Pieces.{ends_in_fault, ends_in_gap, ends_in_token, settled_as}
 use Rattle.omega_text.proofs.hoa.tokenizer.end_of_text.Goals as goal

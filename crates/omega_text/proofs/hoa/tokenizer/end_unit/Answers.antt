@@ -1,6 +1,5 @@
 -- The unit that has ended, and the one that begins.
-use Rattle.std.proofs.Common.{◌≡◌, ◌+◌, [], ◌++◌, ◌∷◌, length, None, Some, refl, sym, subst, ◌∙◌, append-nil, append_assoc, ap}
-use Rattle.omega_text.specs.declared.hoa.mode.Mode.TheVariants.{Start}
+use Rattle.std.proofs.Common.{◌+◌, [], ◌++◌, ◌∷◌, length, None, Some, sym, subst, ◌∙◌, append-nil, append_assoc, ap}
 use Rattle.omega_text.specs.declared.refusal.text.TextFault.TheVariants.{Lex}
 use Rattle.omega_text.specs.hoa.Pieces.{SettlesFault, lexeme_in, lexemes_in}
 use Rattle.omega_text.specs.hoa.scanning.Reading.{Any, IsAt, IsKept}

@@ -1,5 +1,5 @@
 -- What a fault leaves.
-use Rattle.std.proofs.Common.{◌≡◌, [], ◌++◌, None, Some, sym, subst, ◌∙◌, append-nil}
+use Rattle.std.proofs.Common.{None, Some, sym, subst, append-nil}
 use Rattle.omega_text.specs.hoa.Pieces.{FaultsBehind, IsFinished}
 use Rattle.omega_text.specs.hoa.scanning.Reading.{IsKept}
 use Rattle.omega_text.proofs.hoa_texts.Pieces.{ends_in_settled_fault, settled_as}

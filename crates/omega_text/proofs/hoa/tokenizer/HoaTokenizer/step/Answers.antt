@@ -1,5 +1,5 @@
 -- What was read and settled before, with one byte more.
-use Rattle.std.proofs.Common.{◌≡◌, ◌+◌, [], ◌++◌, ◌∷◌, length, None, Some, sym, subst, ap, ◌∙◌, arith, append-nil, length-append}
+use Rattle.std.proofs.Common.{[], ◌++◌, ◌∷◌, None, Some, sym, subst, ◌∙◌, arith, append-nil, length-append}
 use Rattle.omega_text.specs.hoa.Pieces.{IsSettled, SettlesFault, settled_lexemes}
 use Rattle.omega_text.specs.hoa.scanning.Reading.{IsKept}
 use Rattle.omega_text.proofs.hoa_texts.Pieces.{fault_stays, kept_settled, settled_as}
