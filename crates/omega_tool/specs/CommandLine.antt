@@ -1,6 +1,9 @@
 -- What a subcommand asks for with the texts of its options.
 use Rattle.std.specs.Prelude.{◌≡◌, ◌≢◌, ◌≤◌, ◌⊎◌, List, Option, Some, None, ℕ, codes, string_bytes, option_map}
 use Rattle.std.specs.Str.Parse.{IsNumeral, digits_value}
+use Rattle.clap.specs.Words.{Row, first_of}
+use Rattle.clap.specs.declared.error.kind.ErrorKind.{ErrorKind}
+use Rattle.clap.specs.declared.error.kind.ErrorKind.TheVariants.{DisplayHelp, DisplayVersion}
 use Rattle.omega_game.specs.declared.player.Player.{Player}
 use Rattle.omega_game.specs.Player.{player_number}
 use Rattle.omega_solve.specs.Limits.{most_lifts}
@@ -15,6 +18,7 @@ use Rattle.omega_tool.specs.declared.words.mistake.Mistake.TheVariants as mistak
 use Rattle.omega_tool.specs.declared.words.options.Name.{Name}
 use Rattle.omega_tool.specs.declared.words.options.Name.TheVariants as name
 use Rattle.omega_tool.specs.declared.words.options.Options.{Options}
+use Rattle.omega_tool.specs.Line.{IsFault}
 
 -- ---- what the text of an option stands for
 
@@ -133,3 +137,31 @@ IsMistake subcommand options mistake.Memory = Unit {0}
 IsMistake subcommand options (mistake.Missing option) = HasOption subcommand option × IsFaulty option options (mistake.Missing option)
 IsMistake subcommand options (mistake.Value option text reason) =
     HasOption subcommand option × IsFaulty option options (mistake.Value option text reason)
+
+-- ---- the line that is made of what `clap` found
+
+-- the line is the fault that tells of the mistake; want of memory is told by no line
+abbrev pub IsFaultOf : Mistake → Line → Type 0
+IsFaultOf found line = IsFault line × (found ≢ mistake.Memory)
+
+-- the line for the subcommand of this name with these options: what it asks for, or the fault that tells what is wrong with it
+abbrev pub IsLineOf : List ℕ → Options → Line → Type 0
+IsLineOf subcommand options line =
+    Asks subcommand options line ⊎ ((found : Mistake) × IsMistake subcommand options found × IsFaultOf found line)
+
+-- the line for the subcommand of this name, where the options are those that `clap` found behind it
+abbrev pub IsLineFor : List ℕ → List Row → Line → Type 0
+IsLineFor subcommand rows line =
+    (options : Options) × ((name : Name) → text_of name options ≡ first_of (id_of name) rows) × IsLineOf subcommand options line
+
+-- the line for the subcommand that `clap` found; a fault where it found none
+abbrev pub IsLineFound : Option (List ℕ × List Row) → Line → Type 0
+IsLineFound None line = IsFault line
+IsLineFound (Some (subcommand, rows)) line = IsLineFor subcommand rows line
+
+-- the line for an error of `clap`: help where the user asked for a text, else a fault
+abbrev pub IsPrinted : ErrorKind → Line → Type 0
+IsPrinted kind (line.Help text) = (kind ≡ DisplayHelp) ⊎ (kind ≡ DisplayVersion)
+IsPrinted kind (line.Fault text) = (kind ≢ DisplayHelp) × (kind ≢ DisplayVersion)
+IsPrinted kind (line.Run command budget) = ⊥
+IsPrinted kind (line.Verify file) = ⊥

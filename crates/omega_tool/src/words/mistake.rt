@@ -1,3 +1,6 @@
+ghost use Rattle.std.specs.Prelude.{◌≢◌, IfOk};
+ghost use Rattle.omega_tool.specs.declared.words.mistake.Mistake.TheVariants as mistake;
+
 use super::options::Name;
 use std::alloc::{AllocError, AllocFailed, Global};
 use std::fmt;
@@ -46,8 +49,10 @@ impl fmt::Display for Reason {
 }
 
 impl Mistake<'_> {
-    /// The text of the fault, in the form of those that `clap` finds.
-    pub fn text(&self, alloc: Global) -> Result<String, AllocError> {
+    /// The text of the fault, in the form of those that `clap` finds. Want of memory has none.
+    pub fn text(&self, alloc: Global) -> Result<String, AllocError>
+        ensures { IfOk result (λ _. self.now ≢ mistake.Memory) }
+    {
         let end = "\n\nFor more information, try '--help'.\n";
         match self {
             Mistake::Unknown => format!(in alloc; "error: the subcommand is not known{end}"),

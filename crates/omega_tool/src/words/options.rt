@@ -1,5 +1,5 @@
 ghost use Rattle.std.specs.Prelude.{◌≡◌};
-ghost use Rattle.clap.specs.Matches.{first_value, found_of};
+ghost use Rattle.clap.specs.Words.{first_of, found_of, rows_of};
 ghost use Rattle.omega_tool.specs.CommandLine.{id_of, text_of};
 
 use clap::ArgMatches;
@@ -40,7 +40,7 @@ pub struct Options<'a> {
 impl<'a> Options<'a> {
     /// The texts that `clap` found behind a subcommand.
     pub fn of(found: &ArgMatches<'a>) -> Options<'a>
-        ensures { (name : Name) → text_of name result ≡ first_value (found_of found.now) (id_of name) }
+        ensures { (name : Name) → text_of name result ≡ first_of (id_of name) (rows_of (found_of found.now)) }
     {
         Options {
             format: found.get_str("format"),
