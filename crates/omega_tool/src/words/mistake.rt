@@ -23,7 +23,7 @@ pub enum Mistake<'a> {
 pub enum Reason {
     /// It is empty.
     Empty,
-    /// It has a plus sign.
+    /// It begins with a sign.
     Sign,
     /// It has a byte that is no digit.
     NotDigits,
@@ -41,7 +41,7 @@ impl fmt::Display for Reason {
             Reason::Empty => f.write_str("cannot parse integer from empty string"),
             Reason::Sign => f.write_str("a number is written in digits, without a sign"),
             Reason::NotDigits => f.write_str("invalid digit found in string"),
-            Reason::TooLarge => f.write_str("number too large to fit in target type"),
+            Reason::TooLarge => f.write_str("the number is too large"),
             Reason::Above { number, most } => write!(f, "{number} is not in 0..={most}"),
             Reason::NoFormat => f.write_str("no format has this name"),
         }
