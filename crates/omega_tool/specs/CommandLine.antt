@@ -15,8 +15,8 @@ use Rattle.omega_tool.specs.declared.line.Line.{Line}
 use Rattle.omega_tool.specs.declared.line.Line.TheVariants as line
 use Rattle.omega_tool.specs.declared.words.mistake.Mistake.{Mistake}
 use Rattle.omega_tool.specs.declared.words.mistake.Mistake.TheVariants as mistake
-use Rattle.omega_tool.specs.declared.words.options.Name.{Name}
-use Rattle.omega_tool.specs.declared.words.options.Name.TheVariants as name
+use Rattle.omega_tool.specs.declared.words.options.OptionName.{OptionName}
+use Rattle.omega_tool.specs.declared.words.options.OptionName.TheVariants as name
 use Rattle.omega_tool.specs.declared.words.options.Options.{Options}
 use Rattle.omega_tool.specs.Line.{IsFault}
 
@@ -52,7 +52,7 @@ GivesBudget None budget = budget ≡ most_lifts
 GivesBudget (Some text) budget = IsNumberText most_lifts text budget
 
 -- the text of an option, if it is given
-abbrev pub text_of : Name → Options → Option (List ℕ)
+abbrev pub text_of : OptionName → Options → Option (List ℕ)
 text_of name.Format options = option_map (λ text. text.now) options.format
 text_of name.Player options = option_map (λ text. text.now) options.player
 text_of name.From options = option_map (λ text. text.now) options.from
@@ -60,7 +60,7 @@ text_of name.Budget options = option_map (λ text. text.now) options.budget
 text_of name.Game options = option_map (λ text. text.now) options.game
 
 -- how `clap` knows an option
-abbrev pub id_of : Name → List ℕ
+abbrev pub id_of : OptionName → List ℕ
 id_of name.Format = codes "format"
 id_of name.Player = codes "player"
 id_of name.From = codes "from"
@@ -91,7 +91,7 @@ Asks subcommand options (line.Fault text) = ⊥
 -- ---- what is wrong with a subcommand or an option
 
 -- the subcommand takes the option
-abbrev pub HasOption : List ℕ → Name → Type 0
+abbrev pub HasOption : List ℕ → OptionName → Type 0
 HasOption subcommand name.Format = (subcommand ≡ codes "show") ⊎ (subcommand ≡ codes "check") ⊎ (subcommand ≡ codes "canon")
 HasOption subcommand name.Player = subcommand ≡ codes "solve"
 HasOption subcommand name.From = subcommand ≡ codes "solve"
@@ -99,7 +99,7 @@ HasOption subcommand name.Budget = subcommand ≡ codes "solve"
 HasOption subcommand name.Game = subcommand ≡ codes "verify"
 
 -- the option has to be given
-abbrev pub IsRequired : Name → Type 0
+abbrev pub IsRequired : OptionName → Type 0
 IsRequired name.Format = Unit {0}
 IsRequired name.Player = ⊥
 IsRequired name.From = ⊥
@@ -107,7 +107,7 @@ IsRequired name.Budget = ⊥
 IsRequired name.Game = Unit {0}
 
 -- the text stands for no value of the option
-abbrev pub StandsForNothing : Name → List ℕ → Type 0
+abbrev pub StandsForNothing : OptionName → List ℕ → Type 0
 StandsForNothing name.Format text = (format : Format) → IsFormatText text format → ⊥
 StandsForNothing name.Player text = (player : Player) → IsPlayerText text player → ⊥
 StandsForNothing name.From text = (number : ℕ) → IsNumberText most_number text number → ⊥
@@ -115,7 +115,7 @@ StandsForNothing name.Budget text = (number : ℕ) → IsNumberText most_lifts t
 StandsForNothing name.Game text = ⊥
 
 -- the mistake is that the option is missing, or that its text stands for nothing
-abbrev pub IsFaulty : Name → Options → Mistake → Type 0
+abbrev pub IsFaulty : OptionName → Options → Mistake → Type 0
 IsFaulty option options (mistake.Missing other) = (other ≡ option) × IsRequired option × (text_of option options ≡ None)
 IsFaulty option options (mistake.Value other text reason) =
     (other ≡ option) × (text_of option options ≡ Some text.now) × StandsForNothing option text.now
@@ -152,7 +152,7 @@ IsLineOf subcommand options line =
 -- the line for the subcommand of this name, where the options are those that `clap` found behind it
 abbrev pub IsLineFor : List ℕ → List Row → Line → Type 0
 IsLineFor subcommand rows line =
-    (options : Options) × ((name : Name) → text_of name options ≡ first_of (id_of name) rows) × IsLineOf subcommand options line
+    (options : Options) × ((name : OptionName) → text_of name options ≡ first_of (id_of name) rows) × IsLineOf subcommand options line
 
 -- the line for the subcommand that `clap` found; a fault where it found none
 abbrev pub IsLineFound : Option (List ℕ × List Row) → Line → Type 0

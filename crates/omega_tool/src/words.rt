@@ -8,16 +8,16 @@ use crate::help::program::whole_program;
 use crate::line::Line;
 use clap::error::ErrorKind;
 use clap::{ArgMatches, Error};
+use line_for::line_for;
 use mistake::Mistake;
 use omega_text::Refusal;
 use options::Options;
-use request::line_for;
 use std::alloc::Global;
 
+pub mod line_for;
 pub mod mistake;
 pub mod number;
 pub mod options;
-pub mod request;
 
 /// What the words of a command line ask for, of which the first is the program's name. 60 alone.
 pub fn read_words<'a>(alloc: Global, words: &'a [String]) -> Result<Line, Refusal>

@@ -1,7 +1,7 @@
 ghost use Rattle.std.specs.Prelude.{◌≢◌, IfOk};
 ghost use Rattle.omega_tool.specs.declared.words.mistake.Mistake.TheVariants as mistake;
 
-use super::options::Name;
+use super::options::OptionName;
 use std::alloc::{AllocError, AllocFailed, Global};
 use std::fmt;
 
@@ -11,9 +11,9 @@ pub enum Mistake<'a> {
     /// No subcommand has the name.
     Unknown,
     /// The option has to be given.
-    Missing(Name),
+    Missing(OptionName),
     /// The text of the option stands for none of its values.
-    Value(Name, &'a str, Reason),
+    Value(OptionName, &'a str, Reason),
     /// There is no memory for what is asked for.
     Memory,
 }

@@ -3,7 +3,7 @@ use Rattle.std.proofs.Common.{◌∙◌}
 use Rattle.clap.proofs.WalkLemmas.{first_value-rows}
 use Rattle.clap.specs.Words.{found_of}
 use Rattle.omega_tool.specs.CommandLine.{id_of}
-use Rattle.omega_tool.specs.declared.words.options.Name.TheVariants.{Format, Player, From, Budget, Game}
+use Rattle.omega_tool.specs.declared.words.options.OptionName.TheVariants.{Format, Player, From, Budget, Game}
 use Rattle.omega_tool.proofs.words.options.Options.of.Goals as goal
 
 pub returns : goal.returns
