@@ -3,7 +3,7 @@ use Rattle.std.specs.Prelude.{◌≡◌, List, Option, Some, None, true, false, 
 use Rattle.omega_text.specs.Cases.{or_task}
 use Rattle.omega_text.specs.declared.refusal.Refusal.{Refusal}
 use Rattle.omega_text.specs.declared.refusal.task.TaskFault.{TaskFault}
-use Rattle.omega_text.specs.declared.refusal.task.TaskFault.TheVariants.{BadSolution, Budget, NotParity, TooManyPropositions, TooWide, UniversalBranch, UnknownNode}
+use Rattle.omega_text.specs.declared.refusal.task.TaskFault.TheVariants.{Budget, TooWide, UnknownNode}
 use Rattle.omega_game.specs.declared.player.Player.{Player}
 use Rattle.omega_game.specs.Game.{Node, priorities}
 use Rattle.omega_game.specs.Part.{IsPart}
@@ -35,11 +35,7 @@ pub record IsOverBudget (nodes : List Node) (asked : Option Player) (budget : �
 abbrev pub IsWholeFault : List Node → Option Player → ℕ → TaskFault → Type 0
 IsWholeFault nodes asked budget TooWide = IsTooWide nodes asked
 IsWholeFault nodes asked budget Budget = IsOverBudget nodes asked budget
-IsWholeFault nodes asked budget UnknownNode = ⊥
-IsWholeFault nodes asked budget BadSolution = ⊥
-IsWholeFault nodes asked budget NotParity = ⊥
-IsWholeFault nodes asked budget UniversalBranch = ⊥
-IsWholeFault nodes asked budget TooManyPropositions = ⊥
+IsWholeFault nodes asked budget fault = ⊥
 
 -- a part that the node with the identifier reaches has this fault
 pub record IsPartFault (game : List Node) (asked : Option Player) (identifier budget : ℕ) (fault : TaskFault) : Type 0 where
