@@ -1,5 +1,5 @@
 -- Lemmas by theme.
-pub mod Named
+pub mod Identifiers
 pub mod Obeying
 pub mod Places
 pub mod Solutions

@@ -14,7 +14,7 @@ use Rattle.omega_solve.specs.Within.{IsBudgetRefusal, IsFound}
 use Rattle.omega_solve.specs.declared.found.Found.{Found}
 use Rattle.omega_tool.specs.answers.solve.AnswerText.{IsAnswerOf, WinsExactly, answer_text}
 use Rattle.omega_tool.specs.answers.solve.Refusing.{IsSolvedFor}
-use Rattle.omega_tool.specs.answers.solve.Solving.{IsNamed}
+use Rattle.omega_tool.specs.answers.solve.Solving.{HasIdentifier}
 use Rattle.omega_tool.specs.steps.GameRefusal.{IsGameRefusal}
 use Rattle.omega_tool.specs.steps.Places.{places_from}
 use Rattle.omega_tool.proofs.Places.{Contains-places_from, IsStrictlyIncreasing-places_from, places_from-true}
@@ -81,19 +81,19 @@ refused-budget nodes asked player budget Io narrow solved_for h = h
 
 -- what refuses the part of a node refuses the solving from it
 pub refused-part : (game : List Node) (asked : Option Player) (identifier budget place : ℕ) (part : List Node) (refusal : Refusal)
-    → IsNamed game identifier place → IsPart game place part → IsGameRefusal part asked None budget refusal
+    → HasIdentifier game identifier place → IsPart game place part → IsGameRefusal part asked None budget refusal
     → IsGameRefusal game asked (Some identifier) budget refusal
-refused-part game asked identifier budget place part (Task UnknownNode) named reached h = absurd h
-refused-part game asked identifier budget place part (Task TooWide) named reached h =
-    record { place = place; named = named; part = part; reached = reached; fault_there = h }
-refused-part game asked identifier budget place part (Task Budget) named reached h =
-    record { place = place; named = named; part = part; reached = reached; fault_there = h }
-refused-part game asked identifier budget place part (Task BadSolution) named reached h = absurd h
-refused-part game asked identifier budget place part (Task NotParity) named reached h = absurd h
-refused-part game asked identifier budget place part (Task UniversalBranch) named reached h = absurd h
-refused-part game asked identifier budget place part (Task TooManyPropositions) named reached h = absurd h
-refused-part game asked identifier budget place part Memory named reached h = tt
-refused-part game asked identifier budget place part (Text fault) named reached h = h
-refused-part game asked identifier budget place part (Game fault) named reached h = h
-refused-part game asked identifier budget place part (Automaton fault) named reached h = h
-refused-part game asked identifier budget place part Io named reached h = h
+refused-part game asked identifier budget place part (Task UnknownNode) identified reached h = absurd h
+refused-part game asked identifier budget place part (Task TooWide) identified reached h =
+    record { place = place; identified = identified; part = part; reached = reached; fault_there = h }
+refused-part game asked identifier budget place part (Task Budget) identified reached h =
+    record { place = place; identified = identified; part = part; reached = reached; fault_there = h }
+refused-part game asked identifier budget place part (Task BadSolution) identified reached h = absurd h
+refused-part game asked identifier budget place part (Task NotParity) identified reached h = absurd h
+refused-part game asked identifier budget place part (Task UniversalBranch) identified reached h = absurd h
+refused-part game asked identifier budget place part (Task TooManyPropositions) identified reached h = absurd h
+refused-part game asked identifier budget place part Memory identified reached h = tt
+refused-part game asked identifier budget place part (Text fault) identified reached h = h
+refused-part game asked identifier budget place part (Game fault) identified reached h = h
+refused-part game asked identifier budget place part (Automaton fault) identified reached h = h
+refused-part game asked identifier budget place part Io identified reached h = h

@@ -1,6 +1,9 @@
 -- What a subcommand asks for with the texts of its options.
 use Rattle.std.specs.Prelude.{◌≡◌, ◌≢◌, ◌≤◌, ◌⊎◌, List, Option, Some, None, ℕ, codes, string_bytes, option_map}
 use Rattle.std.specs.Str.Parse.{IsNumeral, digits_value}
+use Rattle.clap.specs.Words.{Row, first_of}
+use Rattle.clap.specs.declared.error.kind.ErrorKind.{ErrorKind}
+use Rattle.clap.specs.declared.error.kind.ErrorKind.TheVariants.{DisplayHelp, DisplayVersion}
 use Rattle.omega_game.specs.declared.player.Player.{Player}
 use Rattle.omega_game.specs.Player.{player_number}
 use Rattle.omega_solve.specs.Limits.{most_lifts}
@@ -12,9 +15,10 @@ use Rattle.omega_tool.specs.declared.line.Line.{Line}
 use Rattle.omega_tool.specs.declared.line.Line.TheVariants as line
 use Rattle.omega_tool.specs.declared.words.mistake.Mistake.{Mistake}
 use Rattle.omega_tool.specs.declared.words.mistake.Mistake.TheVariants as mistake
-use Rattle.omega_tool.specs.declared.words.options.Name.{Name}
-use Rattle.omega_tool.specs.declared.words.options.Name.TheVariants as name
+use Rattle.omega_tool.specs.declared.words.options.OptionName.{OptionName}
+use Rattle.omega_tool.specs.declared.words.options.OptionName.TheVariants as name
 use Rattle.omega_tool.specs.declared.words.options.Options.{Options}
+use Rattle.omega_tool.specs.Line.{IsFault}
 
 -- ---- what the text of an option stands for
 
@@ -48,7 +52,7 @@ GivesBudget None budget = budget ≡ most_lifts
 GivesBudget (Some text) budget = IsNumberText most_lifts text budget
 
 -- the text of an option, if it is given
-abbrev pub text_of : Name → Options → Option (List ℕ)
+abbrev pub text_of : OptionName → Options → Option (List ℕ)
 text_of name.Format options = option_map (λ text. text.now) options.format
 text_of name.Player options = option_map (λ text. text.now) options.player
 text_of name.From options = option_map (λ text. text.now) options.from
@@ -56,7 +60,7 @@ text_of name.Budget options = option_map (λ text. text.now) options.budget
 text_of name.Game options = option_map (λ text. text.now) options.game
 
 -- how `clap` knows an option
-abbrev pub id_of : Name → List ℕ
+abbrev pub id_of : OptionName → List ℕ
 id_of name.Format = codes "format"
 id_of name.Player = codes "player"
 id_of name.From = codes "from"
@@ -87,7 +91,7 @@ Asks subcommand options (line.Fault text) = ⊥
 -- ---- what is wrong with a subcommand or an option
 
 -- the subcommand takes the option
-abbrev pub HasOption : List ℕ → Name → Type 0
+abbrev pub HasOption : List ℕ → OptionName → Type 0
 HasOption subcommand name.Format = (subcommand ≡ codes "show") ⊎ (subcommand ≡ codes "check") ⊎ (subcommand ≡ codes "canon")
 HasOption subcommand name.Player = subcommand ≡ codes "solve"
 HasOption subcommand name.From = subcommand ≡ codes "solve"
@@ -95,7 +99,7 @@ HasOption subcommand name.Budget = subcommand ≡ codes "solve"
 HasOption subcommand name.Game = subcommand ≡ codes "verify"
 
 -- the option has to be given
-abbrev pub IsRequired : Name → Type 0
+abbrev pub IsRequired : OptionName → Type 0
 IsRequired name.Format = Unit {0}
 IsRequired name.Player = ⊥
 IsRequired name.From = ⊥
@@ -103,7 +107,7 @@ IsRequired name.Budget = ⊥
 IsRequired name.Game = Unit {0}
 
 -- the text stands for no value of the option
-abbrev pub StandsForNothing : Name → List ℕ → Type 0
+abbrev pub StandsForNothing : OptionName → List ℕ → Type 0
 StandsForNothing name.Format text = (format : Format) → IsFormatText text format → ⊥
 StandsForNothing name.Player text = (player : Player) → IsPlayerText text player → ⊥
 StandsForNothing name.From text = (number : ℕ) → IsNumberText most_number text number → ⊥
@@ -111,7 +115,7 @@ StandsForNothing name.Budget text = (number : ℕ) → IsNumberText most_lifts t
 StandsForNothing name.Game text = ⊥
 
 -- the mistake is that the option is missing, or that its text stands for nothing
-abbrev pub IsFaulty : Name → Options → Mistake → Type 0
+abbrev pub IsFaulty : OptionName → Options → Mistake → Type 0
 IsFaulty option options (mistake.Missing other) = (other ≡ option) × IsRequired option × (text_of option options ≡ None)
 IsFaulty option options (mistake.Value other text reason) =
     (other ≡ option) × (text_of option options ≡ Some text.now) × StandsForNothing option text.now
@@ -133,3 +137,31 @@ IsMistake subcommand options mistake.Memory = Unit {0}
 IsMistake subcommand options (mistake.Missing option) = HasOption subcommand option × IsFaulty option options (mistake.Missing option)
 IsMistake subcommand options (mistake.Value option text reason) =
     HasOption subcommand option × IsFaulty option options (mistake.Value option text reason)
+
+-- ---- the line that is made of what `clap` found
+
+-- the line is the fault that tells of the mistake; want of memory is told by no line
+abbrev pub IsFaultOf : Mistake → Line → Type 0
+IsFaultOf found line = IsFault line × (found ≢ mistake.Memory)
+
+-- the line for the subcommand of this name with these options: what it asks for, or the fault that tells what is wrong with it
+abbrev pub IsLineOf : List ℕ → Options → Line → Type 0
+IsLineOf subcommand options line =
+    Asks subcommand options line ⊎ ((found : Mistake) × IsMistake subcommand options found × IsFaultOf found line)
+
+-- the line for the subcommand of this name, where the options are those that `clap` found behind it
+abbrev pub IsLineFor : List ℕ → List Row → Line → Type 0
+IsLineFor subcommand rows line =
+    (options : Options) × ((name : OptionName) → text_of name options ≡ first_of (id_of name) rows) × IsLineOf subcommand options line
+
+-- the line for the subcommand that `clap` found; a fault where it found none
+abbrev pub IsLineFound : Option (List ℕ × List Row) → Line → Type 0
+IsLineFound None line = IsFault line
+IsLineFound (Some (subcommand, rows)) line = IsLineFor subcommand rows line
+
+-- the line for an error of `clap`: help where the user asked for a text, else a fault
+abbrev pub IsPrinted : ErrorKind → Line → Type 0
+IsPrinted kind (line.Help text) = (kind ≡ DisplayHelp) ⊎ (kind ≡ DisplayVersion)
+IsPrinted kind (line.Fault text) = (kind ≢ DisplayHelp) × (kind ≢ DisplayVersion)
+IsPrinted kind (line.Run command budget) = ⊥
+IsPrinted kind (line.Verify file) = ⊥

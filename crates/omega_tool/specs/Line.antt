@@ -26,3 +26,10 @@ IsRunnable (line.Run command budget) = IsOffered command × (budget ≤ most_lif
 IsRunnable (line.Verify file) = Unit {0}
 IsRunnable (line.Help text) = Unit {0}
 IsRunnable (line.Fault text) = Unit {0}
+
+-- the line says what is wrong with the command line
+abbrev pub IsFault : Line → Type 0
+IsFault (line.Run command budget) = ⊥
+IsFault (line.Verify file) = ⊥
+IsFault (line.Help text) = ⊥
+IsFault (line.Fault text) = Unit {0}

@@ -1,5 +1,5 @@
 -- What the program leaves when it obeys a command line: its status, and what it read, wrote and told.
-use Rattle.std.specs.Prelude.{◌≡◌, ◌+◌, ◌<◌, ◌⊎◌, [], List, Option, Result, Ok, Err, ℕ, string_bytes}
+use Rattle.std.specs.Prelude.{◌≡◌, ◌+◌, ◌<◌, ◌≤◌, ◌⊎◌, [], List, Option, Result, Ok, Err, ℕ, string_bytes}
 use Rattle.std.specs.Io.KnownBytes.{Appends, Keeps}
 use Rattle.omega_text.specs.declared.refusal.Refusal.{Refusal}
 use Rattle.omega_text.specs.declared.refusal.Refusal.TheVariants.{Io, Memory}
@@ -14,6 +14,7 @@ use Rattle.omega_tool.specs.Exit.{fault_status, status_of}
 use Rattle.omega_tool.specs.RefusalLine.{line_of}
 use Rattle.omega_tool.specs.Respond.{IsRunRefusal}
 use Rattle.omega_tool.specs.Run.{BreaksOff, Completes}
+use Rattle.omega_tool.specs.transfer.Failures.{failures_in}
 use Rattle.omega_tool.specs.transfer.Writing.{WritesBeginning}
 
 -- the input and the output at one time: what reads will give and what was written, where they are known, and how many reads and writes failed
@@ -31,22 +32,32 @@ streams unread failed_reads held failed_writes = record {
   failed_writes = failed_writes;
 }
 
--- a run of the command was refused: it wrote nothing, or where a write failed, a beginning of its answer; 61 comes of a failed read or write alone
+-- no read and no write failed in between
+abbrev pub FailsNowhere : Streams → Streams → Type 0
+FailsNowhere before after = (after.failed_reads ≡ before.failed_reads) × (after.failed_writes ≡ before.failed_writes)
+
+-- a run of the command was refused: it wrote nothing, or where a write failed, a beginning of its answer; one read or write failed where it is refused for
+-- that, and none else
 pub record IsRefusedRun (command : Command) (budget : ℕ) (refusal : Refusal) (before after : Streams) : Type 0 where
   pub refused : IsRunRefusal command budget before.unread after.unread refusal
   pub unwritten : after.failed_writes ≡ before.failed_writes → Keeps before.held after.held
   pub broken_off : before.failed_writes < after.failed_writes → BreaksOff command budget before.unread after.unread before.held after.held
-  pub failed : refusal ≡ Io → before.failed_reads + before.failed_writes < after.failed_reads + after.failed_writes
+  pub counted : after.failed_reads + after.failed_writes ≡ before.failed_reads + before.failed_writes + failures_in refusal
+  pub reads_kept : before.failed_reads ≤ after.failed_reads
+  pub writes_kept : before.failed_writes ≤ after.failed_writes
 
 -- a run of the command ended so
 abbrev pub Performs : Command → ℕ → Result Exit Refusal → Streams → Streams → Type 0
-Performs command budget (Ok exit) before after = Completes command budget before.unread after.unread before.held after.held exit
+Performs command budget (Ok exit) before after =
+    Completes command budget before.unread after.unread before.held after.held exit × FailsNowhere before after
 Performs command budget (Err refusal) before after = IsRefusedRun command budget refusal before after
 
--- the text was written, or where a write failed, a beginning of it
-abbrev pub Prints : List ℕ → Result Exit Refusal → (held holds : Option (List ℕ)) → (failed failures : ℕ) → Type 0
-Prints text (Ok exit) held holds failed failures = (exit ≡ Done) × Appends held holds text
-Prints text (Err refusal) held holds failed failures = (refusal ≡ Io) × (failed < failures) × WritesBeginning held holds text
+-- the text was written, or where one write failed, a beginning of it
+abbrev pub Prints : List ℕ → Result Exit Refusal → (held_before held_after : Option (List ℕ)) → (failed_before failed_after : ℕ) → Type 0
+Prints text (Ok exit) held_before held_after failed_before failed_after =
+    (exit ≡ Done) × (failed_after ≡ failed_before) × Appends held_before held_after text
+Prints text (Err refusal) held_before held_after failed_before failed_after =
+    (refusal ≡ Io) × (failed_after ≡ failed_before + 1) × WritesBeginning held_before held_after text
 
 -- the file was read as some text of a game and the solution verified against it, or the file was refused and nothing read or written
 abbrev pub Verifies : (List ℕ → Type 0) → (Refusal → Type 0) → Result Exit Refusal → Streams → Streams → Type 0
@@ -60,7 +71,8 @@ abbrev pub Obeys : (List ℕ → List ℕ → Type 0) → (List ℕ → Refusal 
 Obeys reads refuses (Run command budget) outcome before after = Performs command budget outcome before after
 Obeys reads refuses (Verify file) outcome before after = Verifies (reads (string_bytes file)) (refuses (string_bytes file)) outcome before after
 Obeys reads refuses (Help text) outcome before after =
-    (after.unread ≡ before.unread) × Prints (string_bytes text) outcome before.held after.held before.failed_writes after.failed_writes
+    (after.unread ≡ before.unread) × (after.failed_reads ≡ before.failed_reads)
+    × Prints (string_bytes text) outcome before.held after.held before.failed_writes after.failed_writes
 Obeys reads refuses (Fault text) outcome before after = ⊥
 
 -- the status of a refusal, and its line on standard error

@@ -44,18 +44,18 @@ Refuses Empty budget text refusal = ⊥
 Refuses Game budget text refusal = ⊥
 
 -- the whole input was read, and this is the command's answer to it
-pub record Responds (command : Command) (budget : ℕ) (unread left : Option (List ℕ)) (exit : Exit) (output : List ℕ) : Type 0 where
+pub record Responds (command : Command) (budget : ℕ) (unread_before unread_after : Option (List ℕ)) (exit : Exit) (output : List ℕ) : Type 0 where
   pub text : List ℕ
-  pub read : Consumes unread left text
-  pub end : IsAtEnd left
+  pub read : Consumes unread_before unread_after text
+  pub end : IsAtEnd unread_after
   pub answers : Answers command budget text exit output
 
 -- the input was read, to its end or past the limit, and the command refuses the text
-pub record RefusesText (command : Command) (budget : ℕ) (unread left : Option (List ℕ)) (refusal : Refusal) : Type 0 where
+pub record RefusesText (command : Command) (budget : ℕ) (unread_before unread_after : Option (List ℕ)) (refusal : Refusal) : Type 0 where
   pub text : List ℕ
-  pub read : IsRead unread left text
+  pub read : IsRead unread_before unread_after text
   pub refuses : Refuses command budget text refusal
 
 -- why there is no answer: want of memory or a failed read or write, else the text was read and refused
 abbrev pub IsRunRefusal : Command → ℕ → Option (List ℕ) → Option (List ℕ) → Refusal → Type 0
-IsRunRefusal command budget unread left = or_memory (or_io (RefusesText command budget unread left))
+IsRunRefusal command budget unread_before unread_after = or_memory (or_io (RefusesText command budget unread_before unread_after))

@@ -7,11 +7,11 @@ use Rattle.omega_tool.specs.Respond.{Responds}
 use Rattle.omega_tool.specs.transfer.Writing.{WritesBeginning}
 
 -- the whole input was read, and the whole answer to it was written
-abbrev pub Completes : Command → ℕ → (unread left held holds : Option (List ℕ)) → Exit → Type 0
-Completes command budget unread left held holds exit =
-    (output : List ℕ) × Responds command budget unread left exit output × Appends held holds output
+abbrev pub Completes : Command → ℕ → (unread_before unread_after held_before held_after : Option (List ℕ)) → Exit → Type 0
+Completes command budget unread_before unread_after held_before held_after exit =
+    (output : List ℕ) × Responds command budget unread_before unread_after exit output × Appends held_before held_after output
 
 -- the whole input was read, and of the answer to it a beginning was written, and not all
-abbrev pub BreaksOff : Command → ℕ → (unread left held holds : Option (List ℕ)) → Type 0
-BreaksOff command budget unread left held holds =
-    (exit : Exit) × (output : List ℕ) × Responds command budget unread left exit output × WritesBeginning held holds output
+abbrev pub BreaksOff : Command → ℕ → (unread_before unread_after held_before held_after : Option (List ℕ)) → Type 0
+BreaksOff command budget unread_before unread_after held_before held_after =
+    (exit : Exit) × (output : List ℕ) × Responds command budget unread_before unread_after exit output × WritesBeginning held_before held_after output

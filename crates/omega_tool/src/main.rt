@@ -1,8 +1,9 @@
 //! The program `omega`: reads, checks, writes and solves parity games, and verifies their solutions.
 #![tactic(auto)]
 
-ghost use Rattle.std.specs.Prelude.{IfOk};
-ghost use Rattle.omega_tool.specs.Line.{IsRunnable};
+ghost use Rattle.std.specs.Prelude.{IfOk, IsOkUnless};
+ghost use Rattle.omega_text.specs.declared.refusal.Refusal.TheVariants.{Memory};
+ghost use Rattle.omega_tool.specs.Line.{IsFault, IsRunnable};
 
 mod answers;
 mod command;
@@ -21,6 +22,7 @@ mod words;
 use line::Line;
 use obey::obey;
 use omega_text::Refusal;
+use std::alloc::Global;
 use std::io;
 use std::process::ExitCode;
 use transfer::game_file::HostFiles;
@@ -50,12 +52,20 @@ fn asked_of(rt: &HostRuntime) -> Result<Line, Refusal>
 {
     match words_of(rt) {
         Ok(words) => read_words(rt.alloc(), words.as_slice()),
-        Err(error) if error.kind() == io::ErrorKind::OutOfMemory => Err(Refusal::Memory),
-        Err(_) => {
-            let fault = String::from_str(rt.alloc(), "error: the command line is not UTF-8\n")?;
-            Ok(Line::Fault(fault))
-        }
+        Err(error) => no_text(rt.alloc(), error.kind()),
     }
+}
+
+/// The line for words that are no text, unless there was no memory for them.
+fn no_text(alloc: Global, kind: io::ErrorKind) -> Result<Line, Refusal>
+    ensures fault { IfOk result IsFault }
+    ensures memory { IsOkUnless result Memory }
+{
+    if kind == io::ErrorKind::OutOfMemory {
+        return Err(Refusal::Memory);
+    }
+    let fault = String::from_str(alloc, "error: the command line is not UTF-8\n")?;
+    Ok(Line::Fault(fault))
 }
 
 fn words_of(rt: &HostRuntime) -> io::Result<Vec<String>> {

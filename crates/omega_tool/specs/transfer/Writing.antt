@@ -9,6 +9,6 @@ pub record WritesBeginning (before after : Option (List ℕ)) (text : List ℕ) 
   pub taken : Appends before after (take count text)
 
 -- the output took the text, or where one of its writes failed, a beginning
-pub record Tells (before after : Option (List ℕ)) (failed failures : ℕ) (text : List ℕ) : Type 0 where
-  pub whole : failures ≡ failed → Appends before after text
-  pub beginning : failed < failures → WritesBeginning before after text
+pub record Tells (before after : Option (List ℕ)) (failed_before failed_after : ℕ) (text : List ℕ) : Type 0 where
+  pub whole : failed_after ≡ failed_before → Appends before after text
+  pub beginning : failed_before < failed_after → WritesBeginning before after text

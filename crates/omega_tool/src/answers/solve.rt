@@ -1,6 +1,6 @@
-ghost use Rattle.std.specs.Prelude.{◌≡◌, ◌≤◌, ◌⊎◌, IfOk, IfErr, Some, None};
+ghost use Rattle.std.specs.Prelude.{◌≤◌, IfOk, IfErr, Some, None};
 ghost use Rattle.omega_solve.specs.Limits.{most_lifts};
-ghost use Rattle.omega_text.specs.declared.refusal.Refusal.TheVariants.{Memory};
+ghost use Rattle.omega_text.specs.Cases.{or_memory};
 ghost use Rattle.omega_tool.specs.answers.solve.Refusing.{IsSolveRefusal};
 ghost use Rattle.omega_tool.specs.answers.solve.Solving.{IsSolveAnswer, SolvesPart, SolvesWhole};
 ghost use Rattle.omega_tool.specs.steps.GameRefusal.{IsGameRefusal};
@@ -28,7 +28,7 @@ pub fn solve<T: MeasureTable, S: Schedule>(
 ) -> Result<Vec<u8>, Refusal>
     requires { budget ≤ most_lifts }
     ensures answer { IfOk result (λ output. IsSolveAnswer text.items asked from budget output.items) }
-    ensures refused { IfErr result (λ refusal. (refusal ≡ Memory) ⊎ IsSolveRefusal text.items asked from budget refusal) }
+    ensures refused { IfErr result (or_memory (IsSolveRefusal text.items asked from budget)) }
 {
     let game = game_of(alloc, text)?;
     match from {

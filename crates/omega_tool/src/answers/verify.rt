@@ -1,4 +1,5 @@
-ghost use Rattle.std.specs.Prelude.{◌≡◌, ◌≤◌, ◌⊎◌, ◌↔◌, IfOk, IfErr, IsOkUnless, IsTrue, length};
+ghost use Rattle.std.specs.Prelude.{◌≡◌, ◌≤◌, ◌↔◌, IfOk, IfErr, IsOkUnless, IsTrue, length};
+ghost use Rattle.omega_text.specs.Cases.{or_memory};
 ghost use Rattle.omega_text.specs.declared.refusal.Refusal.TheVariants.{Memory};
 ghost use Rattle.omega_game.specs.Limits.{most_nodes};
 ghost use Rattle.omega_pg.specs.solution.Solution.{IsSolution, choices_of};
@@ -17,7 +18,7 @@ use std::alloc::Global;
 /// its own. The refusal of the game text, or else that of the solution text: 1 to 4, 10 to 14, 53 or 60.
 pub fn verify(alloc: Global, game: &[u8], text: Vec<u8>) -> Result<(Exit, Vec<u8>), Refusal>
     ensures answer { IfOk result (λ made. IsVerifyAnswer game.now text.items made.0 made.1.items) }
-    ensures refused { IfErr result (λ refusal. (refusal ≡ Memory) ⊎ IsVerifyRefusal game.now text.items refusal) }
+    ensures refused { IfErr result (or_memory (IsVerifyRefusal game.now text.items)) }
 {
     let game = read_game(alloc, game)?;
     let solution = solution_in(alloc, &game, text)?;

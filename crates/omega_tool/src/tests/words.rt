@@ -2,7 +2,7 @@ use super::omega;
 use std::test::Fail;
 
 /// Command lines that are at fault, and what the text says of each.
-static FAULTS: [(&str, &str); 35] = [
+static FAULTS: [(&str, &str); 36] = [
     ("", "requires a subcommand"),
     ("frobnicate", "unrecognized subcommand 'frobnicate'"),
     ("help", "unrecognized subcommand 'help'"),
@@ -39,7 +39,10 @@ static FAULTS: [(&str, &str); 35] = [
         "solve --player +1",
         "invalid value '+1' for '--player <P>': a number is written in digits, without a sign",
     ),
-    ("solve --player=-1", "invalid value '-1' for '--player <P>'"),
+    (
+        "solve --player=-1",
+        "invalid value '-1' for '--player <P>': a number is written in digits, without a sign",
+    ),
     (
         "solve --player 0 --player 0",
         "cannot be used multiple times",
@@ -47,6 +50,10 @@ static FAULTS: [(&str, &str); 35] = [
     (
         "solve --player 0 --budget 1099511627777",
         "is not in 0..=1099511627776",
+    ),
+    (
+        "solve --player 0 --budget 99999999999999999999",
+        "invalid value '99999999999999999999' for '--budget <N>': the number is too large",
     ),
     (
         "solve --player 0 --budget 1e3",

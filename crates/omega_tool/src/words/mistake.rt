@@ -1,4 +1,7 @@
-use super::options::Name;
+ghost use Rattle.std.specs.Prelude.{◌≢◌, IfOk};
+ghost use Rattle.omega_tool.specs.declared.words.mistake.Mistake.TheVariants as mistake;
+
+use super::options::OptionName;
 use std::alloc::{AllocError, AllocFailed, Global};
 use std::fmt;
 
@@ -8,9 +11,9 @@ pub enum Mistake<'a> {
     /// No subcommand has the name.
     Unknown,
     /// The option has to be given.
-    Missing(Name),
+    Missing(OptionName),
     /// The text of the option stands for none of its values.
-    Value(Name, &'a str, Reason),
+    Value(OptionName, &'a str, Reason),
     /// There is no memory for what is asked for.
     Memory,
 }
@@ -20,7 +23,7 @@ pub enum Mistake<'a> {
 pub enum Reason {
     /// It is empty.
     Empty,
-    /// It has a plus sign.
+    /// It begins with a sign.
     Sign,
     /// It has a byte that is no digit.
     NotDigits,
@@ -38,7 +41,7 @@ impl fmt::Display for Reason {
             Reason::Empty => f.write_str("cannot parse integer from empty string"),
             Reason::Sign => f.write_str("a number is written in digits, without a sign"),
             Reason::NotDigits => f.write_str("invalid digit found in string"),
-            Reason::TooLarge => f.write_str("number too large to fit in target type"),
+            Reason::TooLarge => f.write_str("the number is too large"),
             Reason::Above { number, most } => write!(f, "{number} is not in 0..={most}"),
             Reason::NoFormat => f.write_str("no format has this name"),
         }
@@ -46,8 +49,10 @@ impl fmt::Display for Reason {
 }
 
 impl Mistake<'_> {
-    /// The text of the fault, in the form of those that `clap` finds.
-    pub fn text(&self, alloc: Global) -> Result<String, AllocError> {
+    /// The text of the fault, in the form of those that `clap` finds. Want of memory has none.
+    pub fn text(&self, alloc: Global) -> Result<String, AllocError>
+        ensures { IfOk result (λ _. self.now ≢ mistake.Memory) }
+    {
         let end = "\n\nFor more information, try '--help'.\n";
         match self {
             Mistake::Unknown => format!(in alloc; "error: the subcommand is not known{end}"),

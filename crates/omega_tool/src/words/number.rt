@@ -9,8 +9,8 @@ pub fn number_in(text: &str, most: u64) -> Result<u64, Reason>
     ensures number { IfOk result (IsNumberText most text.now) }
     ensures none { IfErr result (λ _. (number : ℕ) → IsNumberText most text.now number → ⊥) }
 {
-    // The numbers of `std` may begin with a plus.
-    if text.starts_with('+') {
+    // The numbers of `std` may begin with a plus. A minus is told in the same words.
+    if text.starts_with('+') || text.starts_with('-') {
         return Err(Reason::Sign);
     }
     match text.parse::<u64>() {

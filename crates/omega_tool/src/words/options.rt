@@ -1,5 +1,5 @@
 ghost use Rattle.std.specs.Prelude.{◌≡◌};
-ghost use Rattle.clap.specs.Matches.{first_value, found_of};
+ghost use Rattle.clap.specs.Words.{first_of, found_of, rows_of};
 ghost use Rattle.omega_tool.specs.CommandLine.{id_of, text_of};
 
 use clap::ArgMatches;
@@ -7,7 +7,7 @@ use std::fmt;
 
 /// The options of all subcommands.
 #[derive(Clone, Copy, Debug, PartialEq, Eq)]
-pub enum Name {
+pub enum OptionName {
     Format,
     Player,
     From,
@@ -15,14 +15,14 @@ pub enum Name {
     Game,
 }
 
-impl fmt::Display for Name {
+impl fmt::Display for OptionName {
     fn fmt<W: fmt::Write>(&self, f: &mut fmt::Formatter<W>) -> fmt::Result {
         f.write_str(match self {
-            Name::Format => "--format <FORMAT>",
-            Name::Player => "--player <P>",
-            Name::From => "--from <ID>",
-            Name::Budget => "--budget <N>",
-            Name::Game => "--game <FILE>",
+            OptionName::Format => "--format <FORMAT>",
+            OptionName::Player => "--player <P>",
+            OptionName::From => "--from <ID>",
+            OptionName::Budget => "--budget <N>",
+            OptionName::Game => "--game <FILE>",
         })
     }
 }
@@ -40,7 +40,7 @@ pub struct Options<'a> {
 impl<'a> Options<'a> {
     /// The texts that `clap` found behind a subcommand.
     pub fn of(found: &ArgMatches<'a>) -> Options<'a>
-        ensures { (name : Name) → text_of name result ≡ first_value (found_of found.now) (id_of name) }
+        ensures { (name : OptionName) → text_of name result ≡ first_of (id_of name) (rows_of (found_of found.now)) }
     {
         Options {
             format: found.get_str("format"),

@@ -3,7 +3,7 @@ use Rattle.std.specs.Prelude.{◌≡◌, List, Option, Some, None, true, false, 
 use Rattle.omega_text.specs.Cases.{or_task}
 use Rattle.omega_text.specs.declared.refusal.Refusal.{Refusal}
 use Rattle.omega_text.specs.declared.refusal.task.TaskFault.{TaskFault}
-use Rattle.omega_text.specs.declared.refusal.task.TaskFault.TheVariants.{BadSolution, Budget, NotParity, TooManyPropositions, TooWide, UniversalBranch, UnknownNode}
+use Rattle.omega_text.specs.declared.refusal.task.TaskFault.TheVariants.{Budget, TooWide, UnknownNode}
 use Rattle.omega_game.specs.declared.player.Player.{Player}
 use Rattle.omega_game.specs.Game.{Node, priorities}
 use Rattle.omega_game.specs.Part.{IsPart}
@@ -11,7 +11,7 @@ use Rattle.omega_measure.specs.Table.{is_too_wide}
 use Rattle.omega_pg.specs.game.Refusing.{IsRefusal}
 use Rattle.omega_pg.specs.game.Text.{IsGameText}
 use Rattle.omega_solve.specs.Within.{GoesOnAfter}
-use Rattle.omega_tool.specs.answers.solve.Solving.{IsNamed}
+use Rattle.omega_tool.specs.answers.solve.Solving.{HasIdentifier}
 
 -- the game is solved for this player: for the one asked for, or where none is, for both
 abbrev pub IsSolvedFor : Option Player → Player → Type 0
@@ -35,16 +35,12 @@ pub record IsOverBudget (nodes : List Node) (asked : Option Player) (budget : �
 abbrev pub IsWholeFault : List Node → Option Player → ℕ → TaskFault → Type 0
 IsWholeFault nodes asked budget TooWide = IsTooWide nodes asked
 IsWholeFault nodes asked budget Budget = IsOverBudget nodes asked budget
-IsWholeFault nodes asked budget UnknownNode = ⊥
-IsWholeFault nodes asked budget BadSolution = ⊥
-IsWholeFault nodes asked budget NotParity = ⊥
-IsWholeFault nodes asked budget UniversalBranch = ⊥
-IsWholeFault nodes asked budget TooManyPropositions = ⊥
+IsWholeFault nodes asked budget fault = ⊥
 
 -- a part that the node with the identifier reaches has this fault
 pub record IsPartFault (game : List Node) (asked : Option Player) (identifier budget : ℕ) (fault : TaskFault) : Type 0 where
   pub place : ℕ
-  pub named : IsNamed game identifier place
+  pub identified : HasIdentifier game identifier place
   pub part : List Node
   pub reached : IsPart game place part
   pub fault_there : IsWholeFault part asked budget fault
@@ -52,7 +48,7 @@ pub record IsPartFault (game : List Node) (asked : Option Player) (identifier bu
 -- the fault of solving a game, or where an identifier is given, the part that its node reaches: first, that no node has it
 abbrev pub IsSolvingFault : List Node → Option Player → Option ℕ → ℕ → TaskFault → Type 0
 IsSolvingFault game asked None budget fault = IsWholeFault game asked budget fault
-IsSolvingFault game asked (Some identifier) budget UnknownNode = (place : ℕ) → ¬ IsNamed game identifier place
+IsSolvingFault game asked (Some identifier) budget UnknownNode = (place : ℕ) → ¬ HasIdentifier game identifier place
 IsSolvingFault game asked (Some identifier) budget fault = IsPartFault game asked identifier budget fault
 
 -- the text stands for a game that has this fault

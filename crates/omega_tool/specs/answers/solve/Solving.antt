@@ -9,9 +9,9 @@ use Rattle.omega_tool.specs.answers.solve.AnswerText.{IsAnswerOf}
 use Rattle.omega_tool.specs.answers.solve.Solution.{IsSolutionOf}
 
 -- the node at a place has the identifier
-pub record IsNamed (nodes : List Node) (identifier place : ℕ) : Type 0 where
+pub record HasIdentifier (nodes : List Node) (identifier place : ℕ) : Type 0 where
   pub node : place < length nodes
-  pub named : (node_at nodes place).identifier ≡ identifier
+  pub identified : (node_at nodes place).identifier ≡ identifier
 
 -- the kept nodes are in the player's region of the part exactly where they are in that of the game
 abbrev pub SameRegions : List Node → List ℕ → List Node → Player → Type 0
@@ -26,7 +26,7 @@ SolvesWhole nodes (Some player) budget output = IsAnswerOf nodes player budget o
 -- a right answer for the part that the node with the identifier reaches, whose nodes are won in the part exactly where they are won in the game
 pub record SolvesPart (game : List Node) (asked : Option Player) (identifier budget : ℕ) (output : List ℕ) : Type 0 where
   pub place : ℕ
-  pub named : IsNamed game identifier place
+  pub identified : HasIdentifier game identifier place
   pub kept : List ℕ
   pub part : List Node
   pub reached : IsPartAt game place kept part

@@ -1,23 +1,23 @@
 -- `solve_part`: what is answered or refused for the part is that for its node.
 use Rattle.std.proofs.Common.{sym}
 use Rattle.std.proofs.lemmas.Result.{IfErr-weaker, IfOk-weaker}
-use Rattle.omega_tool.proofs.Named.{named-nowhere, named-place}
+use Rattle.omega_tool.proofs.Identifiers.{identified-nowhere, identified-place}
 use Rattle.omega_tool.proofs.Solving.{refused-part}
-use Rattle.omega_tool.specs.answers.solve.Solving.{IsNamed}
+use Rattle.omega_tool.specs.answers.solve.Solving.{HasIdentifier}
 use Rattle.omega_tool.proofs.answers.solve.solve_part.Goals as goal
 
 pub returns-in-None-clause-refused : goal.returns-in-None-clause-refused
-returns-in-None-clause-refused g c = named-nowhere c.args.game c.args.identifier (sym c.in-None.ensures)
+returns-in-None-clause-refused g c = identified-nowhere c.args.game c.args.identifier (sym c.in-None.ensures)
 
 pub returns-clause-answer : goal.returns-clause-answer
 returns-clause-answer g c =
-    let named : IsNamed c.args.game c.args.identifier c.in-Some.place =
-    named-place c.args.game c.args.identifier c.in-Some.place (sym c.in-Some.ensures) in
+    let identified : HasIdentifier c.args.game c.args.identifier c.in-Some.place =
+    identified-place c.args.game c.args.identifier c.in-Some.place (sym c.in-Some.ensures) in
     let part = c.in_ok-part.ensures.part in
     IfOk-weaker c.solve_whole.result _ _
     (λ output answer. record {
       place = c.in-Some.place;
-      named = named;
+      identified = identified;
       kept = part.0;
       part = c.in_ok-part.part;
       reached = part.1;
@@ -30,10 +30,10 @@ returns-clause-answer g c =
 
 pub returns-clause-refused : goal.returns-clause-refused
 returns-clause-refused g c =
-    let named : IsNamed c.args.game c.args.identifier c.in-Some.place =
-    named-place c.args.game c.args.identifier c.in-Some.place (sym c.in-Some.ensures) in
+    let identified : HasIdentifier c.args.game c.args.identifier c.in-Some.place =
+    identified-place c.args.game c.args.identifier c.in-Some.place (sym c.in-Some.ensures) in
     IfErr-weaker c.solve_whole.result _ _
     (λ refusal h.
     refused-part c.args.game c.args.asked c.args.identifier c.args.budget c.in-Some.place c.in_ok-part.part refusal
-    named c.in_ok-part.ensures.part h)
+    identified c.in_ok-part.ensures.part h)
     c.solve_whole.ensures.refused

@@ -1,5 +1,4 @@
 -- `verify`: the verdict is as the choices win.
-use Rattle.std.proofs.Common.{inl}
 use Rattle.std.proofs.lemmas.Result.{IfErr-weaker, IfOk-weaker}
 use Rattle.omega_tool.proofs.Verifying.{verdict-answers}
 use Rattle.omega_tool.proofs.answers.verify.verify.Goals as goal
@@ -14,4 +13,4 @@ returns-clause-answer c =
     c.verdict.ensures.made
 
 pub returns-clause-refused : goal.returns-clause-refused
-returns-clause-refused c = IfErr-weaker c.verdict.result _ _ (λ refusal e. inl e) c.verdict.ensures.memory
+returns-clause-refused c = IfErr-weaker c.verdict.result _ _ (λ refusal e. rw e tt) c.verdict.ensures.memory

@@ -6,29 +6,29 @@ use Rattle.std.proofs.lemmas.List.{get_or-map, length-map}
 use Rattle.std.proofs.lemmas.List.Quantifiers.{position-Some}
 use Rattle.std.proofs.lemmas.List.Sums.{fails_before_first}
 use Rattle.omega_game.specs.Game.{Node, identifiers, no_node, node_at}
-use Rattle.omega_tool.specs.answers.solve.Solving.{IsNamed}
+use Rattle.omega_tool.specs.answers.solve.Solving.{HasIdentifier}
 
 identifier-at : (nodes : List Node) (v : ℕ) → v < length nodes → get_or (identifiers nodes) v 0 ≡ (node_at nodes v).identifier
 identifier-at nodes v h = get_or-map (λ (node : Node). node.identifier) nodes v no_node 0 h
 
 -- the place of an identifier
-pub named-place : (nodes : List Node) (identifier place : ℕ) → position (λ x. x == identifier) (identifiers nodes) ≡ Some place
-    → IsNamed nodes identifier place
-named-place nodes identifier place e =
+pub identified-place : (nodes : List Node) (identifier place : ℕ) → position (λ x. x == identifier) (identifiers nodes) ≡ Some place
+    → HasIdentifier nodes identifier place
+identified-place nodes identifier place e =
     let found = position-Some (λ x. x == identifier) (identifiers nodes) place 0 e in
     let node : place < length nodes = omega (arith, found.0, length-map nodes (λ (node : Node). node.identifier)) in
-    record { node = node; named = sym (identifier-at nodes place node) ∙ eqb-true _ _ found.1 }
+    record { node = node; identified = sym (identifier-at nodes place node) ∙ eqb-true _ _ found.1 }
 
 none_before : (b : Bool) (n : ℕ) → cond b (Some n) None ≡ None → b ≡ false
 none_before true n e = cc
 none_before false n e = refl
 
 -- no place has an identifier that stands nowhere
-pub named-nowhere : (nodes : List Node) (identifier : ℕ) → position (λ x. x == identifier) (identifiers nodes) ≡ None
-    → (place : ℕ) → IsNamed nodes identifier place → ⊥
-named-nowhere nodes identifier e place named =
+pub identified-nowhere : (nodes : List Node) (identifier : ℕ) → position (λ x. x == identifier) (identifiers nodes) ≡ None
+    → (place : ℕ) → HasIdentifier nodes identifier place → ⊥
+identified-nowhere nodes identifier e place identified =
     let first = position_or_len (λ x. x == identifier) (identifiers nodes) in
     let past = ltb-false first (length (identifiers nodes)) (none_before _ first e) in
-    let before : place < first = omega (arith, past, named.node, length-map nodes (λ (node : Node). node.identifier)) in
+    let before : place < first = omega (arith, past, identified.node, length-map nodes (λ (node : Node). node.identifier)) in
     let other = fails_before_first (λ x. x == identifier) (identifiers nodes) place 0 before in
-    eqb-false _ _ other (identifier-at nodes place named.node ∙ named.named)
+    eqb-false _ _ other (identifier-at nodes place identified.node ∙ identified.identified)

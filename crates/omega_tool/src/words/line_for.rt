@@ -1,11 +1,11 @@
 ghost use Rattle.std.specs.Prelude.{◌≡◌, Some, IfOk, IfErr};
 ghost use Rattle.omega_text.specs.Limits.{most_number};
 ghost use Rattle.omega_tool.specs.CommandLine.{Asks, Gives, GivesBudget, IsFaulty, IsFormatText, IsMistake, IsNumberText, IsPlayerText, text_of};
-ghost use Rattle.omega_tool.specs.declared.words.options.Name.TheVariants as name;
+ghost use Rattle.omega_tool.specs.declared.words.options.OptionName.TheVariants as name;
 
 use super::mistake::{Mistake, Reason};
 use super::number::number_in;
-use super::options::{Name, Options};
+use super::options::{OptionName, Options};
 use crate::command::{Command, Format};
 use crate::line::Line;
 use omega_game::Player;
@@ -40,7 +40,7 @@ pub fn line_for<'a>(
     }
     if subcommand == "verify" {
         let Some(name) = options.game else {
-            return Err(Mistake::Missing(Name::Game));
+            return Err(Mistake::Missing(OptionName::Game));
         };
         return match String::from_str(alloc, name) {
             Ok(file) => Ok(Line::Verify { file }),
@@ -55,12 +55,12 @@ fn format_in<'a>(options: &Options<'a>) -> Result<Format, Mistake<'a>>
     ensures faulty { IfErr result (IsFaulty name.Format options.now) }
 {
     let Some(text) = options.format else {
-        return Err(Mistake::Missing(Name::Format));
+        return Err(Mistake::Missing(OptionName::Format));
     };
     if text == "pg" {
         Ok(Format::Pg)
     } else {
-        Err(Mistake::Value(Name::Format, text, Reason::NoFormat))
+        Err(Mistake::Value(OptionName::Format, text, Reason::NoFormat))
     }
 }
 
@@ -73,7 +73,7 @@ fn player_in<'a>(options: &Options<'a>) -> Result<Option<Player>, Mistake<'a>>
     };
     match number_in(text, 1) {
         Ok(number) => Ok(Player::of_number(number as u32)),
-        Err(reason) => Err(Mistake::Value(Name::Player, text, reason)),
+        Err(reason) => Err(Mistake::Value(OptionName::Player, text, reason)),
     }
 }
 
@@ -86,7 +86,7 @@ fn identifier_in<'a>(options: &Options<'a>) -> Result<Option<u32>, Mistake<'a>>
     };
     match number_in(text, u64::from(MOST_NUMBER)) {
         Ok(identifier) => Ok(Some(identifier as u32)),
-        Err(reason) => Err(Mistake::Value(Name::From, text, reason)),
+        Err(reason) => Err(Mistake::Value(OptionName::From, text, reason)),
     }
 }
 
@@ -100,6 +100,6 @@ fn budget_in<'a>(options: &Options<'a>) -> Result<u64, Mistake<'a>>
     };
     match number_in(text, MOST_LIFTS) {
         Ok(budget) => Ok(budget),
-        Err(reason) => Err(Mistake::Value(Name::Budget, text, reason)),
+        Err(reason) => Err(Mistake::Value(OptionName::Budget, text, reason)),
     }
 }
