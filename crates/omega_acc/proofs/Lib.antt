@@ -11,6 +11,7 @@ pub mod LabelLemmas
 pub mod Parities
 pub mod PutLemmas
 pub mod RawLabelLemmas
+pub mod ReadingLemmas
 pub mod TextLemmas
 pub mod Valuations
 pub mod WordLemmas

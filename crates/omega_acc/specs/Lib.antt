@@ -7,6 +7,7 @@ pub mod Label
 pub mod Limits
 pub mod Names
 pub mod RawLabel
+pub mod Reading
 pub mod Satisfiable
 pub mod Writing
 pub mod layout

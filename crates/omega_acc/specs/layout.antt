@@ -1,6 +1,7 @@
 pub mod AccFields
 pub mod Acceptance
 pub mod Aliases
+pub mod Building
 pub mod Chain
 pub mod Emitting
 pub mod Extents

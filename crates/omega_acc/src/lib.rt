@@ -12,11 +12,14 @@ mod label;
 mod laws;
 mod limits;
 mod mentioned;
+mod pending;
 mod priorities;
 mod raw_label;
+mod reading;
 mod recognition;
 mod satisfying;
 mod texts;
+mod unfinished;
 mod words;
 mod writing;
 
@@ -32,6 +35,7 @@ pub use limits::{
 };
 pub use priorities::priority;
 pub use raw_label::RawLabel;
+pub use reading::read_label;
 pub use recognition::{acceptance_kind, parity_of};
 pub use satisfying::satisfiable;
 pub use writing::{write_acc, write_label};

@@ -50,7 +50,7 @@ impl Model for RawLabel {
 }
 
 impl RawLabel {
-    ghost use Rattle.omega_acc.specs.layout.RawLabel.{alias_names, raw_postfix};
+    ghost use Rattle.omega_acc.specs.layout.RawLabel.{IsRawLabel, alias_names, raw_postfix, raw_tree_of};
 
     /// `t` or `f`.
     pub fn constant(alloc: Global, value: bool) -> Result<RawLabel, Refusal>
@@ -140,6 +140,18 @@ impl RawLabel {
             names: with_names(self.names, other.names)?,
             depth,
         })
+    }
+
+    /// The label of nodes in postfix order, alias names and a depth.
+    pub(crate) fn of_nodes(nodes: Vec<RawNode>, names: Vec<u8>, depth: u32) -> RawLabel
+        requires { IsRawLabel nodes.items names.items depth }
+        ensures { result ≡ raw_tree_of nodes.items names.items }
+    {
+        RawLabel {
+            nodes: Seq::from_vec(nodes),
+            names: Seq::from_vec(names),
+            depth,
+        }
     }
 
     /// Its nodes, parts before their operators.

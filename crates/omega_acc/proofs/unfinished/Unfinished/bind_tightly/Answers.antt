@@ -1,0 +1,28 @@
+-- Each `!` negates the part, and `&` joins it.
+use Rattle.std.proofs.Common.{◌∷◌, ◌+◌, ap, min, subst, sym, ◌∙◌}
+use Rattle.omega_acc.specs.Reading.{unary}
+use Rattle.omega_acc.specs.layout.Building.{Has}
+use Rattle.omega_acc.proofs.ReadingLemmas.{IsLoose, has_conjoined, has_loose, has_negated, loose_others}
+use Rattle.omega_acc.proofs.unfinished.Unfinished.bind_tightly.Goals as goal
+
+pub loop-pending-preserved : goal.loop-pending-preserved
+loop-pending-preserved c whole left has =
+    has_negated whole left _ _ _ _ _ _ _ (c.in-Some.ensures ∙ ap (λ p. p ∷ c.pop.new.self) c.in-Not.is)
+    c.in_ok-push-in-Not.ensures.items c.deeper-self.ensures (c.loop-pending.invariant whole left has)
+
+pub returns-in-And-clause-ok : goal.returns-in-And-clause-ok
+returns-in-And-clause-ok c whole left has =
+    has_conjoined whole left _ _ _ _ _ _ _ _ (c.in-Some.ensures ∙ ap (λ p. p ∷ c.pop.new.self) c.in-And.is)
+    c.in_ok-push-in-And.ensures.items (c.deeper-self-in-And.ensures ∙ ap (λ d. min (d + 1) 257) c.max.ensures) (c.loop-pending.invariant whole left has)
+
+pub returns-in_default-pending-clause-ok : goal.returns-in_default-pending-clause-ok
+returns-in_default-pending-clause-ok c whole left has =
+    has_loose whole left _ _ _ _
+    (subst (λ p. Has unary whole left c.loop-pending.self.depth c.loop-pending.self.nodes.items c.loop-pending.self.names.items p) (c.in-Some.ensures ∙ sym c.in_ok-push-in_default-pending.ensures.ok) (c.loop-pending.invariant whole left has))
+    (subst IsLoose (sym c.in_ok-push-in_default-pending.ensures.ok) (loose_others _ _ c.in_default-pending.not-Not c.in_default-pending.not-And))
+
+pub returns-clause-ok : goal.returns-clause-ok
+returns-clause-ok c whole left has =
+    has_loose whole left _ _ _ _
+    (subst (λ p. Has unary whole left c.loop-pending.self.depth c.loop-pending.self.nodes.items c.loop-pending.self.names.items p) (c.in_default.ensures.0 ∙ sym c.in_default.ensures.1) (c.loop-pending.invariant whole left has))
+    (subst IsLoose (sym c.in_default.ensures.1) tt)

@@ -1,0 +1,139 @@
+-- How a label is built from its tokens: what is still open before the part that stands last.
+use Rattle.std.specs.Prelude.{◌≡◌, ℕ, List, [], ◌∷◌, ◌++◌, map, min}
+use Rattle.omega_acc.specs.RawLabel.{RawLabelTree, raw_depth}
+use Rattle.omega_acc.specs.Reading.{IsOf, Rank, Reads, Symbol, conjunctive, disjunctive, sign, spelled, symbol_of, unary}
+use Rattle.omega_acc.specs.declared.pending.Pending.{Pending}
+use Rattle.omega_acc.specs.declared.pending.Pending.TheVariants.{And, Not, Open, Or}
+use Rattle.omega_acc.specs.declared.raw_label.RawNode.{RawNode}
+use Rattle.omega_acc.specs.layout.RawLabel.{alias_names, raw_postfix}
+use Rattle.omega_acc.specs.declared.unfinished.Unfinished.{Unfinished}
+use Rattle.omega_text.specs.Lexeme.{Lexeme}
+use Rattle.omega_text.specs.declared.hoa.kind.HoaKind.{HoaKind}
+use Rattle.omega_text.specs.declared.hoa.kind.HoaKind.TheVariants as kind
+
+-- what stands before a part: open parentheses, `!`, and left parts with their operators
+pub data Before : Type 0 where
+  start : Before
+  opened : Before → Before
+  denied : Before → Before
+  anded : Before → RawLabelTree → Before
+  ored : Before → RawLabelTree → Before
+
+-- a depth, no further than just past the limit
+abbrev pub capped : RawLabelTree → ℕ
+capped tree = min (raw_depth tree) 257
+
+-- its symbols
+abbrev pub before_symbols : Before → List Symbol
+before_symbols start = []
+before_symbols (opened before) = before_symbols before ++ sign kind.OpenParenthesis ∷ []
+before_symbols (denied before) = before_symbols before ++ sign kind.Not ∷ []
+before_symbols (anded before left) = before_symbols before ++ (spelled left ++ sign kind.And ∷ [])
+before_symbols (ored before left) = before_symbols before ++ (spelled left ++ sign kind.Or ∷ [])
+
+-- the nodes of its left parts
+abbrev pub before_nodes : Before → List RawNode
+before_nodes start = []
+before_nodes (opened before) = before_nodes before
+before_nodes (denied before) = before_nodes before
+before_nodes (anded before left) = before_nodes before ++ raw_postfix left
+before_nodes (ored before left) = before_nodes before ++ raw_postfix left
+
+-- the alias names of its left parts
+abbrev pub before_names : Before → List ℕ
+before_names start = []
+before_names (opened before) = before_names before
+before_names (denied before) = before_names before
+before_names (anded before left) = before_names before ++ alias_names left
+before_names (ored before left) = before_names before ++ alias_names left
+
+-- what is pending, the last first
+abbrev pub before_pending : Before → List Pending
+before_pending start = []
+before_pending (opened before) = Open ∷ before_pending before
+before_pending (denied before) = Not ∷ before_pending before
+before_pending (anded before left) = And (capped left) ∷ before_pending before
+before_pending (ored before left) = Or (capped left) ∷ before_pending before
+
+-- a part of this case may stand behind `!` or `&`
+abbrev pub FitsTight : Rank → Type 0
+FitsTight unary = Unit {0}
+FitsTight conjunctive = ⊥
+FitsTight disjunctive = ⊥
+
+-- a part of this case may stand behind `|`
+abbrev pub FitsOr : Rank → Type 0
+FitsOr unary = Unit {0}
+FitsOr conjunctive = Unit {0}
+FitsOr disjunctive = ⊥
+
+-- a part of this case may stand behind it
+abbrev pub Fits : Rank → Before → Type 0
+Fits rank start = Unit {0}
+Fits rank (opened before) = Unit {0}
+Fits rank (denied before) = FitsTight rank
+Fits rank (anded before left) = FitsTight rank
+Fits rank (ored before left) = FitsOr rank
+
+-- its left parts are of the cases that their operators take
+abbrev pub IsOpen : Before → Type 0
+IsOpen start = Unit {0}
+IsOpen (opened before) = IsOpen before
+IsOpen (denied before) = IsOpen before
+IsOpen (anded before left) = IsOf conjunctive left × (Fits conjunctive before × IsOpen before)
+IsOpen (ored before left) = IsOf disjunctive left × (Fits disjunctive before × IsOpen before)
+
+-- the whole tokens are these symbols, and then those that are left
+pub record Passed (whole : List (Lexeme HoaKind)) (symbols : List Symbol) (left : List (Lexeme HoaKind)) : Type 0 where
+  pub front : List (Lexeme HoaKind)
+  pub split : whole ≡ front ++ left
+  pub spells : map symbol_of front ≡ symbols
+
+-- a part is wanted, behind what these hold
+pub record Wants (whole left : List (Lexeme HoaKind)) (nodes : List RawNode) (names : List ℕ) (pending : List Pending) : Type 0 where
+  pub before : Before
+  pub sound : IsOpen before
+  pub flat : nodes ≡ before_nodes before
+  pub named : names ≡ before_names before
+  pub pends : pending ≡ before_pending before
+  pub passed : Passed whole (before_symbols before) left
+
+-- a part of this case and depth stands last in what these hold
+pub record Has (rank : Rank) (whole left : List (Lexeme HoaKind)) (depth : ℕ) (nodes : List RawNode) (names : List ℕ) (pending : List Pending) : Type 0 where
+  pub before : Before
+  pub part : RawLabelTree
+  pub is : IsOf rank part
+  pub fits : Fits rank before
+  pub sound : IsOpen before
+  pub deep : depth ≡ capped part
+  pub flat : nodes ≡ before_nodes before ++ raw_postfix part
+  pub named : names ≡ before_names before ++ alias_names part
+  pub pends : pending ≡ before_pending before
+  pub passed : Passed whole (before_symbols before ++ spelled part) left
+
+-- a part is wanted, behind what an unfinished label holds
+abbrev pub WantsIn : (whole left : List (Lexeme HoaKind)) → Unfinished → Type 0
+WantsIn whole left unfinished = Wants whole left unfinished.nodes.items unfinished.names.items unfinished.pending
+
+-- a part of this case stands last in an unfinished label
+abbrev pub HasIn : Rank → (whole left : List (Lexeme HoaKind)) → Unfinished → Type 0
+HasIn rank whole left unfinished = Has rank whole left unfinished.depth unfinished.nodes.items unfinished.names.items unfinished.pending
+
+-- an unfinished label is whole, and no operator follows
+pub record IsWhole (whole left : List (Lexeme HoaKind)) (unfinished : Unfinished) : Type 0 where
+  pub tree : RawLabelTree
+  pub reads : Reads whole tree left
+  pub flat : unfinished.nodes.items ≡ raw_postfix tree
+  pub named : unfinished.names.items ≡ alias_names tree
+  pub deep : unfinished.depth ≡ capped tree
+
+-- the next token is not of this kind
+abbrev pub NextIsNot : HoaKind → List (Lexeme HoaKind) → Type 0
+NextIsNot kind [] = Unit {0}
+NextIsNot kind (lexeme ∷ rest) = lexeme.kind ≡ kind → ⊥
+
+-- a token of this kind is passed
+pub record PassesOne (kind : HoaKind) (old new : List (Lexeme HoaKind)) : Type 0 where
+  pub lexeme : Lexeme HoaKind
+  pub next : old ≡ lexeme ∷ new
+  pub is : lexeme.kind ≡ kind

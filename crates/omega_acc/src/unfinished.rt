@@ -1,0 +1,92 @@
+ghost use Rattle.std.specs.Prelude.{◌≡◌, ◌∷◌, [], IfErr, IfOk, OnOk, MatchBool, ◌+◌, min};
+ghost use Rattle.std.specs.Prelude.{List};
+ghost use Rattle.omega_acc.specs.Depth.{IsMemory};
+
+use crate::pending::{Pending, PendingStack};
+use crate::raw_label::RawNode;
+use omega_text::Refusal;
+use std::alloc::Global;
+
+/// Just past the greatest depth: deeper parts count as this deep.
+const PAST_DEPTH: u32 = 257;
+
+/// A label that is being read: the nodes and alias names so far, what waits, and the depth of the part that stands last.
+#[derive(Drop)]
+pub(crate) struct Unfinished {
+    pub(crate) nodes: Vec<RawNode>,
+    pub(crate) names: Vec<u8>,
+    pub(crate) pending: PendingStack,
+    pub(crate) depth: u32,
+}
+
+impl Unfinished {
+    ghost use Rattle.omega_acc.specs.layout.Building.{HasIn, WantsIn};
+    ghost use Rattle.omega_acc.specs.Reading.{conjunctive, disjunctive, unary};
+    ghost use Rattle.omega_text.specs.Lexeme.{Lexeme};
+    ghost use Rattle.omega_text.specs.declared.hoa.kind.HoaKind.{HoaKind};
+
+    /// Nothing has been read.
+    pub(crate) fn new(alloc: Global) -> Self
+        ensures { (whole : List (Lexeme HoaKind)) → WantsIn whole whole result }
+    {
+        Unfinished {
+            nodes: Vec::new(alloc),
+            names: Vec::new(alloc),
+            pending: PendingStack::new(alloc),
+            depth: 1,
+        }
+    }
+
+    /// Puts each `!` to the part that stands last, and joins it by `&` to what waits for it so.
+    pub(crate) fn bind_tightly(&mut self) -> Result<(), Refusal>
+        ensures ok { OnOk result ((whole : List (Lexeme HoaKind)) (left : List (Lexeme HoaKind)) → HasIn unary whole left self.old → HasIn conjunctive whole left self.new) }
+        ensures err { IfErr result IsMemory }
+    {
+        while let Some(pending) = self.pending.pop() {
+            match pending {
+                Pending::Not => {
+                    self.nodes.push(RawNode::Not)?;
+                    self.depth = deeper(self.depth);
+                }
+                Pending::And(left) => {
+                    self.nodes.push(RawNode::And)?;
+                    self.depth = deeper(self.depth.max(left));
+                    return Ok(());
+                }
+                _ => {
+                    self.pending.push(pending)?;
+                    return Ok(());
+                }
+            }
+        }
+        Ok(())
+    }
+
+    /// Joins the part that stands last by `|` to what waits for it so.
+    pub(crate) fn bind_loosely(&mut self) -> Result<(), Refusal>
+        ensures ok { OnOk result ((whole : List (Lexeme HoaKind)) (left : List (Lexeme HoaKind)) → HasIn conjunctive whole left self.old → HasIn disjunctive whole left self.new) }
+        ensures err { IfErr result IsMemory }
+    {
+        if let Some(pending) = self.pending.pop() {
+            match pending {
+                Pending::Or(left) => {
+                    self.nodes.push(RawNode::Or)?;
+                    self.depth = deeper(self.depth.max(left));
+                }
+                _ => self.pending.push(pending)?,
+            }
+        }
+        Ok(())
+    }
+}
+
+/// One more than a depth, no further than just past the limit.
+pub(crate) fn deeper(depth: u32) -> u32
+    ensures { result ≡ min (depth + 1) 257 }
+{
+    if depth < PAST_DEPTH {
+        depth + 1
+    } else {
+        PAST_DEPTH
+    }
+}
