@@ -1,9 +1,9 @@
 -- At most one label is read: the tokens determine what stands before each part.
-use Rattle.std.proofs.Common.{◌≡◌, ℕ, Bool, true, false, List, [], ◌∷◌, ◌++◌, map, length, drop, ap, refl, sym, ◌∙◌, subst}
+use Rattle.std.proofs.Common.{◌≡◌, ℕ, true, false, List, [], ◌∷◌, ◌++◌, map, length, drop, ap, refl, sym, ◌∙◌}
 use Rattle.std.proofs.lemmas.List.{map-append, length-map}
 use Rattle.std.proofs.Math.Seq.{drop-append_seam}
 use Rattle.omega_acc.specs.RawLabel.{RawLabelTree, alias, conjunction, constant, disjunction, group, negation, proposition}
-use Rattle.omega_acc.specs.Reading.{EndsThere, IsNoOperator, IsOf, Reads, Symbol, conjunctive, disjunctive, name, number, seen_as, sign, spelled, symbol_of, truth_kind, unary}
+use Rattle.omega_acc.specs.Reading.{EndsThere, IsNoOperator, IsOf, Reads, Symbol, conjunctive, disjunctive, name, number, seen_as, sign, spelled, symbol_of, unary}
 use Rattle.omega_acc.specs.layout.Building.{Before, Fits, anded, denied, opened, ored, start}
 use Rattle.omega_text.specs.Lexeme.{Lexeme}
 use Rattle.omega_text.specs.declared.hoa.kind.HoaKind.{HoaKind}
