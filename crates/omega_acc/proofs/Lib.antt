@@ -12,6 +12,7 @@ pub mod Parities
 pub mod PutLemmas
 pub mod RawLabelLemmas
 pub mod ReadingLemmas
+pub mod ReadingUniqueness
 pub mod TextLemmas
 pub mod Valuations
 pub mod WordLemmas

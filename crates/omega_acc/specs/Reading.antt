@@ -109,3 +109,8 @@ IsSyntax holds fault = ⊥
 -- the refusals of reading, where no label is read, and where one is that is too deep
 abbrev pub IsUnread : Type 0 → Type 0 → Refusal → Type 0
 IsUnread none deep = or_text (IsSyntax none) (or_automaton (λ fault. (fault ≡ TooDeep) × deep) (or_memory never))
+
+-- of all tokens at most one label is read, and at most one rest is left
+abbrev pub LabelsAreOne : Type 0
+LabelsAreOne = (tokens : List (Lexeme HoaKind)) (one other : RawLabelTree) (rest left : List (Lexeme HoaKind))
+    → Reads tokens one rest → Reads tokens other left → (one ≡ other) × (rest ≡ left)

@@ -29,7 +29,7 @@ pub use aliases::Aliases;
 pub use expansion::{expand, expanded_size};
 pub use kind::{AccKind, Order, Parity, ParityKind};
 pub use label::Label;
-pub use laws::{buchi_is_every_set, parity_is_priority};
+pub use laws::{buchi_is_every_set, labels_are_one, parity_is_priority};
 pub use limits::{
     MOST_BUCHI_SETS, MOST_DEPTH, MOST_MENTIONED, MOST_SIZE, expression_limits_are_stated,
 };

@@ -1,3 +1,5 @@
+mod reading;
+
 use omega_acc::{
     Acc, AccKind, AccName, Aliases, Order, Parameter, Parity, ParityKind, RawLabel,
     acceptance_kind, expand, expanded_size, parity_of, priority, satisfiable, write_acc,
