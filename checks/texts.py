@@ -1,0 +1,48 @@
+"""Texts cut short at every byte, and with every byte replaced: each is read, or refused by its refusal at its place."""
+from games import Refused, canonical, read_game, read_solution, wins
+from program import fault_of, fault_with_file, refusal_fault, shown
+
+GAME = b'parity 9; 9 3 1 4; 4 2 0 9,4 "a";'
+CHOICE = b"0 0 0 1,2; 1 1 1 0; 2 2 1 0;"
+SOLUTIONS = [b"paritysol 2; 0 0 2; 1 0; 2 0;", b"paritysol 2; 0 0 1; 1 0; 2 0;"]
+
+# An end of strings, white space, quotes, a digit, `@`, `\`, a byte that is no letter, and one that is no ASCII.
+BYTES = [0, 9, 10, 34, 45, 48, 59, 64, 92, 127, 255]
+
+
+def damaged(text):
+    """The text, its beginnings, and the texts that differ from it in one byte."""
+    yield text
+    for place in range(len(text)):
+        yield text[:place]
+        for byte in BYTES:
+            yield text[:place] + bytes([byte]) + text[place + 1:]
+
+
+def game_fault(text):
+    try:
+        wanted = canonical(read_game(text))
+    except Refused as refused:
+        return refusal_fault(["canon", "--format", "pg"], text, refused)
+    return fault_of(["canon", "--format", "pg"], text, 0, wanted)
+
+
+def solution_fault(nodes, text):
+    words = ["verify", "--game"]
+    try:
+        solution = read_solution(nodes, text)
+    except Refused as refused:
+        return fault_with_file(words, CHOICE, text, 1, b"", f"omega: {refused}\n".encode())
+    if wins(nodes, solution, 0) and wins(nodes, solution, 1):
+        return fault_with_file(words, CHOICE, text, 0, b"yes\n")
+    return fault_with_file(words, CHOICE, text, 6, b"no\n")
+
+
+def text_checks():
+    for text in (GAME, CHOICE):
+        for one in damaged(text):
+            yield f"the game {shown(one)}", game_fault(one)
+    nodes = read_game(CHOICE)
+    for text in SOLUTIONS:
+        for one in damaged(text):
+            yield f"the solution {shown(one)}", solution_fault(nodes, one)
