@@ -1,3 +1,4 @@
 -- Lemmas of every format.
 pub mod Cutting
+pub mod Lefts
 pub mod Stops

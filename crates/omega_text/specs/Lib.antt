@@ -3,6 +3,7 @@ pub mod Cases
 pub mod Cursor
 pub mod Cut
 pub mod Format
+pub mod Left
 pub mod Lexeme
 pub mod Limits
 pub mod Reading

@@ -3,6 +3,7 @@
 //! What belongs to one format stands in a module of its own, its laws in that module's `laws`.
 #![tactic(auto)]
 
+mod checking;
 mod cursor;
 pub mod hoa;
 pub mod laws;
@@ -13,11 +14,14 @@ mod reading;
 mod refusal;
 mod seq;
 mod syntax;
+mod text_cursor;
 mod token;
 mod token_kind;
 mod token_reader;
+mod token_source;
 mod tokens;
 
+pub use checking::check_tokens;
 pub use cursor::Cursor;
 pub use hoa::{HoaKind, HoaTokenizer, PlacedToken, Settled, hoa_tokens, next_hoa_token};
 pub use limits::{MOST_NUMBER, MOST_TEXT};
@@ -27,6 +31,8 @@ pub use reading::read_text;
 pub use refusal::{AutomatonFault, GameFault, Refusal, TaskFault, TextFault};
 pub use seq::Seq;
 pub use syntax::TextSyntax;
+pub use text_cursor::TextCursor;
 pub use token::{Span, Token};
 pub use token_kind::TokenKind;
 pub use token_reader::TokenReader;
+pub use token_source::TokenSource;

@@ -5,10 +5,10 @@ use omega_text::{HoaKind, HoaTokenizer, PlacedToken, Settled, TextFault, hoa_tok
 use std::alloc::{AllocError, Global};
 use std::test::Fail;
 
-type Part = (HoaKind, usize, usize);
+pub(crate) type Part = (HoaKind, usize, usize);
 
 // Texts, the kinds and places of their tokens, and the number and the place of the fault behind them.
-const TEXTS: [(&[u8], &[Part], Option<(u32, usize)>); 42] = [
+pub(crate) const TEXTS: [(&[u8], &[Part], Option<(u32, usize)>); 42] = [
     (b"", &[], None),
     (b" \t\r\n", &[], None),
     (b"t", &[(HoaKind::True, 0, 1)], None),
@@ -214,7 +214,7 @@ fn is_part(token: &PlacedToken, part: &Part) -> bool {
     token.kind == part.0 && token.span.start == part.1 && token.span.end == part.2
 }
 
-fn number_and_place(fault: TextFault) -> (u32, usize) {
+pub(crate) fn number_and_place(fault: TextFault) -> (u32, usize) {
     match fault {
         TextFault::Lex { at } => (1, at),
         TextFault::Number { at } => (2, at),

@@ -15,3 +15,5 @@ mod reading;
 mod refusal;
 #[cfg(test)]
 mod seq;
+#[cfg(test)]
+mod source;

@@ -7,6 +7,11 @@ use Rattle.omega_text.specs.Lexeme.{Lexeme, lexeme_of}
 use Rattle.omega_text.specs.declared.refusal.text.TextFault.{TextFault}
 use Rattle.omega_text.specs.declared.token.Token.{Token}
 
+-- some tokens are the text up to a place
+pub record IsCutTo {Kind : Type 0} (format : Format Kind) (source : List ℕ) (to : ℕ) : Type 0 where
+  pub lexemes : List (Lexeme Kind)
+  pub cuts : Cuts format source 0 lexemes to
+
 module _ {Kind : Type 0} (format : Format Kind) where
   -- two cuts, one behind the other, are a cut
   pub cuts_join : (source : List ℕ) (from middle to : ℕ) (front back : List (Lexeme Kind)) → Cuts format source from front middle → Cuts format source middle back to → Cuts format source from (front ++ back) to
@@ -16,6 +21,10 @@ module _ {Kind : Type 0} (format : Format Kind) where
   -- a cut goes on with a lexeme that follows it
   pub cuts_more : (source : List ℕ) (from at : ℕ) (lexemes : List (Lexeme Kind)) (lexeme : Lexeme Kind) → Cuts format source from lexemes at → format.follows source at lexeme → Cuts format source from (lexemes ++ lexeme ∷ []) lexeme.span.end
   cuts_more source from at lexemes lexeme cuts follows = cuts_join source from at lexeme.span.end lexemes (lexeme ∷ []) cuts (follows, refl)
+
+  -- and so does one whose tokens are not named
+  pub cut_more : (source : List ℕ) (at : ℕ) (lexeme : Lexeme Kind) → IsCutTo format source at → format.follows source at lexeme → IsCutTo format source lexeme.span.end
+  cut_more source at lexeme cut follows = record { lexemes = cut.lexemes ++ lexeme ∷ []; cuts = cuts_more source 0 at cut.lexemes lexeme cut.cuts follows }
 
   -- the same of tokens
   pub cuts_push : (source : List ℕ) (tokens : List (Token Kind)) (at : ℕ) (token : Token Kind) → Cuts format source 0 (map lexeme_of tokens) at → format.follows source at (lexeme_of token) → Cuts format source 0 (map lexeme_of (tokens ++ token ∷ [])) token.span.end

@@ -1,0 +1,55 @@
+-- The tokens of a text that are left where some of them were taken.
+use Rattle.std.specs.Prelude.{◌≡◌, ℕ, ◌≤◌, Option, Some, None, List, [], ◌∷◌, length}
+use Rattle.std.specs.Coded.{Coded, Coded-set, code_by, coded×, coded_list, coded_ℕ}
+use Rattle.std.proofs.Common.{refl}
+use Rattle.std.proofs.Math.Logic.{∥∥₁_elim, ∥∥₁_prop}
+use mathlib.Core.HLevel.{is_prop→PathP}
+use Rattle.omega_text.specs.Cut.{Cuts}
+use Rattle.omega_text.specs.Format.{Format}
+use Rattle.omega_text.specs.Lexeme.{Lexeme, lexeme_of}
+use Rattle.omega_text.specs.declared.token.Token.{Token}
+
+-- from a place on, the tokens are the rest of the text, and nothing more follows
+pub record IsRest {Kind : Type 0} (format : Format Kind) (source : List ℕ) (from : ℕ) (lexemes : List (Lexeme Kind)) : Type 0 where
+  pub end : ℕ
+  pub cuts : Cuts format source from lexemes end
+  pub rest : format.ends source end
+
+-- the token is the first of those that are left, and the others are the rest of the text behind it
+pub record IsNext {Kind : Type 0} (format : Format Kind) (source : List ℕ) (token : Token Kind) (lexemes : List (Lexeme Kind)) : Type 0 where
+  pub others : List (Lexeme Kind)
+  pub split : lexemes ≡ lexeme_of token ∷ others
+  pub within : token.span.end ≤ length source
+  pub behind : IsRest format source token.span.end others
+
+-- the tokens that are left, by the next one
+abbrev pub IsLeft : {Kind : Type 0} → Format Kind → List ℕ → Option (Token Kind) → List (Lexeme Kind) → Type 0
+IsLeft format source None lexemes = lexemes ≡ []
+IsLeft format source (Some token) lexemes = IsNext format source token lexemes
+
+-- these tokens are left, and no others
+pub record IsAllLeft {Kind : Type 0} (format : Format Kind) (source : List ℕ) (next : Option (Token Kind)) (lexemes : List (Lexeme Kind)) : Type 0 where
+  pub are_left : IsLeft format source next lexemes
+  pub only : (others : List (Lexeme Kind)) → IsLeft format source next others → lexemes ≡ others
+
+-- the tokens that are left
+pub record Left {Kind : Type 0} (format : Format Kind) (source : List ℕ) (next : Option (Token Kind)) : Type 0 where
+  pub lexemes : List (Lexeme Kind)
+  pub all_left : ∥ IsAllLeft format source next lexemes ∥₁
+
+-- a token is stored as the tuple of what it says
+abbrev pub lexeme_code : {Kind : Type 0} → Coded Kind → Coded (Lexeme Kind)
+lexeme_code {Kind} kind = code_by (Kind × (List ℕ × (ℕ × (ℕ × ℕ)))) (coded× kind (coded× (coded_list coded_ℕ) (coded× coded_ℕ (coded× coded_ℕ coded_ℕ))))
+    (λ l. (l.kind, (l.text, (l.value, (l.span.start, l.span.end)))))
+    (λ t. record { kind = t.0; text = t.1.0; value = t.1.1.0; span = record { start = t.1.1.1.0; end = t.1.1.1.1 } }) (λ _. refl)
+
+-- the tokens that are left are one list
+pub Left-prop : {Kind : Type 0} → Coded Kind → (format : Format Kind) (source : List ℕ) (next : Option (Token Kind)) → IsProp (Left format source next)
+Left-prop {Kind} kind format source next one other =
+    let set : IsProp (one.lexemes ≡ other.lexemes) = Coded-set (coded_list (lexeme_code kind)) one.lexemes other.lexemes in
+    let same : one.lexemes ≡ other.lexemes =
+    ∥∥₁_elim one.all_left set (λ all. ∥∥₁_elim other.all_left set (λ again. all.only other.lexemes again.are_left)) in
+    λ i. record {
+      lexemes = same i;
+      all_left = is_prop→PathP (λ j. ∥ IsAllLeft format source next (same j) ∥₁) (λ j. ∥∥₁_prop) one.all_left other.all_left i;
+    }

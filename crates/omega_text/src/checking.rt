@@ -1,0 +1,22 @@
+ghost use Rattle.std.specs.Prelude.{IfErr, List, OnOk};
+ghost use Rattle.omega_text.specs.Cut.{IsCut, IsFault};
+ghost use Rattle.omega_text.specs.Format.{IsLexical};
+ghost use Rattle.omega_text.specs.Lexeme.{Lexeme};
+
+use crate::refusal::TextFault;
+use crate::token_kind::TokenKind;
+
+/// Whether a text can be cut into tokens: if not, 1 or 2 at the least place of a fault.
+///
+/// No memory is taken, and each token is cut once. A text that passes can be gone over by a `TextCursor`.
+pub fn check_tokens<K: TokenKind>(source: &[u8]) -> Result<(), TextFault>
+    ensures cut { OnOk result ((lexemes : List (Lexeme K)) × IsCut K.format source.now lexemes) }
+    ensures fault { IfErr result (IsFault K.format source.now) }
+    ensures lexical { IfErr result IsLexical }
+{
+    let mut at = 0;
+    while let Some(token) = K::next_token(source, at)? {
+        at = token.span.end;
+    }
+    Ok(())
+}
