@@ -1,0 +1,2 @@
+-- What only the private contracts of the judge cite.
+pub mod Judging

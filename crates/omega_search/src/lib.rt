@@ -1,0 +1,12 @@
+//! Parity games solved by a fast search of which nothing is proved but that it is safe and ends. The checker of
+//! strategies judges what it suggests: what is accepted is exact, whatever the search did.
+#![tactic(auto)]
+
+mod judging;
+mod regions;
+mod searching;
+mod solving;
+
+pub use omega_game::{Game, Player, Refusal, Seq, Strategy};
+pub use regions::Regions;
+pub use solving::solve_by_search;
