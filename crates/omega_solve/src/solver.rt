@@ -67,7 +67,7 @@ impl<'g, T: MeasureTable, S: Schedule> Solver<'g, T, S> {
         zero_tables_are_tables();
         let n = game.len();
         let table = T::prepare(alloc, game, player)?;
-        let schedule = S::prepare(alloc, n as u32)?;
+        let schedule = S::prepare_for(alloc, game)?;
         Ok(Solver {
             game,
             player,
