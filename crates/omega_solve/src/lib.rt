@@ -12,6 +12,7 @@ mod outcome;
 mod pace;
 mod rank_set;
 mod ranking;
+mod repeating;
 mod schedule;
 mod solver;
 mod successor;
