@@ -4,6 +4,7 @@ pub mod FirstBest
 pub mod Edges
 pub mod Due
 pub mod Lifting
+pub mod Repeating
 pub mod Starting
 pub mod Finishing
 pub mod Totals

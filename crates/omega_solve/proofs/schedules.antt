@@ -3,3 +3,5 @@ pub mod Flags
 pub mod Waking
 pub mod Sweeping
 pub mod Queueing
+pub mod Bits
+pub mod Nesting

@@ -22,6 +22,10 @@ all_pending n = record { flags = replicate n true; taken = 0 }
 abbrev pub with_taken : Pending → ℕ → Pending
 with_taken pending place = record { flags = slice_set pending.flags place false; taken = pending.taken + 1 }
 
+-- with the place taken last taken once more: no place is pending that was not, and there is one take more
+abbrev pub with_taken_again : Pending → Pending
+with_taken_again pending = record pending { taken = pending.taken + 1 }
+
 -- with a place made pending, if it is not
 abbrev pub with_added : Pending → ℕ → Pending
 with_added pending place = record pending { flags = slice_set pending.flags place true }

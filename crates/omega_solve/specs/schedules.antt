@@ -1,3 +1,4 @@
--- What only the two schedules cite.
+-- What only the three schedules cite.
 pub mod Sweep
 pub mod Worklist
+pub mod Nested

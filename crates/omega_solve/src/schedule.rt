@@ -1,11 +1,11 @@
-ghost use Rattle.std.specs.Prelude.{◌≡◌, ◌+◌, ◌-◌, ◌^◌, ◌<◌, length, IfOk, MatchOption, IsOkUnless};
-ghost use Rattle.omega_solve.specs.Schedule.{IsIdle, IsPending, Pending, all_pending, with_added, with_taken};
+ghost use Rattle.std.specs.Prelude.{◌≡◌, ◌+◌, ◌-◌, ◌^◌, ◌<◌, length, IfOk, MatchBool, MatchOption, IsOkUnless};
+ghost use Rattle.omega_solve.specs.Schedule.{IsIdle, IsPending, Pending, all_pending, with_added, with_taken, with_taken_again};
 
-use omega_measure::Refusal;
+use omega_measure::{Game, Refusal};
 use std::alloc::Global;
 
-/// The places that a solver has yet to look at, in an order of its own. Only `prepare` answers that memory was refused, so
-/// that a schedule takes there all that it needs.
+/// The places that a solver has yet to look at, in an order of its own. Only `prepare` and `prepare_for` answer that
+/// memory was refused, so that a schedule takes there all that it needs.
 pub trait Schedule: Drop {
     /// Which places are pending and how many takes were made, however they are kept.
     ghost waiting: { Self → Pending };
@@ -17,6 +17,17 @@ pub trait Schedule: Drop {
         ensures all { IfOk result (λ schedule. waiting schedule ≡ all_pending n) }
         ensures memory { IsOkUnless result Refusal.Memory };
 
+    /// A schedule of the places of a game, all pending, in an order that suits the game where the schedule has one.
+    /// Refused `Refusal::Memory` alone.
+    fn prepare_for(alloc: Global, game: &Game) -> Result<Self, Refusal>
+    where
+        Self: Sized,
+        ensures all { IfOk result (λ schedule. waiting schedule ≡ all_pending (length game.now)) }
+        ensures memory { IsOkUnless result Refusal.Memory }
+    {
+        Self::prepare(alloc, game.len() as u32)
+    }
+
     /// Some pending place, or none if there is none.
     fn look(&self) -> Option<u32>
         ensures { MatchOption result (IsIdle (waiting self.now)) (IsPending (waiting self.now)) };
@@ -26,6 +37,15 @@ pub trait Schedule: Drop {
         requires pending { IsPending (waiting self.old) place }
         requires counted { (waiting self.old).taken < 2 ^ 64 - 1 }
         ensures { waiting self.new ≡ with_taken (waiting self.old) place };
+
+    /// Whether the place taken last is taken once more, before any other: asked where a lift is due there again. A yes
+    /// counts as a take.
+    fn take_again(&mut self) -> bool
+        requires { (waiting self.old).taken < 2 ^ 64 - 1 }
+        ensures { MatchBool result (waiting self.new ≡ with_taken_again (waiting self.old)) (waiting self.new ≡ waiting self.old) }
+    {
+        false
+    }
 
     /// The number of takes so far.
     fn takes(&self) -> u64

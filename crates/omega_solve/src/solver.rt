@@ -7,6 +7,7 @@ ghost use Rattle.omega_solve.specs.Solver.{start_of};
 use crate::answer::{AnswerRef, fill_answer};
 use crate::limits::MOST_LIFTS;
 use crate::outcome::Outcome;
+use crate::repeating::lift_again;
 use crate::schedule::Schedule;
 use crate::successor::due_towards;
 use crate::wake::wake_predecessors;
@@ -67,7 +68,7 @@ impl<'g, T: MeasureTable, S: Schedule> Solver<'g, T, S> {
         zero_tables_are_tables();
         let n = game.len();
         let table = T::prepare(alloc, game, player)?;
-        let schedule = S::prepare(alloc, n as u32)?;
+        let schedule = S::prepare_for(alloc, game)?;
         Ok(Solver {
             game,
             player,
@@ -100,8 +101,8 @@ impl<'g, T: MeasureTable, S: Schedule> Solver<'g, T, S> {
                     if made == budget {
                         return Outcome::Spent;
                     }
-                    self.lift(place, towards);
-                    made += 1;
+                    let more = self.lift(place, towards, budget - made);
+                    made += more;
                 }
             }
         }
@@ -185,21 +186,32 @@ impl<'g, T: MeasureTable, S: Schedule> Solver<'g, T, S> {
         self.schedule.take(place);
     }
 
-    /// Lifts a place to its allowance towards a successor, takes it out, and makes its predecessors pending: in this
-    /// order, so that a place with an edge to itself stays pending.
-    fn lift(&mut self, place: u32, towards: u32)
+    /// Lifts a place to its allowance towards a successor and takes it out; lifts it again if it leads to itself, at most
+    /// so many times in all; and makes its predecessors pending: in this order, so that a place with an edge to itself stays
+    /// pending, and each predecessor is woken once. How many lifts were made.
+    fn lift(&mut self, place: u32, towards: u32, most: u64) -> u64
         requires pending { IsPending self.old.pending place }
         requires done { self.old.done ≡ false }
         requires due { IsDueTowards self.old.nodes self.old.player self.old.table.measures place towards }
-        requires room { self.old.lifts < most_lifts }
-        ensures { IsLifted self.old place self.new }
+        requires some { 0 < most }
+        requires room { self.old.lifts + most ≤ most_lifts }
+        ensures { IsLifted self.old most result self.new }
     {
         allowances_are_unique();
         runs_keep_tables();
         self.table.raise(place, towards);
         self.schedule.take(place);
-        self.lifts += 1;
+        let more = lift_again(
+            self.game,
+            self.player,
+            &mut self.table,
+            &mut self.schedule,
+            place,
+            most - 1,
+        );
+        self.lifts += 1 + more;
         wake_predecessors(self.game, &self.table, &mut self.schedule, place);
+        1 + more
     }
 
     /// Tells the answer of a solver that has no pending place.

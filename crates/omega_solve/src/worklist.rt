@@ -78,7 +78,7 @@ impl Schedule for Worklist {
 }
 
 /// The numbers below `n`.
-fn numbers_below(alloc: Global, n: u32) -> Result<Vec<u32>, AllocError>
+pub(crate) fn numbers_below(alloc: Global, n: u32) -> Result<Vec<u32>, AllocError>
     ensures { IfOk result (λ ring. ring.items ≡ range_with_len 0 n) }
 {
     (0..n).collect(alloc)

@@ -1,5 +1,5 @@
 -- What follows from what a solver keeps: where no place is pending, and of the numbers of takes and lifts.
-use Rattle.std.proofs.Common.{ℕ, ◌^◌, ◌-◌, ◌<◌, ◌≤◌, true, false, Option, Some, None, length, sym, ◌∙◌, arith}
+use Rattle.std.proofs.Common.{ℕ, ◌^◌, ◌+◌, ◌-◌, ◌<◌, ◌≤◌, true, false, Option, Some, None, length, sym, ◌∙◌, arith}
 use Rattle.std.specs.Option.{MatchOption}
 use Rattle.std.proofs.lemmas.Bool.{false≢true}
 use Rattle.std.proofs.lemmas.Option.{same_Some}
@@ -23,6 +23,12 @@ pub looked : (state : State) (look : Option ℕ) → IsSolving state → MatchOp
     → MatchOption look (IsFinished state) (λ place. place < length state.nodes)
 looked state None s idle = finished_idle state s idle
 looked state (Some place) s waiting = omega (arith, pending_inside state.pending place waiting, s.entries)
+
+-- the takes leave room for a take with each of the most lifts
+pub takes_leave : (state : State) → IsSolving state → state.pending.taken + most_lifts ≤ 2 ^ 64 - 1
+takes_leave state s =
+    let short : length s.places ≤ most_lifts = omega (arith, s.counted, s.few) in
+    omega (arith, s.most, s.limits.few_nodes, in_degrees_fits state.nodes s.places s.limits.few_edges short)
 
 -- the takes fit their type
 pub takes_fit : (state : State) → IsSolving state → state.pending.taken < 2 ^ 64 - 1

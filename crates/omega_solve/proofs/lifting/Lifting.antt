@@ -1,9 +1,12 @@
 -- What a solver keeps holds after a lift and after a take.
-use Rattle.std.proofs.Common.{◌≡◌, ◌≢◌, ℕ, ◌+◌, ◌<◌, ◌⊎◌, Bool, false, List, [], ◌∷◌, ◌++◌, None, Some, length, refl, sym, ap, ◌∙◌, subst, arith, set, slice_index, inl, inr}
+use Rattle.std.proofs.Common.{◌≡◌, ◌≢◌, ℕ, ◌+◌, ◌-◌, ◌*◌, ◌<◌, ◌≤◌, ◌⊎◌, zero, suc, replicate, Bool, true, false, List, [], ◌∷◌, ◌++◌, None, Some, length, refl, sym, ap, ◌∙◌, subst, arith, set, slice_index, inl, inr}
+use Rattle.std.specs.List.{count_by, slice_get}
 use Rattle.std.specs.Option.{IsSome}
-use Rattle.std.proofs.lemmas.Bool.{cases_eq}
-use Rattle.std.proofs.lemmas.List.{get_or-set_other, get_or-set_same, get_or_default, length_push, length-set}
-use Rattle.std.proofs.lemmas.List.Sums.{count_by-le-length, sum_by_push}
+use Rattle.std.proofs.lemmas.Bool.{cases_eq, cases_lt}
+use Rattle.std.proofs.lemmas.List.{get_or-set_other, get_or-set_same, get_or_default, length-append, length-replicate, length-set}
+use Rattle.std.proofs.lemmas.List.Folds.{sum_by-replicate}
+use Rattle.std.proofs.lemmas.List.Sums.{count_by-le-length, sum_by-append, sum_by-cons}
+use Rattle.std.proofs.Math.Nat.{mul-le-mul_left}
 use Rattle.omega_game.specs.declared.player.Player.{Player}
 use Rattle.omega_game.specs.declared.player.Player.TheVariants.{One, Zero}
 use Rattle.omega_game.specs.Game.{Node, HasEdge, owner_at, predecessors_of, priorities, priority_at, successors_at}
@@ -11,14 +14,15 @@ use Rattle.omega_lift.specs.Measure.{Measure, IsAbove}
 use Rattle.omega_lift.specs.Allowance.{IsAllowance, IsAllowanceOf, IsLiftValue, measure_at}
 use Rattle.omega_lift.specs.Run.{IsDue, IsRun, IsTable, Lifts, zero_table}
 use Rattle.omega_lift.specs.Laws.{AllowancesAreUnique, RunsKeepTables}
-use Rattle.omega_measure.specs.Table.{Content, Raises, with_measure}
+use Rattle.omega_measure.specs.Table.{Content, Exceeds, Raises, with_measure}
 use Rattle.omega_solve.specs.Limits.{most_lifts}
-use Rattle.omega_solve.specs.Schedule.{IsPending, Pending, with_taken}
+use Rattle.omega_solve.specs.Schedule.{IsPending, Pending, waits, with_taken}
 use Rattle.omega_solve.specs.Solver.{LiftsWithin, State}
 use Rattle.omega_solve.specs.solving.Successor.{IsDueTowards, IsTableOf}
+use Rattle.omega_solve.specs.solving.Repeating.{LiftsAgain}
 use Rattle.omega_solve.specs.solving.Wake.{Wakes}
 use Rattle.omega_solve.specs.solving.Progress.{IsLifted, IsSolving, in_degree}
-use Rattle.omega_solve.proofs.lifting.Due.{allowance_of, table_entries}
+use Rattle.omega_solve.proofs.lifting.Due.{allowance_in, allowance_of, table_entries}
 use Rattle.omega_solve.proofs.lifting.Edges.{contained, edge_from_predecessor, edge_leaves}
 use Rattle.omega_solve.proofs.schedules.Flags.{pending_taken, waits_taken}
 
@@ -58,13 +62,16 @@ others_kept nodes table u v x apart w edge =
     get_or-set_other table v w x None (λ (e : w ≡ v). apart (subst (λ (place : ℕ). HasEdge nodes u place) e edge))
 
 -- then a lift that is due at another place was due before
-due_before : (nodes : List Node) (player : Player) (table : List Measure) (u v : ℕ) (x : Measure) → ¬ HasEdge nodes u v → u ≢ v
-    → IsDue nodes player (set table v x) u → IsDue nodes player table u
-due_before nodes player table u v x apart ne due = (
+due_before : (nodes : List Node) (player : Player) (table other : List Measure) (u v : ℕ)
+    → ((w : ℕ) → w ≢ v → measure_at other w ≡ measure_at table w) → ¬ HasEdge nodes u v → u ≢ v
+    → IsDue nodes player other u → IsDue nodes player table u
+due_before nodes player table other u v kept apart ne due = (
   due.0,
   record {
-    value = value_kept nodes player table (set table v x) u due.0 (others_kept nodes table u v x apart) due.1.value;
-    above = subst (λ (m : Measure). IsAbove due.0 m) (get_or-set_other table v u x None ne) due.1.above;
+    value = value_kept nodes player table other u due.0
+        (λ w edge. kept w (λ (e : w ≡ v). apart (subst (λ (place : ℕ). HasEdge nodes u place) e edge)))
+        due.1.value;
+    above = subst (λ (m : Measure). IsAbove due.0 m) (kept u ne) due.1.above;
   },
 )
 
@@ -93,93 +100,186 @@ due_below_top None None above = absurd (let e = above in cc)
 due_below_top (Some xs) None above = absurd (let e = above in cc)
 due_below_top x (Some ys) above = refl
 
--- after a lift of v, and with its predecessors woken, each place where a lift is due is pending
-pub due_pending : (nodes : List Node) (player : Player) (table : List Measure) (old new : Pending) (v : ℕ) (x : Measure)
+-- a run of lifts of v changes no other measure
+run_elsewhere : (nodes : List Node) (player : Player) (old new : List Measure) (v count : ℕ)
+    → IsRun nodes player old (replicate count v) new → (w : ℕ) → w ≢ v → measure_at new w ≡ measure_at old w
+run_elsewhere nodes player old new v zero same w ne = ap (λ (t : List Measure). measure_at t w) (sym same)
+run_elsewhere nodes player old new v (suc count) lifted w ne =
+    run_elsewhere nodes player (set old v lifted.0) new v count lifted.3 w ne ∙ get_or-set_other old v w lifted.0 None ne
+
+-- a run of no lifts changes none
+run_nowhere : (nodes : List Node) (player : Player) (old new : List Measure) (v count : ℕ) → count ≡ 0
+    → IsRun nodes player old (replicate count v) new → old ≡ new
+run_nowhere nodes player old new v count none lifted = subst (λ (n : ℕ). IsRun nodes player old (replicate n v) new) none lifted
+
+-- after lifts of v, and with its predecessors woken, each place where a lift is due is pending
+pub due_pending : (nodes : List Node) (player : Player) (table other : List Measure) (old again new : Pending) (v count : ℕ) (x : Measure)
     → v < length table → Lifts nodes player table v x
+    → IsRun nodes player (set table v x) (replicate count v) other → (0 < count → HasEdge nodes v v)
     → ((u : ℕ) → IsDue nodes player table u → IsPending old u)
-    → Wakes (set table v x) (predecessors_of nodes v) (length (predecessors_of nodes v)) (with_taken old v) new
-    → (u : ℕ) → IsDue nodes player (set table v x) u → IsPending new u
-due_pending nodes player table old new v x lt lifts pending wakes u due = elim (contained (successors_at nodes u) v) [
-  | inl edge ↦
-      let at = edge_from_predecessor nodes u v edge in
-      let here : slice_index (predecessors_of nodes v) at.0 ≡ u = get_or_default (predecessors_of nodes v) at.0 0 u at.1 ∙ at.2 in
-      let some : IsSome (measure_at (set table v x) u) = due_below_top due.0 (measure_at (set table v x) u) due.1.above in
-      subst (λ (place : ℕ). IsPending new place) here
-      (wakes.woken at.0 at.1 (subst (λ (place : ℕ). IsSome (measure_at (set table v x) place)) (sym here) some))
-  | inr apart ↦ elim (cases_eq u v) [
-    | inl e ↦ absurd (not_due_again nodes player table v x (subst (λ (place : ℕ). ¬ HasEdge nodes place v) e apart) lt lifts
-        (subst (λ (place : ℕ). IsDue nodes player (set table v x) place) e due))
-    | inr ne ↦ wakes.kept u (pending_taken old v u ne (pending u (due_before nodes player table u v x apart ne due)))
-  ]
-]
+    → again.flags ≡ (with_taken old v).flags
+    → Wakes other (predecessors_of nodes v) (length (predecessors_of nodes v)) again new
+    → (u : ℕ) → IsDue nodes player other u → IsPending new u
+due_pending nodes player table other old again new v count x lt lifts more looped pending flags wakes u due =
+    elim (contained (successors_at nodes u) v) [
+      | inl edge ↦
+          let at = edge_from_predecessor nodes u v edge in
+          let here : slice_index (predecessors_of nodes v) at.0 ≡ u = get_or_default (predecessors_of nodes v) at.0 0 u at.1 ∙ at.2 in
+          let some : IsSome (measure_at other u) = due_below_top due.0 (measure_at other u) due.1.above in
+          subst (λ (place : ℕ). IsPending new place) here
+          (wakes.woken at.0 at.1 (subst (λ (place : ℕ). IsSome (measure_at other place)) (sym here) some))
+      | inr apart ↦ elim (cases_eq u v) [
+        | inl e ↦
+            let alone : ¬ HasEdge nodes v v = subst (λ (place : ℕ). ¬ HasEdge nodes place v) e apart in
+            let none : count ≡ 0 = elim (cases_lt 0 count) [
+              | inl some ↦ absurd (alone (looped some))
+              | inr none ↦ omega arith
+            ] in
+            let same = run_nowhere nodes player (set table v x) other v count none more in
+            let again_due : IsDue nodes player (set table v x) v =
+            subst (λ (t : List Measure). IsDue nodes player t v) (sym same) (subst (λ (place : ℕ). IsDue nodes player other place) e due) in
+            absurd (not_due_again nodes player table v x alone lt lifts again_due)
+        | inr ne ↦
+            let kept = λ (w : ℕ) (away : w ≢ v).
+            run_elsewhere nodes player (set table v x) other v count more w away ∙ get_or-set_other table v w x None away in
+            let before = pending_taken old v u ne (pending u (due_before nodes player table other u v kept apart ne due)) in
+            wakes.kept u (subst (λ (marks : List Bool). slice_get marks u ≡ Some true) (sym flags) before)
+      ]
+    ]
+
+-- where a lift is due towards w, the allowance towards w exceeds the measure
+pub due_exceeds : (nodes : List Node) (player : Player) (content : Content) (v w : ℕ) → IsTableOf nodes player content
+    → IsDueTowards nodes player content.measures v w → Exceeds content v w
+due_exceeds nodes player content v w table due = record {
+  allowance = due.value;
+  is = allowance_in nodes player content v w due.value table (edge_leaves nodes v w due.listed) due.allowance;
+  above = due.lifts.above;
+}
 
 -- the measures after a raise towards the successor that decides the lift value
-pub raised : (state : State) (v w : ℕ) (content : Content)
-    → AllowancesAreUnique → IsTableOf state.nodes state.player state.table
-    → (due : IsDueTowards state.nodes state.player state.table.measures v w) → Raises state.table v w content
-    → content ≡ with_measure state.table v due.value
-raised state v w content unique table due raises =
-    let place = edge_leaves state.nodes v w due.listed in
+raised : (nodes : List Node) (player : Player) (old new : Content) (v w : ℕ) → AllowancesAreUnique → IsTableOf nodes player old
+    → (due : IsDueTowards nodes player old.measures v w) → Raises old v w new
+    → new ≡ with_measure old v due.value
+raised nodes player old new v w unique table due raises =
+    let place = edge_leaves nodes v w due.listed in
     let same : raises.allowance ≡ due.value =
-    unique state.player (priorities state.nodes) (priority_at state.nodes v) (measure_at state.table.measures w) raises.allowance due.value
-    (allowance_of state.nodes state.player state.table v w raises.allowance table place raises.is) due.allowance in
-    raises.replaced ∙ ap (λ (x : Measure). with_measure state.table v x) same
+    unique player (priorities nodes) (priority_at nodes v) (measure_at old.measures w) raises.allowance due.value
+    (allowance_of nodes player old v w raises.allowance table place raises.is) due.allowance in
+    raises.replaced ∙ ap (λ (x : Measure). with_measure old v x) same
 
--- what a solver keeps holds after a lift, the take, and the waking of the predecessors
-pub solving_lifted : (state : State) (v w : ℕ) (content : Content) (pending : Pending)
-    → AllowancesAreUnique → RunsKeepTables
-    → IsSolving state → IsDueTowards state.nodes state.player state.table.measures v w → IsPending state.pending v → state.lifts < most_lifts
-    → Raises state.table v w content
-    → Wakes content.measures (predecessors_of state.nodes v) (length (predecessors_of state.nodes v)) (with_taken state.pending v) pending
-    → IsSolving (record { nodes = state.nodes; player = state.player; table = content; pending = pending; lifts = state.lifts + 1; done = state.done })
-solving_lifted state v w content pending unique keep s due waiting room raises wakes =
-    let place = edge_leaves state.nodes v w due.listed in
-    let here : v < length state.table.measures = omega (arith, table_entries state.nodes state.player state.table s.content) in
-    let now = raised state v w content unique s.content due raises in
-    let measures : content.measures ≡ set state.table.measures v due.value = ap (λ (c : Content). c.measures) now in
-    let woken = subst
-    (λ (t : List Measure). Wakes t (predecessors_of state.nodes v) (length (predecessors_of state.nodes v)) (with_taken state.pending v) pending)
-    measures wakes in
+-- they are a table of the game
+pub table_raised : (nodes : List Node) (player : Player) (old new : Content) (v w : ℕ) → AllowancesAreUnique → RunsKeepTables
+    → IsTableOf nodes player old → IsDueTowards nodes player old.measures v w → Raises old v w new
+    → IsTableOf nodes player new
+table_raised nodes player old new v w unique keep table due raises =
+    let now = raised nodes player old new v w unique table due raises in
+    record {
+      same_player = ap (λ (c : Content). c.player) now ∙ table.same_player;
+      same_priorities = ap (λ (c : Content). c.priorities) now ∙ table.same_priorities;
+      is_table = subst (λ (t : List Measure). IsTable player (priorities nodes) t) (sym (ap (λ (c : Content). c.measures) now))
+          (keep nodes player old.measures (set old.measures v due.value) (v ∷ []) table.is_table
+          (due.value, edge_leaves nodes v w due.listed, due.lifts, refl));
+    }
+
+-- one run behind another
+pub run_append : (nodes : List Node) (player : Player) (old table new : List Measure) (places more : List ℕ)
+    → IsRun nodes player old places table → IsRun nodes player table more new → IsRun nodes player old (places ++ more) new
+run_append nodes player old table new [] more same on =
+    subst (λ (start : List Measure). IsRun nodes player start more new) (sym same) on
+run_append nodes player old table new (u ∷ us) more lifted on =
+    (lifted.0, lifted.1, lifted.2, run_append nodes player _ table new us more lifted.3 on)
+
+-- a raise and further lifts of the same place are a run
+pub run_raised : (nodes : List Node) (player : Player) (old new content : Content) (v w count : ℕ) → AllowancesAreUnique
+    → IsTableOf nodes player old → IsDueTowards nodes player old.measures v w → Raises old v w new
+    → IsRun nodes player new.measures (replicate count v) content.measures
+    → IsRun nodes player old.measures (v ∷ replicate count v) content.measures
+run_raised nodes player old new content v w count unique table due raises more =
+    let now = raised nodes player old new v w unique table due raises in (
+      due.value,
+      edge_leaves nodes v w due.listed,
+      due.lifts,
+      subst (λ (t : List Measure). IsRun nodes player t (replicate count v) content.measures) (ap (λ (c : Content). c.measures) now) more,
+    )
+
+-- what is counted once for each is at most what each counts
+at_least_each : (count each : ℕ) → (0 < count → 0 < each) → count ≤ count * each
+at_least_each count each some = elim (cases_lt 0 count) [
+  | inl more ↦
+      let one : 1 ≤ each = some more in
+      omega (arith, mul-le-mul_left count one)
+  | inr none ↦ omega arith
+]
+
+-- what a solver keeps holds after a lift, the take, further lifts of the same place, and the waking of the predecessors
+pub solving_lifted : (state : State) (v w count : ℕ) (new content : Content) (again pending : Pending)
+    → AllowancesAreUnique
+    → IsSolving state → IsDueTowards state.nodes state.player state.table.measures v w → IsPending state.pending v
+    → state.lifts + (1 + count) ≤ most_lifts
+    → Raises state.table v w new
+    → LiftsAgain state.nodes state.player v count new content (with_taken state.pending v) again
+    → Wakes content.measures (predecessors_of state.nodes v) (length (predecessors_of state.nodes v)) again pending
+    → IsSolving (record { nodes = state.nodes; player = state.player; table = content; pending = pending; lifts = state.lifts + (1 + count); done = state.done })
+solving_lifted state v w count new content again pending unique s due waiting room raises more wakes =
+    let nodes = state.nodes in
+    let place = edge_leaves nodes v w due.listed in
+    let here : v < length state.table.measures = omega (arith, table_entries nodes state.player state.table s.content) in
+    let now = raised nodes state.player state.table new v w unique s.content due raises in
+    let from = subst (λ (t : List Measure). IsRun nodes state.player t (replicate count v) content.measures)
+    (ap (λ (c : Content). c.measures) now) more.lifted in
+    let degree = in_degree nodes v in
+    let degrees = sum_by-append (in_degree nodes) s.places (v ∷ replicate count v) in
+    let first = sum_by-cons (in_degree nodes) v (replicate count v) in
+    let rest = sum_by-replicate (in_degree nodes) count v in
+    let each : count ≤ count * degree = at_least_each count degree
+    (λ some. let at = edge_from_predecessor nodes v v (more.looped some) in omega (arith, at.1)) in
+    let same : waits again ≡ waits (with_taken state.pending v) = ap (λ (marks : List Bool). count_by (λ flag. flag) marks) more.flags in
     record {
       game = s.game;
       limits = s.limits;
-      content = record {
-        same_player = ap (λ (c : Content). c.player) now ∙ s.content.same_player;
-        same_priorities = ap (λ (c : Content). c.priorities) now ∙ s.content.same_priorities;
-        is_table = subst (λ (t : List Measure). IsTable state.player (priorities state.nodes) t) (sym measures)
-            (keep state.nodes state.player state.table.measures (set state.table.measures v due.value) (v ∷ []) s.content.is_table
-            (due.value, place, due.lifts, refl));
-      };
-      places = s.places ++ v ∷ [];
-      lifted = subst (λ (t : List Measure). IsRun state.nodes state.player (zero_table state.player (priorities state.nodes)) (s.places ++ v ∷ []) t)
-          (sym measures)
-          (run_more state.nodes state.player (zero_table state.player (priorities state.nodes)) state.table.measures s.places v due.value
-          s.lifted place due.lifts);
-      counted = omega (arith, length_push s.places v, s.counted);
-      few = omega arith;
-      entries = wakes.entries ∙ (length-set state.pending.flags v _ ∙ s.entries);
-      due = λ u now_due. due_pending state.nodes state.player state.table.measures state.pending pending v due.value here due.lifts s.due woken u
-          (subst (λ (t : List Measure). IsDue state.nodes state.player t u) measures now_due);
-      most = omega (arith, s.most, wakes.taken, wakes.bounded, waits_taken state.pending v waiting, sum_by_push (in_degree state.nodes) s.places v);
-      least = omega (arith, s.least, wakes.taken, wakes.more, waits_taken state.pending v waiting);
-      below = omega (arith, s.below, wakes.taken);
+      content = more.table;
+      places = s.places ++ (v ∷ replicate count v);
+      lifted = run_append nodes state.player _ state.table.measures content.measures s.places (v ∷ replicate count v) s.lifted
+          (run_raised nodes state.player state.table new content v w count unique s.content due raises more.lifted);
+      counted = omega (arith, length-append s.places (v ∷ replicate count v), length-replicate count v, s.counted);
+      few = room;
+      entries = wakes.entries ∙ (ap (λ (marks : List Bool). length marks) more.flags ∙ (length-set state.pending.flags v _ ∙ s.entries));
+      due = due_pending nodes state.player state.table.measures content.measures state.pending again pending v count due.value here due.lifts
+          from more.looped s.due more.flags wakes;
+      most = omega (arith, s.most, wakes.taken, wakes.bounded, more.taken, waits_taken state.pending v waiting, same, degrees, first, rest, each);
+      least = omega (arith, s.least, wakes.taken, wakes.more, more.taken, waits_taken state.pending v waiting, same);
+      below = omega (arith, s.below, wakes.taken, more.taken);
     }
 
--- and it is one lift
-pub one_lifted : (state : State) (v w : ℕ) (content : Content) (pending : Pending)
-    → AllowancesAreUnique → IsSolving state → (due : IsDueTowards state.nodes state.player state.table.measures v w)
-    → Raises state.table v w content
-    → Wakes content.measures (predecessors_of state.nodes v) (length (predecessors_of state.nodes v)) (with_taken state.pending v) pending
-    → IsLifted state v (record { nodes = state.nodes; player = state.player; table = content; pending = pending; lifts = state.lifts + 1; done = state.done })
-one_lifted state v w content pending unique s due raises wakes = record {
-  value = due.value;
-  lifts = due.lifts;
-  replaced = ap (λ (c : Content). c.measures) (raised state v w content unique s.content due raises);
+-- and so many lifts were made
+pub some_lifted : (state : State) (v w most count : ℕ) (new content : Content) (again pending : Pending)
+    → AllowancesAreUnique → IsSolving state → IsDueTowards state.nodes state.player state.table.measures v w
+    → Raises state.table v w new → count ≤ most - 1 → 0 < most
+    → LiftsAgain state.nodes state.player v count new content (with_taken state.pending v) again
+    → Wakes content.measures (predecessors_of state.nodes v) (length (predecessors_of state.nodes v)) again pending
+    → IsLifted state most (1 + count)
+    (record { nodes = state.nodes; player = state.player; table = content; pending = pending; lifts = state.lifts + (1 + count); done = state.done })
+some_lifted state v w most count new content again pending unique s due raises few some more wakes = record {
+  lifted = record {
+    places = v ∷ replicate count v;
+    lifted = run_raised state.nodes state.player state.table new content v w count unique s.content due raises more.lifted;
+    counted = omega (arith, length-replicate count v);
+    within = omega (arith, length-replicate count v);
+  };
+  some = omega arith;
+  within = omega arith;
   counted = refl;
   same_nodes = refl;
   same_player = refl;
   same_done = refl;
-  room = omega (arith, count_by-le-length (λ (flag : Bool). flag) pending.flags, wakes.entries, length-set state.pending.flags v false, s.entries);
+  room = omega (
+    arith,
+    count_by-le-length (λ (flag : Bool). flag) pending.flags,
+    wakes.entries,
+    ap (λ (marks : List Bool). length marks) more.flags,
+    length-set state.pending.flags v false,
+    s.entries,
+  );
 }
 
 -- what a solver keeps holds after the take of a place where no lift is due
@@ -212,18 +312,16 @@ solving_settled state v pending s waiting settled taken =
       below = omega (arith, s.below);
     })
 
--- a run of lifts goes on by one lift
-pub lifts_more : (old state new : State) (made v : ℕ) → state.nodes ≡ old.nodes → state.player ≡ old.player
-    → LiftsWithin old made state → IsLifted state v new → LiftsWithin old (made + 1) new
-lifts_more old state new made v same_nodes same_player so_far lift =
-    let place = edge_leaves state.nodes v lift.lifts.value.successor lift.lifts.value.listed in
-    let place_of_old : v < length old.nodes = subst (λ (nodes : List Node). v < length nodes) same_nodes place in
-    let lifts = subst (λ (player : Player). Lifts old.nodes player state.table.measures v lift.value) same_player
-    (subst (λ (nodes : List Node). Lifts nodes state.player state.table.measures v lift.value) same_nodes lift.lifts) in
+-- a run of lifts goes on by further lifts
+pub lifts_more : (old state new : State) (made most more : ℕ) → state.nodes ≡ old.nodes → state.player ≡ old.player
+    → LiftsWithin old made state → IsLifted state most more new → LiftsWithin old (made + more) new
+lifts_more old state new made most more same_nodes same_player so_far lift =
+    let places = lift.lifted.places in
+    let lifted = subst (λ (player : Player). IsRun old.nodes player state.table.measures places new.table.measures) same_player
+    (subst (λ (nodes : List Node). IsRun nodes state.player state.table.measures places new.table.measures) same_nodes lift.lifted.lifted) in
     record {
-      places = so_far.places ++ v ∷ [];
-      lifted = subst (λ (t : List Measure). IsRun old.nodes old.player old.table.measures (so_far.places ++ v ∷ []) t) (sym lift.replaced)
-          (run_more old.nodes old.player old.table.measures state.table.measures so_far.places v lift.value so_far.lifted place_of_old lifts);
-      counted = omega (arith, length_push so_far.places v, so_far.counted, lift.counted);
-      within = omega (arith, length_push so_far.places v, so_far.within);
+      places = so_far.places ++ places;
+      lifted = run_append old.nodes old.player old.table.measures state.table.measures new.table.measures so_far.places places so_far.lifted lifted;
+      counted = omega (arith, length-append so_far.places places, so_far.counted, lift.lifted.counted);
+      within = omega (arith, length-append so_far.places places, so_far.within, lift.lifted.within);
     }

@@ -13,7 +13,7 @@ use Rattle.omega_lift.specs.Laws.{RunsAreBounded}
 use Rattle.omega_solve.specs.Solver.{State, IsFinished, IsReached, HasLiftDue, LiftsWithin, start_of}
 use Rattle.omega_solve.specs.Headline.{DealsOut, Runs}
 use Rattle.omega_solve.proofs.lifting.Edges.{edge_leaves}
-use Rattle.omega_solve.proofs.lifting.Lifting.{run_more}
+use Rattle.omega_solve.proofs.lifting.Lifting.{run_append, run_more}
 
 -- a run of no lifts
 pub lifts_none : (state : State) (budget : ℕ) → LiftsWithin state budget state
@@ -63,14 +63,6 @@ call_over state budget done finished = record {
   done = λ _. finished;
   spent = λ goes_on. absurd (false≢true (sym goes_on ∙ done));
 }
-
--- one run behind another
-run_append : (nodes : List Node) (player : Player) (old table new : List Measure) (places more : List ℕ)
-    → IsRun nodes player old places table → IsRun nodes player table more new → IsRun nodes player old (places ++ more) new
-run_append nodes player old table new [] more same on =
-    subst (λ (start : List Measure). IsRun nodes player start more new) (sym same) on
-run_append nodes player old table new (u ∷ us) more lifted on =
-    (lifted.0, lifted.1, lifted.2, run_append nodes player _ table new us more lifted.3 on)
 
 -- a run from the all-zero table is one for the same game and player
 reached_for : (nodes other : List Node) (player rival : Player) (places : List ℕ) (table : List Measure) → other ≡ nodes → rival ≡ player

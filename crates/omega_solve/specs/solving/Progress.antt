@@ -1,12 +1,11 @@
 -- What a solver keeps from its start on.
-use Rattle.std.specs.Prelude.{◌≡◌, ℕ, ◌+◌, ◌≤◌, Bool, true, Option, List, length, slice_set, sum_by}
+use Rattle.std.specs.Prelude.{◌≡◌, ℕ, ◌+◌, ◌<◌, ◌≤◌, Bool, true, Option, List, length, sum_by}
 use Rattle.omega_game.specs.Game.{Node, IsGame, IsWithinLimits, predecessors_of, priorities}
-use Rattle.omega_lift.specs.Measure.{Measure}
 use Rattle.omega_lift.specs.Answer.{AreChoices, won_in}
-use Rattle.omega_lift.specs.Run.{IsDue, IsRun, Lifts, zero_table}
+use Rattle.omega_lift.specs.Run.{IsDue, IsRun, zero_table}
 use Rattle.omega_solve.specs.Limits.{most_lifts}
 use Rattle.omega_solve.specs.Schedule.{IsIdle, IsPending, waits}
-use Rattle.omega_solve.specs.Solver.{State}
+use Rattle.omega_solve.specs.Solver.{LiftsWithin, State}
 use Rattle.omega_solve.specs.solving.Successor.{IsTableOf}
 
 -- how many edges lead into a place
@@ -37,12 +36,12 @@ pub record IsAnswered (state : State) (won : List Bool) (choices : List (Option 
   pub places_won : state.done ≡ true → won ≡ won_in state.table.measures
   pub chosen : state.done ≡ true → AreChoices state.nodes state.player state.table.measures choices
 
--- one lift was made, at v
-pub record IsLifted (old : State) (v : ℕ) (new : State) : Type 0 where
-  pub value : Measure
-  pub lifts : Lifts old.nodes old.player old.table.measures v value
-  pub replaced : new.table.measures ≡ slice_set old.table.measures v value
-  pub counted : new.lifts ≡ old.lifts + 1
+-- at least one lift was made, and at most so many
+pub record IsLifted (old : State) (most made : ℕ) (new : State) : Type 0 where
+  pub lifted : LiftsWithin old made new
+  pub some : 0 < made
+  pub within : made ≤ most
+  pub counted : new.lifts ≡ old.lifts + made
   pub same_nodes : new.nodes ≡ old.nodes
   pub same_player : new.player ≡ old.player
   pub same_done : new.done ≡ old.done

@@ -1,16 +1,14 @@
 -- A lift is one towards the successor given, and keeps what a solver keeps.
-use Rattle.std.proofs.Common.{◌+◌, ◌<◌, ◌∙◌, ap, arith, length, subst, sym}
+use Rattle.std.proofs.Common.{◌+◌, ◌≤◌, ◌∙◌, ap, arith, subst, sym}
 use Rattle.omega_solve.specs.Solver.{State, state_of}
 use Rattle.omega_solve.specs.solving.Progress.{IsLifted}
-use Rattle.omega_game.specs.Game.{predecessors_of}
 use Rattle.omega_solve.specs.Limits.{most_lifts}
 use Rattle.omega_solve.specs.Schedule.{IsPending, Pending}
-use Rattle.omega_solve.specs.solving.Wake.{Wakes}
+use Rattle.omega_solve.specs.solving.Repeating.{LiftsAgain}
 use Rattle.omega_solve.specs.solving.Successor.{IsDueTowards}
-use Rattle.omega_solve.proofs.lifting.Due.{allowance_in, table_entries}
-use Rattle.omega_solve.proofs.lifting.Edges.{edge_leaves}
-use Rattle.omega_solve.proofs.lifting.Finishing.{takes_fit}
-use Rattle.omega_solve.proofs.lifting.Lifting.{one_lifted, solving_lifted}
+use Rattle.omega_solve.proofs.lifting.Due.{table_entries}
+use Rattle.omega_solve.proofs.lifting.Finishing.{takes_fit, takes_leave}
+use Rattle.omega_solve.proofs.lifting.Lifting.{due_exceeds, solving_lifted, some_lifted, table_raised}
 use Rattle.omega_solve.proofs.lifting.Starting.{answered_open}
 use Rattle.omega_solve.proofs.solver.Solver.lift.Goals as goal
 
@@ -32,16 +30,26 @@ raise-requires-clause-due g c =
     let inside = c.self.inside in
     let state =
     state_of inside.game.now inside.player (g.T.MeasureTable.content inside.table) (g.S.Schedule.waiting inside.schedule) inside.lifts inside.done in
-    let due = subst (λ (s : State). IsDueTowards s.nodes s.player s.table.measures c.args.place c.args.towards) (sym c.self.view_is) c.requires.due in
-    record {
-      allowance = due.value;
-      is = allowance_in state.nodes state.player state.table c.args.place c.args.towards due.value c.self.invariant.solving.content
-          (edge_leaves state.nodes c.args.place c.args.towards due.listed) due.allowance;
-      above = due.lifts.above;
-    }
+    due_exceeds state.nodes state.player state.table c.args.place c.args.towards c.self.invariant.solving.content
+    (subst (λ (s : State). IsDueTowards s.nodes s.player s.table.measures c.args.place c.args.towards) (sym c.self.view_is) c.requires.due)
 
 pub take-requires-clause-counted : goal.take-requires-clause-counted
 take-requires-clause-counted g c = takes_fit _ c.self.invariant.solving
+
+pub lift_again-more-requires-clause-table : goal.lift_again-more-requires-clause-table
+lift_again-more-requires-clause-table g c =
+    let inside = c.self.inside in
+    let state =
+    state_of inside.game.now inside.player (g.T.MeasureTable.content inside.table) (g.S.Schedule.waiting inside.schedule) inside.lifts inside.done in
+    table_raised state.nodes state.player state.table (g.T.MeasureTable.content c.raise.new.self) c.args.place c.args.towards
+    c.allowances_are_unique.ensures c.runs_keep_tables.ensures c.self.invariant.solving.content
+    (subst (λ (s : State). IsDueTowards s.nodes s.player s.table.measures c.args.place c.args.towards) (sym c.self.view_is) c.requires.due)
+    c.raise.ensures
+
+pub lift_again-more-requires-clause-counted : goal.lift_again-more-requires-clause-counted
+lift_again-more-requires-clause-counted g c =
+    let room : c.self.inside.lifts + c.args.most ≤ most_lifts = subst (λ (s : State). s.lifts + c.args.most ≤ most_lifts) (sym c.self.view_is) c.requires.room in
+    omega (arith, takes_leave _ c.self.invariant.solving, ap (λ (p : Pending). p.taken) c.take.ensures)
 
 pub invariant_of-self : goal.invariant_of-self
 invariant_of-self g c =
@@ -49,16 +57,18 @@ invariant_of-self g c =
     let state =
     state_of inside.game.now inside.player (g.T.MeasureTable.content inside.table) (g.S.Schedule.waiting inside.schedule) inside.lifts inside.done in
     let due = subst (λ (s : State). IsDueTowards s.nodes s.player s.table.measures c.args.place c.args.towards) (sym c.self.view_is) c.requires.due in
-    let content = g.T.MeasureTable.content c.raise.new.self in
-    let woken = g.S.Schedule.waiting c.wake_predecessors.new.schedule in
-    let predecessors = predecessors_of state.nodes c.args.place in
-    let wakes = subst (λ (p : Pending). Wakes content.measures predecessors (length predecessors) p woken) c.take.ensures c.wake_predecessors.ensures in
+    let new = g.T.MeasureTable.content c.raise.new.self in
+    let content = g.T.MeasureTable.content c.lift_again-more.new.table in
+    let again = g.S.Schedule.waiting c.lift_again-more.new.schedule in
+    let more = subst (λ (p : Pending). LiftsAgain state.nodes state.player c.args.place c.lift_again-more.result new content p again)
+    c.take.ensures c.lift_again-more.ensures.lifted in
+    let room = subst (λ (s : State). s.lifts + c.args.most ≤ most_lifts) (sym c.self.view_is) c.requires.room in
     record {
-      solving = solving_lifted state c.args.place c.args.towards content woken c.allowances_are_unique.ensures c.runs_keep_tables.ensures
-          c.self.invariant.solving due
+      solving = solving_lifted state c.args.place c.args.towards c.lift_again-more.result new content again
+          (g.S.Schedule.waiting c.wake_predecessors.new.schedule) c.allowances_are_unique.ensures c.self.invariant.solving due
           (subst (λ (s : State). IsPending s.pending c.args.place) (sym c.self.view_is) c.requires.pending)
-          (subst (λ (s : State). s.lifts < most_lifts) (sym c.self.view_is) c.requires.room)
-          c.raise.ensures wakes;
+          (omega (arith, room, c.lift_again-more.ensures.within, c.requires.some))
+          c.raise.ensures more c.wake_predecessors.ensures;
       answered = answered_open _ c.self.inside.won.items c.self.inside.choice.items
           (ap (λ (s : State). s.done) c.self.view_is ∙ c.requires.done)
           c.self.invariant.answered.won_entries c.self.invariant.answered.choice_entries;
@@ -70,11 +80,15 @@ returns g c =
     let state =
     state_of inside.game.now inside.player (g.T.MeasureTable.content inside.table) (g.S.Schedule.waiting inside.schedule) inside.lifts inside.done in
     let due = subst (λ (s : State). IsDueTowards s.nodes s.player s.table.measures c.args.place c.args.towards) (sym c.self.view_is) c.requires.due in
-    let content = g.T.MeasureTable.content c.raise.new.self in
+    let new = g.T.MeasureTable.content c.raise.new.self in
+    let content = g.T.MeasureTable.content c.lift_again-more.new.table in
+    let again = g.S.Schedule.waiting c.lift_again-more.new.schedule in
     let woken = g.S.Schedule.waiting c.wake_predecessors.new.schedule in
-    let predecessors = predecessors_of state.nodes c.args.place in
-    let wakes = subst (λ (p : Pending). Wakes content.measures predecessors (length predecessors) p woken) c.take.ensures c.wake_predecessors.ensures in
+    let count = c.lift_again-more.result in
+    let more = subst (λ (p : Pending). LiftsAgain state.nodes state.player c.args.place count new content p again)
+    c.take.ensures c.lift_again-more.ensures.lifted in
     subst
-    (λ (s : State). IsLifted s c.args.place (state_of state.nodes state.player content woken (state.lifts + 1) state.done))
+    (λ (s : State). IsLifted s c.args.most (1 + count) (state_of state.nodes state.player content woken (state.lifts + (1 + count)) state.done))
     c.self.view_is
-    (one_lifted state c.args.place c.args.towards content woken c.allowances_are_unique.ensures c.self.invariant.solving due c.raise.ensures wakes)
+    (some_lifted state c.args.place c.args.towards c.args.most count new content again woken c.allowances_are_unique.ensures
+    c.self.invariant.solving due c.raise.ensures c.lift_again-more.ensures.within c.requires.some more c.wake_predecessors.ensures)

@@ -14,7 +14,7 @@ invariant_of-result g c =
     let content = g.T.MeasureTable.content c.in_ok-table.table in
     let pending = g.S.Schedule.waiting c.in_ok-schedule.schedule in
     let state = state_of nodes c.args.player content pending 0 false in
-    let all : pending ≡ all_pending (length nodes) = c.in_ok-schedule.ensures.all ∙ ap all_pending c.len-n.ensures.count in
+    let all : pending ≡ all_pending (length nodes) = c.in_ok-schedule.ensures.all in
     let is_start : state ≡ start_of nodes c.args.player =
     ap (λ (t : Content). state_of nodes c.args.player t pending 0 false)
     c.in_ok-table.ensures.zero

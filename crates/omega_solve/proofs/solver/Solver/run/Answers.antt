@@ -1,5 +1,5 @@
 -- A run goes on lift by lift, and ends with none due or with its budget used up.
-use Rattle.std.proofs.Common.{◌≡◌, ◌∙◌, ap, arith, subst, sym, true}
+use Rattle.std.proofs.Common.{◌≡◌, ◌-◌, ◌∙◌, ap, arith, subst, sym, true}
 use Rattle.omega_solve.specs.Solver.{State}
 use Rattle.omega_solve.specs.solving.Progress.{IsSolver}
 use Rattle.omega_solve.proofs.lifting.Finishing.{finished_idle, reached_bounded, solving_reached}
@@ -22,13 +22,13 @@ pub loop-place-preserved : goal.loop-place-preserved
 loop-place-preserved g c =
     let kept = c.loop-place.invariant in
     record {
-      same_nodes = c.lift.ensures.same_nodes ∙ kept.same_nodes;
-      same_player = c.lift.ensures.same_player ∙ kept.same_player;
-      lifted = lifts_more c.args.self.now c.loop-place.self c.lift.new.self c.loop-place.made c.in-Some.place
-          kept.same_nodes kept.same_player kept.lifted c.lift.ensures;
-      counted = omega (arith, c.lift.ensures.counted, kept.counted);
-      within = omega (arith, kept.within, c.if-made-budget.false);
-      goes_on = c.lift.ensures.same_done ∙ kept.goes_on;
+      same_nodes = c.lift-more.ensures.same_nodes ∙ kept.same_nodes;
+      same_player = c.lift-more.ensures.same_player ∙ kept.same_player;
+      lifted = lifts_more c.args.self.now c.loop-place.self c.lift-more.new.self c.loop-place.made (c.args.budget - c.loop-place.made)
+          c.lift-more.result kept.same_nodes kept.same_player kept.lifted c.lift-more.ensures;
+      counted = omega (arith, c.lift-more.ensures.counted, kept.counted);
+      within = omega (arith, kept.within, c.lift-more.ensures.within);
+      goes_on = c.lift-more.ensures.same_done ∙ kept.goes_on;
     }
 
 pub returns-then-made-budget-clause-ran : goal.returns-then-made-budget-clause-ran

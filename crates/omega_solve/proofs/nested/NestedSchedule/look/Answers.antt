@@ -1,0 +1,18 @@
+-- What is found where all ranks were looked at.
+use Rattle.std.proofs.Common.{List, ℕ, subst}
+use Rattle.std.specs.Option.{MatchOption}
+use Rattle.omega_solve.specs.Schedule.{IsIdle, IsPending, Pending}
+use Rattle.omega_solve.specs.schedules.Nested.{IsEmpty, IsSomeRank}
+use Rattle.omega_solve.proofs.schedules.Nesting.{found_pending}
+use Rattle.omega_solve.proofs.nested.NestedSchedule.look.Goals as goal
+
+pub returns : goal.returns
+returns c =
+    let ranking = c.self.inside.ranking in
+    let words = c.self.inside.pending.items in
+    let found = c.first_pending.result in
+    let of_words = subst (λ (ws : List ℕ). MatchOption found (IsEmpty c.deref-5.result.now ws) (IsSomeRank c.deref-5.result.now ws))
+    c.deref-6.ensures.value c.first_pending.ensures in
+    let of_places = subst (λ (ps : List ℕ). MatchOption found (IsEmpty ps words) (IsSomeRank ps words)) c.deref-5.ensures.value of_words in
+    subst (λ (p : Pending). MatchOption found (IsIdle p) (IsPending p)) c.self.view_is
+    (found_pending ranking.ranks.items ranking.places.items words c.self.inside.taken found c.self.invariant.inverse of_places)

@@ -1,0 +1,135 @@
+ghost use Rattle.std.specs.Prelude.{◌≡◌, ◌<◌, ◌^◌, length, false, IfSome, MatchOption};
+ghost use Rattle.omega_solve.specs.schedules.Nested.{is_set, HasBits, IsEmpty, IsPlaceAt, IsSomeRank};
+
+use crate::order::nested_order;
+use crate::pace::Pace;
+use crate::rank_set::{all_ranks, contains, insert, least_from, remove};
+use crate::ranking::Ranking;
+use crate::schedule::Schedule;
+use omega_measure::{Game, Refusal};
+use std::alloc::Global;
+use std::marker::Model;
+
+/// Looks at the pending places of a game component by component, each before those that lead to it; in a component first
+/// at the places of its greatest priority, then at the others in the same manner, on three levels. Sweeps over the ranks
+/// in this order and focus on the least of them take turns. A place that leads to itself is taken again while a lift is due there:
+/// up to 64 times in a sweep, in focus as long as that goes on.
+///
+/// `prepare` knows no game: there the places are in rising order. For n nodes and m edges `prepare_for` costs near
+/// 3 (n + m), looking may pass over n / 64 words, and the rest is done in a few steps.
+#[derive(Drop)]
+pub struct Nested {
+    ranking: Ranking,
+    /// The ranks of the pending places.
+    pending: Vec<u64>,
+    taken: u64,
+    pace: Pace,
+}
+
+impl Model for Nested {
+    ghost use Rattle.omega_solve.specs.Schedule.{Pending};
+    ghost use Rattle.omega_solve.specs.schedules.Nested.{flags_of, IsNested};
+
+    ghost Value = { Pending };
+
+    ghost view = { λ s. record { flags = flags_of s.ranking.ranks.items s.pending.items; taken = s.taken } };
+
+    ghost invariant = { λ s. IsNested s.ranking.ranks.items s.ranking.places.items s.pending.items };
+}
+
+impl Schedule for Nested {
+    ghost waiting = { λ s. s };
+
+    fn prepare(alloc: Global, n: u32) -> Result<Self, Refusal> {
+        Ok(Nested {
+            ranking: Ranking::rising(alloc, n)?,
+            pending: all_ranks(alloc, n)?,
+            taken: 0,
+            pace: Pace::new(),
+        })
+    }
+
+    fn prepare_for(alloc: Global, game: &Game) -> Result<Self, Refusal> {
+        let n = game.len() as u32;
+        let order = nested_order(alloc, game)?;
+        Ok(Nested {
+            ranking: Ranking::along(alloc, n, order)?,
+            pending: all_ranks(alloc, n)?,
+            taken: 0,
+            pace: Pace::new(),
+        })
+    }
+
+    fn look(&self) -> Option<u32> {
+        let places = &self.ranking.places;
+        if let Some(place) = pending_from(places, &self.pending, self.pace.cursor) {
+            return Some(place);
+        }
+        if let Some(place) = pending_from(places, &self.pending, self.pace.low) {
+            return Some(place);
+        }
+        // That nothing is pending then is not claimed: it is looked up.
+        first_pending(places, &self.pending)
+    }
+
+    fn take(&mut self, place: u32) {
+        let rank = self.ranking.ranks[place as usize] as usize;
+        remove(&mut self.pending, rank);
+        self.taken += 1;
+        self.pace.take(rank);
+    }
+
+    fn take_again(&mut self) -> bool {
+        let again = self.pace.repeat();
+        if again {
+            self.taken += 1;
+        }
+        again
+    }
+
+    fn takes(&self) -> u64 {
+        self.taken
+    }
+
+    fn add(&mut self, place: u32) {
+        let rank = self.ranking.ranks[place as usize] as usize;
+        insert(&mut self.pending, rank);
+        self.pace.add(rank);
+    }
+}
+
+/// The place of the least pending rank from a rank on, or none: whoever uses that looks at the others.
+#[inline(always)]
+fn pending_from(places: &[u32], pending: &[u64], from: usize) -> Option<u32>
+    requires bits { HasBits pending.now (length places.now) }
+    requires small { length pending.now < 2 ^ 32 }
+    ensures { IfSome result (IsSomeRank places.now pending.now) }
+{
+    pending_at(places, pending, least_from(pending, from)?)
+}
+
+/// The place of the least pending rank of all.
+fn first_pending(places: &[u32], pending: &[u64]) -> Option<u32>
+    requires { HasBits pending.now (length places.now) }
+    ensures { MatchOption result (IsEmpty places.now pending.now) (IsSomeRank places.now pending.now) }
+{
+    for rank in 0..places.len() {
+        if let Some(place) = pending_at(places, pending, rank) {
+            return Some(place);
+        }
+    }
+    None
+}
+
+/// The place of a rank, if the rank has one and is pending.
+#[inline(always)]
+fn pending_at(places: &[u32], pending: &[u64], rank: usize) -> Option<u32>
+    requires { HasBits pending.now (length places.now) }
+    ensures { MatchOption result (rank < length places.now → is_set pending.now rank ≡ false) (IsPlaceAt places.now pending.now rank) }
+{
+    if rank < places.len() && contains(pending, rank) {
+        Some(places[rank])
+    } else {
+        None
+    }
+}

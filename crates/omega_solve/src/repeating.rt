@@ -1,0 +1,79 @@
+ghost use Rattle.std.specs.Prelude.{◌≡◌, ◌+◌, ◌-◌, ◌^◌, ◌<◌, ◌≤◌, length, IsTrue, MatchBool};
+ghost use Rattle.omega_game.specs.Game.{HasEdge, IsGame};
+ghost use Rattle.omega_solve.specs.solving.Repeating.{LiftsAgain};
+ghost use Rattle.omega_solve.specs.solving.Successor.{IsTableOf};
+
+use crate::schedule::Schedule;
+use crate::successor::due_towards;
+use omega_lift::{allowances_are_unique, runs_keep_tables};
+use omega_measure::{Game, MeasureTable, Player};
+
+/// Lifts a place that leads to itself again, while a lift is due there and the schedule takes it again, at most so many
+/// times. How often. Nothing is woken: that is done once, behind the last of these lifts.
+pub(crate) fn lift_again<T: MeasureTable, S: Schedule>(
+    game: &Game,
+    player: Player,
+    table: &mut T,
+    schedule: &mut S,
+    place: u32,
+    most: u64,
+) -> u64
+    requires inside { place < length game.now }
+    requires game { IsGame game.now }
+    requires table { IsTableOf game.now player (T.content table.old) }
+    requires counted { (S.waiting schedule.old).taken + most ≤ 2 ^ 64 - 1 }
+    ensures within { result ≤ most }
+    ensures lifted { LiftsAgain game.now player place result (T.content table.old) (T.content table.new) (S.waiting schedule.old) (S.waiting schedule.new) }
+{
+    let mut made = 0u64;
+    if leads_to_itself(game, place) {
+        while made < most && lift_once_more(game, player, table, schedule, place) {
+            made += 1;
+        }
+    }
+    made
+}
+
+/// Lifts a place that leads to itself once more, if a lift is due there and the schedule takes it again. Whether it did.
+fn lift_once_more<T: MeasureTable, S: Schedule>(
+    game: &Game,
+    player: Player,
+    table: &mut T,
+    schedule: &mut S,
+    place: u32,
+) -> bool
+    requires inside { place < length game.now }
+    requires game { IsGame game.now }
+    requires itself { HasEdge game.now place place }
+    requires table { IsTableOf game.now player (T.content table.old) }
+    requires counted { (S.waiting schedule.old).taken < 2 ^ 64 - 1 }
+    ensures { MatchBool result
+        (LiftsAgain game.now player place 1 (T.content table.old) (T.content table.new) (S.waiting schedule.old) (S.waiting schedule.new))
+        (LiftsAgain game.now player place 0 (T.content table.old) (T.content table.new) (S.waiting schedule.old) (S.waiting schedule.new)) }
+{
+    allowances_are_unique();
+    runs_keep_tables();
+    match due_towards(game, player, table, place) {
+        None => false,
+        Some(towards) => {
+            let again = schedule.take_again();
+            if again {
+                table.raise(place, towards);
+            }
+            again
+        }
+    }
+}
+
+/// Whether a place is one of its successors.
+fn leads_to_itself(game: &Game, place: u32) -> bool
+    requires { place < length game.now }
+    ensures { IsTrue result → HasEdge game.now place place }
+{
+    for successor in game.successors(place) {
+        if *successor == place {
+            return true;
+        }
+    }
+    false
+}
