@@ -3,32 +3,12 @@
 
 ghost use Rattle.std.specs.Prelude.{IfOk, IsOkUnless};
 ghost use Rattle.omega_text.specs.declared.refusal.Refusal.TheVariants.{Memory};
-ghost use Rattle.omega_tool.specs.Line.{IsFault, IsRunnable};
+ghost use Rattle.omega_command.specs.Line.{IsFault, IsRunnable};
 
-mod answers;
-mod command;
-mod exit;
-mod help;
-mod line;
-mod obey;
-mod refusal_line;
-mod respond;
-mod run;
-#[cfg(test)]
-mod tests;
-mod transfer;
-mod words;
-
-use line::Line;
-use obey::obey;
-use omega_text::Refusal;
+use omega_run::{FromRead, HostFiles, Line, Refusal, ToWrite, obey, read_words};
 use std::alloc::Global;
 use std::io;
 use std::process::ExitCode;
-use transfer::game_file::HostFiles;
-use transfer::input::FromRead;
-use transfer::output::ToWrite;
-use words::read_words;
 
 fn main(rt: HostRuntime) -> ExitCode {
     let asked = asked_of(&rt);

@@ -1,0 +1,6 @@
+-- Lemmas by theme.
+pub mod Identifiers
+pub mod Places
+pub mod Solutions
+pub mod Solving
+pub mod Verifying

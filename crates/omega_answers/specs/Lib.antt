@@ -1,0 +1,8 @@
+-- What each subcommand answers and refuses; in `steps` what private contracts alone cite.
+pub mod PlayerText
+pub mod Verify
+pub mod canon
+pub mod check
+pub mod show
+pub mod solve
+pub mod steps

@@ -1,0 +1,45 @@
+-- What `solve` answers: a right answer for the game, or for the part that one node reaches.
+use Rattle.std.specs.Prelude.{◌≡◌, ◌↔◌, ◌<◌, List, Option, Some, None, ℕ, length, slice_index}
+use Rattle.omega_game.specs.declared.player.Player.{Player}
+use Rattle.omega_game.specs.Game.{Node, node_at}
+use Rattle.omega_game.specs.Part.{IsPartAt}
+use Rattle.omega_game.specs.Winning.{InRegion}
+use Rattle.omega_pg.specs.game.Text.{IsGameText}
+use Rattle.omega_answers.specs.solve.AnswerText.{IsAnswerOf}
+use Rattle.omega_answers.specs.solve.Solution.{IsSolutionOf}
+
+-- the node at a place has the identifier
+pub record HasIdentifier (nodes : List Node) (identifier place : ℕ) : Type 0 where
+  pub node : place < length nodes
+  pub identified : (node_at nodes place).identifier ≡ identifier
+
+-- the kept nodes are in the player's region of the part exactly where they are in that of the game
+abbrev pub SameRegions : List Node → List ℕ → List Node → Player → Type 0
+SameRegions game kept part player =
+    (k : ℕ) → k < length kept → InRegion part player k ↔ InRegion game player (slice_index kept k)
+
+-- a right answer for a whole game: the answer text of the player asked for, or where none is, the solution text
+abbrev pub SolvesWhole : List Node → Option Player → ℕ → List ℕ → Type 0
+SolvesWhole nodes None budget output = IsSolutionOf nodes budget output
+SolvesWhole nodes (Some player) budget output = IsAnswerOf nodes player budget output
+
+-- a right answer for the part that the node with the identifier reaches, whose nodes are won in the part exactly where they are won in the game
+pub record SolvesPart (game : List Node) (asked : Option Player) (identifier budget : ℕ) (output : List ℕ) : Type 0 where
+  pub place : ℕ
+  pub identified : HasIdentifier game identifier place
+  pub kept : List ℕ
+  pub part : List Node
+  pub reached : IsPartAt game place kept part
+  pub answer : SolvesWhole part asked budget output
+  pub regions : (player : Player) → SameRegions game kept part player
+
+-- a right answer for the game, or where an identifier is given, for the part that its node reaches
+abbrev pub Solves : List Node → Option Player → Option ℕ → ℕ → List ℕ → Type 0
+Solves game asked None budget output = SolvesWhole game asked budget output
+Solves game asked (Some identifier) budget output = SolvesPart game asked identifier budget output
+
+-- what `solve` answers: the text stands for a game, and a right answer is written
+pub record IsSolveAnswer (text : List ℕ) (asked : Option Player) (from : Option ℕ) (budget : ℕ) (output : List ℕ) : Type 0 where
+  pub game : List Node
+  pub read : IsGameText text game
+  pub solved : Solves game asked from budget output

@@ -1,0 +1,18 @@
+//! What each subcommand answers to the texts that it reads.
+#![tactic(auto)]
+
+mod canon;
+mod check;
+mod game_text;
+mod player_text;
+mod show;
+mod solve;
+mod verify;
+
+pub use canon::pg::canon_game;
+pub use check::pg::check_game;
+pub use omega_io::Exit;
+pub use omega_solve::{MeasureTable, PackedTable, Player, Refusal, Schedule, Worklist};
+pub use show::pg::show_game;
+pub use solve::solve_game;
+pub use verify::verify_solution;

@@ -1,0 +1,167 @@
+-- What a subcommand asks for with the texts of its options.
+use Rattle.std.specs.Prelude.{◌≡◌, ◌≢◌, ◌≤◌, ◌⊎◌, List, Option, Some, None, ℕ, codes, string_bytes, option_map}
+use Rattle.std.specs.Str.Parse.{IsNumeral, digits_value}
+use Rattle.clap.specs.Words.{Row, first_of}
+use Rattle.clap.specs.declared.error.kind.ErrorKind.{ErrorKind}
+use Rattle.clap.specs.declared.error.kind.ErrorKind.TheVariants.{DisplayHelp, DisplayVersion}
+use Rattle.omega_game.specs.declared.player.Player.{Player}
+use Rattle.omega_game.specs.Player.{player_number}
+use Rattle.omega_solve.specs.Limits.{most_lifts}
+use Rattle.omega_text.specs.Limits.{most_number}
+use Rattle.omega_command.specs.declared.command.Command.TheVariants as command
+use Rattle.omega_command.specs.declared.command.Format.{Format}
+use Rattle.omega_command.specs.declared.command.Format.TheVariants.{Hoa, Pg}
+use Rattle.omega_command.specs.declared.line.Line.{Line}
+use Rattle.omega_command.specs.declared.line.Line.TheVariants as line
+use Rattle.omega_command.specs.declared.words.mistake.Mistake.{Mistake}
+use Rattle.omega_command.specs.declared.words.mistake.Mistake.TheVariants as mistake
+use Rattle.omega_command.specs.declared.words.options.OptionName.{OptionName}
+use Rattle.omega_command.specs.declared.words.options.OptionName.TheVariants as name
+use Rattle.omega_command.specs.declared.words.options.Options.{Options}
+use Rattle.omega_command.specs.Line.{IsFault}
+
+-- ---- what the text of an option stands for
+
+-- decimal digits and nothing else stand for a number up to the greatest
+pub record IsNumberText (most : ℕ) (text : List ℕ) (number : ℕ) : Type 0 where
+  pub digits : IsNumeral 10 text
+  pub value : digits_value 10 text ≡ number
+  pub within : number ≤ most
+
+-- the number of a player
+abbrev pub IsPlayerText : List ℕ → Player → Type 0
+IsPlayerText text player = IsNumberText 1 text (player_number player)
+
+-- the name of a format that is offered
+abbrev pub IsFormatText : List ℕ → Format → Type 0
+IsFormatText text Pg = text ≡ codes "pg"
+IsFormatText text Hoa = ⊥
+
+-- ---- what an option asks for
+
+-- an option that may be left out
+abbrev pub Gives : {T : Type 0} → (List ℕ → T → Type 0) → Option (List ℕ) → Option T → Type 0
+Gives reads None None = Unit {0}
+Gives reads None (Some value) = ⊥
+Gives reads (Some text) None = ⊥
+Gives reads (Some text) (Some value) = reads text value
+
+-- the budget: by default the greatest
+abbrev pub GivesBudget : Option (List ℕ) → ℕ → Type 0
+GivesBudget None budget = budget ≡ most_lifts
+GivesBudget (Some text) budget = IsNumberText most_lifts text budget
+
+-- the text of an option, if it is given
+abbrev pub text_of : OptionName → Options → Option (List ℕ)
+text_of name.Format options = option_map (λ text. text.now) options.format
+text_of name.Player options = option_map (λ text. text.now) options.player
+text_of name.From options = option_map (λ text. text.now) options.from
+text_of name.Budget options = option_map (λ text. text.now) options.budget
+text_of name.Game options = option_map (λ text. text.now) options.game
+
+-- how `clap` knows an option
+abbrev pub id_of : OptionName → List ℕ
+id_of name.Format = codes "format"
+id_of name.Player = codes "player"
+id_of name.From = codes "from"
+id_of name.Budget = codes "budget"
+id_of name.Game = codes "game"
+
+-- ---- what a subcommand asks for
+
+-- the subcommand of this name, with these options, asks for the line
+abbrev pub Asks : List ℕ → Options → Line → Type 0
+Asks subcommand options (line.Run (command.Show format) budget) =
+    (subcommand ≡ codes "show") × Gives IsFormatText (text_of name.Format options) (Some format) × (budget ≡ most_lifts)
+Asks subcommand options (line.Run (command.Check format) budget) =
+    (subcommand ≡ codes "check") × Gives IsFormatText (text_of name.Format options) (Some format) × (budget ≡ most_lifts)
+Asks subcommand options (line.Run (command.Canon format) budget) =
+    (subcommand ≡ codes "canon") × Gives IsFormatText (text_of name.Format options) (Some format) × (budget ≡ most_lifts)
+Asks subcommand options (line.Run (command.Solve player from) budget) =
+    (subcommand ≡ codes "solve") × Gives IsPlayerText (text_of name.Player options) player
+    × Gives (IsNumberText most_number) (text_of name.From options) from × GivesBudget (text_of name.Budget options) budget
+Asks subcommand options (line.Run (command.Verify game) budget) = ⊥
+Asks subcommand options (line.Run command.Empty budget) = ⊥
+Asks subcommand options (line.Run command.Game budget) = ⊥
+Asks subcommand options (line.Verify file) =
+    (subcommand ≡ codes "verify") × (text_of name.Game options ≡ Some (string_bytes file))
+Asks subcommand options (line.Help text) = ⊥
+Asks subcommand options (line.Fault text) = ⊥
+
+-- ---- what is wrong with a subcommand or an option
+
+-- the subcommand takes the option
+abbrev pub HasOption : List ℕ → OptionName → Type 0
+HasOption subcommand name.Format = (subcommand ≡ codes "show") ⊎ (subcommand ≡ codes "check") ⊎ (subcommand ≡ codes "canon")
+HasOption subcommand name.Player = subcommand ≡ codes "solve"
+HasOption subcommand name.From = subcommand ≡ codes "solve"
+HasOption subcommand name.Budget = subcommand ≡ codes "solve"
+HasOption subcommand name.Game = subcommand ≡ codes "verify"
+
+-- the option has to be given
+abbrev pub IsRequired : OptionName → Type 0
+IsRequired name.Format = Unit {0}
+IsRequired name.Player = ⊥
+IsRequired name.From = ⊥
+IsRequired name.Budget = ⊥
+IsRequired name.Game = Unit {0}
+
+-- the text stands for no value of the option
+abbrev pub StandsForNothing : OptionName → List ℕ → Type 0
+StandsForNothing name.Format text = (format : Format) → IsFormatText text format → ⊥
+StandsForNothing name.Player text = (player : Player) → IsPlayerText text player → ⊥
+StandsForNothing name.From text = (number : ℕ) → IsNumberText most_number text number → ⊥
+StandsForNothing name.Budget text = (number : ℕ) → IsNumberText most_lifts text number → ⊥
+StandsForNothing name.Game text = ⊥
+
+-- the mistake is that the option is missing, or that its text stands for nothing
+abbrev pub IsFaulty : OptionName → Options → Mistake → Type 0
+IsFaulty option options (mistake.Missing other) = (other ≡ option) × IsRequired option × (text_of option options ≡ None)
+IsFaulty option options (mistake.Value other text reason) =
+    (other ≡ option) × (text_of option options ≡ Some text.now) × StandsForNothing option text.now
+IsFaulty option options mistake.Unknown = ⊥
+IsFaulty option options mistake.Memory = ⊥
+
+-- no subcommand has this name
+pub record IsUnknown (subcommand : List ℕ) : Type 0 where
+  pub show : subcommand ≢ codes "show"
+  pub check : subcommand ≢ codes "check"
+  pub canon : subcommand ≢ codes "canon"
+  pub solve : subcommand ≢ codes "solve"
+  pub verify : subcommand ≢ codes "verify"
+
+-- what is wrong: no subcommand has the name, or an option that it takes is faulty; or memory is wanting
+abbrev pub IsMistake : List ℕ → Options → Mistake → Type 0
+IsMistake subcommand options mistake.Unknown = IsUnknown subcommand
+IsMistake subcommand options mistake.Memory = Unit {0}
+IsMistake subcommand options (mistake.Missing option) = HasOption subcommand option × IsFaulty option options (mistake.Missing option)
+IsMistake subcommand options (mistake.Value option text reason) =
+    HasOption subcommand option × IsFaulty option options (mistake.Value option text reason)
+
+-- ---- the line that is made of what `clap` found
+
+-- the line is the fault that tells of the mistake; want of memory is told by no line
+abbrev pub IsFaultOf : Mistake → Line → Type 0
+IsFaultOf found line = IsFault line × (found ≢ mistake.Memory)
+
+-- the line for the subcommand of this name with these options: what it asks for, or the fault that tells what is wrong with it
+abbrev pub IsLineOf : List ℕ → Options → Line → Type 0
+IsLineOf subcommand options line =
+    Asks subcommand options line ⊎ ((found : Mistake) × IsMistake subcommand options found × IsFaultOf found line)
+
+-- the line for the subcommand of this name, where the options are those that `clap` found behind it
+abbrev pub IsLineFor : List ℕ → List Row → Line → Type 0
+IsLineFor subcommand rows line =
+    (options : Options) × ((name : OptionName) → text_of name options ≡ first_of (id_of name) rows) × IsLineOf subcommand options line
+
+-- the line for the subcommand that `clap` found; a fault where it found none
+abbrev pub IsLineFound : Option (List ℕ × List Row) → Line → Type 0
+IsLineFound None line = IsFault line
+IsLineFound (Some (subcommand, rows)) line = IsLineFor subcommand rows line
+
+-- the line for an error of `clap`: help where the user asked for a text, else a fault
+abbrev pub IsPrinted : ErrorKind → Line → Type 0
+IsPrinted kind (line.Help text) = (kind ≡ DisplayHelp) ⊎ (kind ≡ DisplayVersion)
+IsPrinted kind (line.Fault text) = (kind ≢ DisplayHelp) × (kind ≢ DisplayVersion)
+IsPrinted kind (line.Run command budget) = ⊥
+IsPrinted kind (line.Verify file) = ⊥

@@ -1,0 +1,35 @@
+-- What of a command line can be done.
+use Rattle.std.specs.Prelude.{◌≤◌}
+use Rattle.omega_solve.specs.Limits.{most_lifts}
+use Rattle.omega_command.specs.declared.command.Command.{Command}
+use Rattle.omega_command.specs.declared.command.Command.TheVariants.{Canon, Check, Empty, Game, Show, Solve, Verify}
+use Rattle.omega_command.specs.declared.command.Format.TheVariants.{Hoa, Pg}
+use Rattle.omega_command.specs.declared.line.Line.{Line}
+use Rattle.omega_command.specs.declared.line.Line.TheVariants as line
+
+-- the command is one that the program offers
+abbrev pub IsOffered : Command → Type 0
+IsOffered (Show Pg) = Unit {0}
+IsOffered (Show Hoa) = ⊥
+IsOffered (Check Pg) = Unit {0}
+IsOffered (Check Hoa) = ⊥
+IsOffered (Canon Pg) = Unit {0}
+IsOffered (Canon Hoa) = ⊥
+IsOffered (Solve asked from) = Unit {0}
+IsOffered (Verify game) = Unit {0}
+IsOffered Empty = ⊥
+IsOffered Game = ⊥
+
+-- what the line asks for can be done: its command is offered, with a budget that a solver takes
+abbrev pub IsRunnable : Line → Type 0
+IsRunnable (line.Run command budget) = IsOffered command × (budget ≤ most_lifts)
+IsRunnable (line.Verify file) = Unit {0}
+IsRunnable (line.Help text) = Unit {0}
+IsRunnable (line.Fault text) = Unit {0}
+
+-- the line says what is wrong with the command line
+abbrev pub IsFault : Line → Type 0
+IsFault (line.Run command budget) = ⊥
+IsFault (line.Verify file) = ⊥
+IsFault (line.Help text) = ⊥
+IsFault (line.Fault text) = Unit {0}

@@ -1,0 +1,105 @@
+ghost use Rattle.std.specs.Prelude.{◌≡◌, Some, IfOk, IfErr};
+ghost use Rattle.omega_text.specs.Limits.{most_number};
+ghost use Rattle.omega_command.specs.CommandLine.{Asks, Gives, GivesBudget, IsFaulty, IsFormatText, IsMistake, IsNumberText, IsPlayerText, text_of};
+ghost use Rattle.omega_command.specs.declared.words.options.OptionName.TheVariants as name;
+
+use super::mistake::{Mistake, Reason};
+use super::number::number_in;
+use super::options::{OptionName, Options};
+use crate::command::{Command, Format};
+use crate::line::Line;
+use omega_game::Player;
+use omega_solve::MOST_LIFTS;
+use omega_text::MOST_NUMBER;
+use std::alloc::Global;
+
+/// What a subcommand asks for with the texts of its options, or what is wrong with them. Options that it does not take
+/// are not looked at.
+pub fn line_for<'a>(
+    alloc: Global,
+    subcommand: &str,
+    options: &Options<'a>,
+) -> Result<Line, Mistake<'a>>
+    ensures asked { IfOk result (Asks subcommand.now options.now) }
+    ensures mistaken { IfErr result (IsMistake subcommand.now options.now) }
+{
+    if subcommand == "show" {
+        return Ok(Line::Run(Command::Show(format_in(options)?), MOST_LIFTS));
+    }
+    if subcommand == "check" {
+        return Ok(Line::Run(Command::Check(format_in(options)?), MOST_LIFTS));
+    }
+    if subcommand == "canon" {
+        return Ok(Line::Run(Command::Canon(format_in(options)?), MOST_LIFTS));
+    }
+    if subcommand == "solve" {
+        let player = player_in(options)?;
+        let from = identifier_in(options)?;
+        let budget = budget_in(options)?;
+        return Ok(Line::Run(Command::Solve { player, from }, budget));
+    }
+    if subcommand == "verify" {
+        let Some(name) = options.game else {
+            return Err(Mistake::Missing(OptionName::Game));
+        };
+        return match String::from_str(alloc, name) {
+            Ok(file) => Ok(Line::Verify { file }),
+            Err(_) => Err(Mistake::Memory),
+        };
+    }
+    Err(Mistake::Unknown)
+}
+
+fn format_in<'a>(options: &Options<'a>) -> Result<Format, Mistake<'a>>
+    ensures given { IfOk result (λ format. Gives IsFormatText (text_of name.Format options.now) (Some format)) }
+    ensures faulty { IfErr result (IsFaulty name.Format options.now) }
+{
+    let Some(text) = options.format else {
+        return Err(Mistake::Missing(OptionName::Format));
+    };
+    if text == "pg" {
+        Ok(Format::Pg)
+    } else {
+        Err(Mistake::Value(OptionName::Format, text, Reason::NoFormat))
+    }
+}
+
+fn player_in<'a>(options: &Options<'a>) -> Result<Option<Player>, Mistake<'a>>
+    ensures given { IfOk result (Gives IsPlayerText (text_of name.Player options.now)) }
+    ensures faulty { IfErr result (IsFaulty name.Player options.now) }
+{
+    let Some(text) = options.player else {
+        return Ok(None);
+    };
+    match number_in(text, 1) {
+        Ok(number) => Ok(Player::of_number(number as u32)),
+        Err(reason) => Err(Mistake::Value(OptionName::Player, text, reason)),
+    }
+}
+
+fn identifier_in<'a>(options: &Options<'a>) -> Result<Option<u32>, Mistake<'a>>
+    ensures given { IfOk result (Gives (IsNumberText most_number) (text_of name.From options.now)) }
+    ensures faulty { IfErr result (IsFaulty name.From options.now) }
+{
+    let Some(text) = options.from else {
+        return Ok(None);
+    };
+    match number_in(text, u64::from(MOST_NUMBER)) {
+        Ok(identifier) => Ok(Some(identifier as u32)),
+        Err(reason) => Err(Mistake::Value(OptionName::From, text, reason)),
+    }
+}
+
+/// The most lifts of each run: as many as a solver makes, where no budget is given.
+fn budget_in<'a>(options: &Options<'a>) -> Result<u64, Mistake<'a>>
+    ensures given { IfOk result (GivesBudget (text_of name.Budget options.now)) }
+    ensures faulty { IfErr result (IsFaulty name.Budget options.now) }
+{
+    let Some(text) = options.budget else {
+        return Ok(MOST_LIFTS);
+    };
+    match number_in(text, MOST_LIFTS) {
+        Ok(budget) => Ok(budget),
+        Err(reason) => Err(Mistake::Value(OptionName::Budget, text, reason)),
+    }
+}

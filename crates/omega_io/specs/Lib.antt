@@ -1,0 +1,9 @@
+-- What contracts of reading, writing and telling cite.
+pub use Rattle.omega_text.specs.Cases
+pub use Rattle.omega_text.specs.Limits
+pub use Rattle.omega_text.specs.Refusal
+pub mod Exit
+pub mod Failures
+pub mod Reading
+pub mod RefusalLine
+pub mod Writing

@@ -1,0 +1,65 @@
+ghost use Rattle.std.specs.Prelude.{◌≡◌, ℕ, ◌+◌, ◌-◌, ◌^◌, ◌<◌, ◌≤◌, List, Option, length, IfOk, IsOkUnless};
+ghost use Rattle.std.specs.Io.KnownBytes.{ReadConsumes};
+ghost use Rattle.omega_text.specs.declared.refusal.Refusal.TheVariants.{Io};
+ghost use Rattle.omega_io.specs.Failures.{failures_of};
+
+use omega_text::Refusal;
+use std::io::Read;
+
+/// What a command reads from. It is `std`'s reader that also tells how many of its reads failed. Every error is such a
+/// failure, an interrupted call too.
+pub trait Input {
+    /// The bytes that reads will give from here on, where they are known.
+    ghost remaining: { Self → Option (List ℕ) };
+
+    /// How many reads failed.
+    ghost failed: { Self → ℕ };
+
+    /// Reads some bytes, none only at the end or where there is no room for any. 61.
+    fn read(&mut self, into: &mut [u8]) -> Result<usize, Refusal>
+        requires { failed self.old < 2 ^ 64 - 1 }
+        ensures bound { IfOk result (λ count. count ≤ length into.new) }
+        ensures bytes { ReadConsumes (remaining self.old) (remaining self.new) result into.new }
+        ensures counted { failed self.new ≡ failed self.old + failures_of result }
+        ensures io { IsOkUnless result Io };
+
+    /// How many reads failed so far. Nothing else changes the count.
+    fn failures(&self) -> u64
+        ensures { result ≡ failed self.now };
+}
+
+/// A reader of `std` as an input.
+#[derive(Drop)]
+pub struct FromRead<R: Read> {
+    inner: R,
+    failures: u64,
+}
+
+impl<R: Read> FromRead<R> {
+    pub fn new(inner: R) -> FromRead<R>
+        ensures bytes { ⟦<FromRead<R> as Input>⟧.remaining result ≡ R.remaining inner }
+        ensures failures { ⟦<FromRead<R> as Input>⟧.failed result ≡ 0 }
+    {
+        FromRead { inner, failures: 0 }
+    }
+}
+
+impl<R: Read> Input for FromRead<R> {
+    ghost remaining = { λ s. R.remaining s.inner };
+
+    ghost failed = { λ s. s.failures };
+
+    fn read(&mut self, into: &mut [u8]) -> Result<usize, Refusal> {
+        match self.inner.read(into) {
+            Ok(count) => Ok(count),
+            Err(_) => {
+                self.failures += 1;
+                Err(Refusal::Io)
+            }
+        }
+    }
+
+    fn failures(&self) -> u64 {
+        self.failures
+    }
+}

@@ -1,0 +1,11 @@
+-- What contracts of running commands and obeying command lines cite.
+pub use Rattle.omega_command.specs.CommandLine
+pub use Rattle.omega_command.specs.Line
+pub use Rattle.omega_io.specs.Exit
+pub use Rattle.omega_io.specs.Failures
+pub use Rattle.omega_io.specs.Reading
+pub use Rattle.omega_io.specs.RefusalLine
+pub use Rattle.omega_io.specs.Writing
+pub mod Obey
+pub mod Respond
+pub mod Run

@@ -1,0 +1,13 @@
+//! The program's work, over any input, output and standard error: a command is run, a command line is obeyed.
+#![tactic(auto)]
+
+mod obeying;
+mod respond;
+mod run;
+
+pub use obeying::obey;
+pub use omega_command::{Command, Format, Line, Player, Seq, read_words};
+pub use omega_io::{
+    Exit, FromRead, GameFiles, HostFiles, Input, Output, Refusal, ToWrite, exit_code, refusal_line,
+};
+pub use run::run_command;

@@ -1,0 +1,104 @@
+ghost use Rattle.std.specs.Prelude.{◌≡◌, ◌-◌, ◌^◌, ◌<◌, IfOk, ℕ, List};
+ghost use Rattle.omega_command.specs.Line.{IsRunnable};
+ghost use Rattle.omega_run.specs.Obey.{IsObeyed, Prints, Reports, Verifies, streams};
+ghost use Rattle.omega_io.specs.Writing.{Tells};
+
+use crate::run::run_command;
+use omega_command::{Command, Line};
+use omega_io::{
+    Exit, GameFiles, Input, Output, Refusal, exit_code, refusal_line, tell, write_text,
+};
+use omega_solve::MOST_LIFTS;
+use omega_text::Seq;
+use std::alloc::Global;
+
+/// The status after a fault of the command line.
+const FAULT: u8 = 2;
+
+/// Does what a command line asks for, and gives the status to end with. A refusal, also one that came in place of the
+/// line, is told by its line on standard error; where there is no memory for that, 60 is told in its place.
+pub fn obey<F: GameFiles, R: Input, W: Output, E: Output>(
+    alloc: Global,
+    asked: Result<Line, Refusal>,
+    files: &F,
+    input: &mut R,
+    output: &mut W,
+    errors: &mut E,
+) -> u8
+    requires runnable { IfOk asked IsRunnable }
+    requires reads { R.failed input.old < 2 ^ 64 - 1 }
+    requires writes { W.failed output.old < 2 ^ 64 - 1 }
+    requires tells { E.failed errors.old < 2 ^ 64 - 1 }
+    ensures { IsObeyed (F.reads files.now) (F.refuses files.now) asked result
+        (Tells (E.contents errors.old) (E.contents errors.new) (E.failed errors.old) (E.failed errors.new))
+        (streams (R.remaining input.old) (R.failed input.old) (W.contents output.old) (W.failed output.old))
+        (streams (R.remaining input.new) (R.failed input.new) (W.contents output.new) (W.failed output.new)) }
+{
+    match asked {
+        Ok(Line::Run(command, budget)) => {
+            let outcome = run_command(alloc, &command, input, output, budget);
+            report(alloc, outcome, errors)
+        }
+        Ok(Line::Verify { file }) => {
+            let outcome = verify_file(alloc, file.as_str(), files, input, output);
+            report(alloc, outcome, errors)
+        }
+        Ok(Line::Help(text)) => {
+            let outcome = print(text.as_bytes(), output);
+            report(alloc, outcome, errors)
+        }
+        Ok(Line::Fault(text)) => {
+            tell(errors, text.as_bytes());
+            FAULT
+        }
+        Err(refusal) => report(alloc, Err(refusal), errors),
+    }
+}
+
+/// Verifies a solution of the game in a file, which is read before the solution is.
+fn verify_file<F: GameFiles, R: Input, W: Output>(
+    alloc: Global,
+    file: &str,
+    files: &F,
+    input: &mut R,
+    output: &mut W,
+) -> Result<Exit, Refusal>
+    requires reads { R.failed input.old < 2 ^ 64 - 1 }
+    requires writes { W.failed output.old < 2 ^ 64 - 1 }
+    ensures { Verifies (F.reads files.now file.now) (F.refuses files.now file.now) result
+        (streams (R.remaining input.old) (R.failed input.old) (W.contents output.old) (W.failed output.old))
+        (streams (R.remaining input.new) (R.failed input.new) (W.contents output.new) (W.failed output.new)) }
+{
+    let game = Seq::from_vec(files.read_file(alloc, file)?);
+    run_command(alloc, &Command::Verify { game }, input, output, MOST_LIFTS)
+}
+
+/// Writes a text that was asked for.
+fn print<W: Output>(text: &[u8], output: &mut W) -> Result<Exit, Refusal>
+    requires { W.failed output.old < 2 ^ 64 - 1 }
+    ensures { Prints text.now result (W.contents output.old) (W.contents output.new) (W.failed output.old) (W.failed output.new) }
+{
+    write_text(output, text)?;
+    Ok(Exit::Done)
+}
+
+/// Tells of a refusal, and gives the status after the outcome.
+fn report<E: Output>(alloc: Global, outcome: Result<Exit, Refusal>, errors: &mut E) -> u8
+    requires { E.failed errors.old < 2 ^ 64 - 1 }
+    ensures { Reports outcome result (Tells (E.contents errors.old) (E.contents errors.new) (E.failed errors.old) (E.failed errors.new)) }
+{
+    let Err(refusal) = outcome else {
+        return exit_code(&outcome);
+    };
+    let mut line = Vec::new(alloc);
+    match refusal_line(&refusal, &mut line) {
+        Ok(()) => {
+            tell(errors, line.as_slice());
+            exit_code(&outcome)
+        }
+        Err(wanting) => {
+            tell(errors, b"omega: 60 Memory\n");
+            exit_code(&Err(wanting))
+        }
+    }
+}

@@ -1,0 +1,56 @@
+ghost use Rattle.std.specs.Prelude.{◌≡◌, ◌+◌, ◌-◌, ◌^◌, ◌<◌, ◌≤◌, IfOk, IfErr};
+ghost use Rattle.omega_solve.specs.Limits.{most_lifts};
+ghost use Rattle.omega_command.specs.Line.{IsOffered};
+ghost use Rattle.omega_run.specs.Respond.{IsRunRefusal, Responds};
+ghost use Rattle.omega_io.specs.Failures.{failures_of};
+
+use omega_answers::{canon_game, check_game, show_game, solve_game, verify_solution};
+use omega_command::{Command, Format};
+use omega_io::{Exit, Input, Refusal, read_all};
+use omega_solve::{PackedTable, Worklist};
+use std::alloc::Global;
+
+/// Reads what a command needs, and makes its whole answer in memory, with how it ends. Each command reads for itself, to
+/// the end of the input where it answers. Each run of a solver makes at most `budget` lifts. The refusals of the command.
+pub fn respond<R: Input>(
+    alloc: Global,
+    command: &Command,
+    input: &mut R,
+    budget: u64,
+) -> Result<(Exit, Vec<u8>), Refusal>
+    requires offered { IsOffered command.now }
+    requires budget { budget ≤ most_lifts }
+    requires reads { R.failed input.old < 2 ^ 64 - 1 }
+    ensures answered { IfOk result (λ made. Responds command.now budget (R.remaining input.old) (R.remaining input.new) made.0 made.1.items) }
+    ensures refused { IfErr result (IsRunRefusal command.now budget (R.remaining input.old) (R.remaining input.new)) }
+    ensures counted { R.failed input.new ≡ R.failed input.old + failures_of result }
+{
+    match command {
+        Command::Show(Format::Pg) => {
+            let text = read_all(alloc, input)?;
+            Ok((Exit::Done, show_game(alloc, text)?))
+        }
+        Command::Check(Format::Pg) => {
+            let text = read_all(alloc, input)?;
+            Ok((Exit::Done, check_game(alloc, text)?))
+        }
+        Command::Canon(Format::Pg) => {
+            let text = read_all(alloc, input)?;
+            Ok((Exit::Done, canon_game(alloc, text)?))
+        }
+        Command::Solve { player, from } => {
+            let text = read_all(alloc, input)?;
+            let made = solve_game::<PackedTable, Worklist>(alloc, text, *player, *from, budget)?;
+            Ok((Exit::Done, made))
+        }
+        Command::Verify { game } => {
+            let text = read_all(alloc, input)?;
+            verify_solution(alloc, game.as_slice(), text)
+        }
+        Command::Show(Format::Hoa) => unreachable!(),
+        Command::Check(Format::Hoa) => unreachable!(),
+        Command::Canon(Format::Hoa) => unreachable!(),
+        Command::Empty => unreachable!(),
+        Command::Game => unreachable!(),
+    }
+}

@@ -1,0 +1,15 @@
+//! Tests of the public calls of `omega_run`, in a crate of their own so that the library is proved once.
+#![tactic(auto)]
+
+#[cfg(test)]
+mod games;
+#[cfg(test)]
+mod running;
+#[cfg(test)]
+mod solutions;
+#[cfg(test)]
+mod telling;
+#[cfg(test)]
+mod transfers;
+#[cfg(test)]
+mod verify;

@@ -1,4 +1,0 @@
--- What is read and written, and how it fails.
-pub mod Failures
-pub mod Reading
-pub mod Writing
