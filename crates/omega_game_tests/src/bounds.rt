@@ -2,6 +2,7 @@ use crate::samples::{self, Row, finish, game_of};
 use omega_game::Player::{One, Zero};
 use omega_game::{Game, GameBuilder, PriorityCount, Refusal, bound};
 use std::alloc::Global;
+use std::process::Abort;
 use std::test::Fail;
 
 /// Three nodes of priority 1 and one of priority 3.
@@ -21,14 +22,18 @@ const BOUNDS: [(&'static [Row], u128, u128); 5] = [
     (&SHARED, 32, 4),
 ];
 
+/// Asserts the bounds of a game for player 0 and player 1.
+fn assert_bounds(rt: &impl Abort, game: &Game, zero: Option<u128>, one: Option<u128>) {
+    let nodes = game.len();
+    assert!(rt; bound(game, Zero) == zero, "player 0, {nodes} nodes");
+    assert!(rt; bound(game, One) == one, "player 1, {nodes} nodes");
+}
+
 #[test]
 fn small_bounds(rt: HostRuntime) -> Result<(), Fail> {
     for (rows, zero, one) in BOUNDS {
         let game = game_of(rt.alloc(), rows)?;
-        assert_eq!(rt;
-            (bound(&game, Zero), bound(&game, One)),
-            (Some(zero), Some(one))
-        );
+        assert_bounds(&rt, &game, Some(zero), Some(one));
     }
     Ok(())
 }
@@ -65,14 +70,14 @@ fn odd_loops(alloc: Global, nodes: u16) -> Result<Game, Refusal> {
 /// 121 times the 121st power of 2, the greatest bound of such a game that is a `u128`.
 const GREATEST: u128 = 321_673_174_979_949_641_242_721_308_587_843_387_392;
 
+/// So many nodes, and the bounds of their game.
+const LOOPS: [(u16, Option<u128>, u128); 2] = [(121, Some(GREATEST), 121), (122, None, 122)];
+
 #[test]
 fn the_greatest_bound(rt: HostRuntime) -> Result<(), Fail> {
-    let most = odd_loops(rt.alloc(), 121)?;
-    assert_eq!(rt;
-        (bound(&most, Zero), bound(&most, One)),
-        (Some(GREATEST), Some(121))
-    );
-    let more = odd_loops(rt.alloc(), 122)?;
-    assert_eq!(rt; (bound(&more, Zero), bound(&more, One)), (None, Some(122)));
+    for (nodes, zero, one) in LOOPS {
+        let game = odd_loops(rt.alloc(), nodes)?;
+        assert_bounds(&rt, &game, zero, Some(one));
+    }
     Ok(())
 }

@@ -34,10 +34,10 @@ fn assert_answers(
     asked: &[Asked],
 ) -> Result<(), Refusal> {
     let game = game_of(alloc, rows)?;
-    for question in asked {
+    for (number, question) in asked.iter().enumerate() {
         let (player, places, choices, want) = *question;
         let given = answer(alloc, &game, player, places, choices)?;
-        assert_eq!(rt; given, want, "{player:?} from {places:?} with {choices:?}");
+        assert_eq!(rt; given, want, "question {number} of {} nodes", rows.len());
     }
     Ok(())
 }
@@ -153,14 +153,13 @@ fn small_games(rt: HostRuntime) -> Result<(), Fail> {
     Ok(())
 }
 
-/// Nodes of player 0 from 0 on, each leading to the next and the last to `back`: priority 0, and the last `last`.
-fn line(alloc: Global, nodes: u16, last: u16, back: u16) -> Result<Game, Refusal> {
+/// Nodes of player 0 from 0 to `end`, each leading to the next and the last to `back`: priority 0, and the last `last`.
+fn line(alloc: Global, end: u16, last: u16, back: u16) -> Result<Game, Refusal> {
     let mut builder = GameBuilder::new(alloc);
-    for id in 1..nodes {
-        builder.add_node(u32::from(id) - 1, 0, Zero, u32::from(id))?;
+    for id in 0..u32::from(end) {
+        builder.add_node(id, 0, Zero, id + 1)?;
     }
-    let end = u32::from(nodes.max(1)) - 1;
-    builder.add_node(end, u32::from(last), Zero, u32::from(back))?;
+    builder.add_node(u32::from(end), u32::from(last), Zero, u32::from(back))?;
     finish(builder)
 }
 
@@ -173,21 +172,20 @@ fn without_a_choice(alloc: Global, game: &Game) -> Result<(bool, bool), Refusal>
 }
 
 /// Asserts who wins where the last node of a line, or of a cycle, has the greatest priority.
-fn assert_line(rt: &impl Abort, alloc: Global, nodes: u16, back: u16) -> Result<(), Refusal> {
-    let odd = line(alloc, nodes, 1, back)?;
-    let wins = without_a_choice(alloc, &odd)?;
-    assert_eq!(rt; wins, (false, true), "{nodes} nodes, back to {back}");
-    let even = line(alloc, nodes, 2, back)?;
-    let wins = without_a_choice(alloc, &even)?;
-    assert_eq!(rt; wins, (true, false), "{nodes} nodes, back to {back}");
+fn assert_line(rt: &impl Abort, alloc: Global, end: u16, back: u16) -> Result<(), Refusal> {
+    for (last, wanted) in [(1, (false, true)), (2, (true, false))] {
+        let game = line(alloc, end, last, back)?;
+        let wins = without_a_choice(alloc, &game)?;
+        assert_eq!(rt; wins, wanted, "up to {end}, back to {back}");
+    }
     Ok(())
 }
 
 #[test]
 fn the_greatest_of_a_line_or_a_cycle_decides(rt: HostRuntime) -> Result<(), Fail> {
-    for nodes in 2..12 {
-        assert_line(&rt, rt.alloc(), nodes, nodes - 1)?;
-        assert_line(&rt, rt.alloc(), nodes, 0)?;
+    for end in 1..11 {
+        assert_line(&rt, rt.alloc(), end, end)?;
+        assert_line(&rt, rt.alloc(), end, 0)?;
     }
     Ok(())
 }
@@ -195,12 +193,12 @@ fn the_greatest_of_a_line_or_a_cycle_decides(rt: HostRuntime) -> Result<(), Fail
 /// A cycle of falling odd priorities behind one even priority above them all.
 fn falling(alloc: Global, nodes: u16) -> Result<Game, Refusal> {
     let mut builder = GameBuilder::new(alloc);
-    builder.add_node(0, 2 * u32::from(nodes) + 2, Zero, 1)?;
-    for id in 1..nodes {
-        let place = u32::from(id);
-        builder.add_node(place, 2 * (u32::from(nodes) - place) + 1, Zero, place + 1)?;
+    let last = u32::from(nodes);
+    builder.add_node(0, 2 * last + 2, Zero, 1)?;
+    for place in 1..last {
+        builder.add_node(place, 2 * (last - place) + 1, Zero, place + 1)?;
     }
-    builder.add_node(u32::from(nodes.max(1)), 1, Zero, 0)?;
+    builder.add_node(last.max(1), 1, Zero, 0)?;
     finish(builder)
 }
 

@@ -40,7 +40,7 @@ const GAMES: [(&'static [Row], usize, &'static [Reading], &'static [u32]); 5] = 
 /// Asserts that no node has one of these identifiers.
 fn assert_absent(rt: &impl Abort, game: &Game, absent: &[u32]) {
     for id in absent {
-        assert_eq!(rt; game.place_of(*id), None, "identifier {id}");
+        assert!(rt; game.place_of(*id).is_none(), "identifier {id}");
     }
 }
 

@@ -28,23 +28,30 @@ pub(crate) fn assert_reads(rt: &impl Abort, game: &Game, edges: usize, readings:
     assert_eq!(rt; game.edges(), edges);
     for place in 0..game.len() as u32 {
         if let Some(reading) = readings.get(place as usize) {
-            assert_eq!(rt; reads_at(game, place, reading), [true; 7], "place {place}");
+            let (id, priority, owner, name, successors, predecessors) = *reading;
+            assert!(rt; is_node(game, place, id, priority, owner), "place {place}");
+            assert!(rt; game.name(place) == name, "name at {place}");
+            assert!(rt;
+                leads(game, place, successors, predecessors),
+                "edges at {place}"
+            );
         }
     }
 }
 
-/// Whether each call answers at a place what it is to.
-fn reads_at(game: &Game, place: u32, reading: &Reading) -> [bool; 7]
+/// Whether the node at a place has these numbers and this owner, and is found by its identifier.
+fn is_node(game: &Game, place: u32, id: u32, priority: u32, owner: Player) -> bool
     requires { place < length game.now }
 {
-    let (id, priority, owner, name, successors, predecessors) = *reading;
-    [
-        game.id(place) == id,
-        game.priority(place) == priority,
-        game.owner(place) == owner,
-        game.name(place) == name,
-        game.successors(place) == successors,
-        game.predecessors(place) == predecessors,
-        game.place_of(id) == Some(place),
-    ]
+    game.id(place) == id
+        && game.priority(place) == priority
+        && game.owner(place) == owner
+        && game.place_of(id) == Some(place)
+}
+
+/// Whether these are the places to which a node leads, and those that lead to it.
+fn leads(game: &Game, place: u32, successors: &[u32], predecessors: &[u32]) -> bool
+    requires { place < length game.now }
+{
+    game.successors(place) == successors && game.predecessors(place) == predecessors
 }

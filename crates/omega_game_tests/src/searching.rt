@@ -140,15 +140,13 @@ const NESTED: [(u16, u16, bool); 10] = [
 fn nested_components_are_confirmed(rt: HostRuntime) -> Result<(), Fail> {
     for (components, flaw, wins) in NESTED {
         let game = nested(rt.alloc(), components, flaw)?;
-        let answers = (
-            answer(rt.alloc(), &game, Zero)?,
-            answer(rt.alloc(), &game, One)?,
-        );
-        assert_eq!(rt;
-            answers,
-            (Some(wins), Some(false)),
-            "{components} components, flaw {flaw}"
-        );
+        for (player, wanted) in [(Zero, wins), (One, false)] {
+            let found = answer(rt.alloc(), &game, player)?;
+            assert!(rt;
+                found == Some(wanted),
+                "{components} components, flaw {flaw}"
+            );
+        }
     }
     Ok(())
 }
