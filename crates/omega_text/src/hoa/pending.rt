@@ -1,7 +1,7 @@
 ghost use Rattle.std.specs.Prelude.{◌≡◌, ◌<◌, ◌≤◌, ◌∷◌, ◌++◌, [], ℕ, List, true, ◌^◌, IfErr, IfOk};
 ghost use Rattle.omega_text.specs.hoa.scanning.Unfinished.{IsFaultIn, IsGrown, IsTokenIn, IsValueOf, fresh};
-ghost use Rattle.omega_text.specs.pg.Bytes.{is_digit};
-ghost use Rattle.omega_text.specs.pg.Forms.{IsDigits};
+ghost use Rattle.omega_text.specs.Bytes.{is_digit};
+ghost use Rattle.omega_text.specs.Forms.{IsDigits};
 ghost use Rattle.omega_text.specs.Limits.{most_number};
 
 use super::kind::HoaKind;
