@@ -1,8 +1,10 @@
 -- What contracts cite: refusals and limits, then tokens, texts and how they are read; of PGSolver's texts in `pg`.
+pub mod Bytes
 pub mod Cases
 pub mod Cursor
 pub mod Cut
 pub mod Format
+pub mod Forms
 pub mod Left
 pub mod Lexeme
 pub mod Limits

@@ -1,5 +1,4 @@
 -- What PGSolver's texts are cut into.
-pub mod Bytes
 pub mod Cut
 pub mod Fault
 pub mod Format

@@ -1,6 +1,7 @@
 //! Texts in the Hanoi format, of automata and of streams of them, as tokens.
 
 mod format;
+mod kept_mode;
 mod kind;
 pub mod laws;
 mod mode;

@@ -3,8 +3,10 @@
 //! What belongs to one format stands in a module of its own, its laws in that module's `laws`.
 #![tactic(auto)]
 
+mod bytes;
 mod checking;
 mod cursor;
+mod digits;
 pub mod hoa;
 pub mod laws;
 mod limits;

@@ -1,10 +1,10 @@
 //! PGSolver's texts, of games and of solutions, as tokens.
 
-pub(crate) mod bytes;
 mod format;
 mod kind;
 pub mod laws;
-pub(crate) mod token;
+mod name;
+mod token;
 mod tokens;
 
 pub use kind::PgKind;

@@ -12,8 +12,8 @@ use Rattle.omega_text.specs.hoa.Cut.IsGap.{blank, nothing}
 use Rattle.omega_text.specs.hoa.Forms.{IsAlias, IsForm, Spells}
 use Rattle.omega_text.specs.hoa.Laws.{is_closed}
 use Rattle.omega_text.specs.hoa.scanning.Modes.{run}
-use Rattle.omega_text.specs.pg.Bytes.{is_digit, is_white, is_word_byte}
-use Rattle.omega_text.specs.pg.Forms.{IsDigits, IsWord}
+use Rattle.omega_text.specs.Bytes.{is_digit, is_white, is_word_byte}
+use Rattle.omega_text.specs.Forms.{IsDigits, IsWord}
 use Rattle.omega_text.proofs.pg_texts.Longest.{head}
 use Rattle.omega_text.proofs.hoa_texts.Longest.{stuck_longest}
 use Rattle.omega_text.proofs.hoa_texts.Numbers.{one_value, spelled_form}

@@ -9,7 +9,7 @@ use Rattle.omega_text.specs.declared.hoa.kind.HoaKind.{HoaKind}
 use Rattle.omega_text.specs.declared.hoa.kind.HoaKind.TheVariants.{Int}
 use Rattle.omega_text.specs.declared.pg.kind.PgKind.TheVariants.{Number}
 use Rattle.omega_text.specs.hoa.Forms.{IsForm, Spells}
-use Rattle.omega_text.specs.pg.Forms.{IsDigits}
+use Rattle.omega_text.specs.Forms.{IsDigits}
 use Rattle.omega_text.proofs.pg_texts.Longest.{head}
 use Rattle.omega_text.proofs.pg_texts.Numbers.{decimal_digits, decimal_value, needless_zero, too_great}
 

@@ -1,7 +1,7 @@
 -- What is settled, byte by byte.
 use Rattle.std.proofs.Common.{◌≡◌, ◌≢◌, ℕ, ◌+◌, ◌-◌, ◌<◌, ◌≤◌, Option, Some, None, List, [], ◌∷◌, ◌++◌, length, take, drop, refl, sym, ap, ◌∙◌, subst, arith, append_assoc, append-nil, length-append, length-drop, get_or, true}
 use Rattle.std.specs.List.{AllPass}
-use Rattle.omega_text.specs.pg.Bytes.{is_digit}
+use Rattle.omega_text.specs.Bytes.{is_digit}
 use Rattle.std.proofs.lemmas.List.{get_or-append_right, get_or_append_left, drop-append-le, drop-drop, drop_all, drop_at, take_at}
 use Rattle.omega_text.specs.Cut.{Cuts, IsCut}
 use Rattle.omega_text.specs.Lexeme.{Lexeme}
@@ -23,7 +23,7 @@ use Rattle.omega_text.specs.hoa.scanning.Modes.{IsStuck, IsWithin, next_mode, ru
 use Rattle.omega_text.specs.hoa.Pieces.{FaultsBehind, IsSettled, SettlesFault, lexeme_in, lexemes_in, settled_lexemes}
 use Rattle.omega_text.specs.hoa.scanning.Reading.{Any, IsAt, IsKept, IsUnfinished, With}
 use Rattle.omega_text.specs.hoa.scanning.Unfinished.{Continues, IsFaultIn, IsGrown, IsPlaced, IsTokenIn, IsValueOf, ValueGrows, fresh}
-use Rattle.omega_text.specs.pg.Forms.{IsDigits}
+use Rattle.omega_text.specs.Forms.{IsDigits}
 use Rattle.omega_text.proofs.formats.Cutting.{cuts_more}
 use Rattle.omega_text.proofs.hoa_texts.Completion.{begun_goes_on}
 use Rattle.omega_text.proofs.hoa_texts.Gaps.{gap_more}

@@ -11,8 +11,8 @@ use Rattle.omega_text.specs.declared.hoa.mode.Mode.TheVariants.{Start, Word, Dig
 use Rattle.omega_text.specs.hoa.Fault.{BeginsNoUnit, BeginsWrongDigits}
 use Rattle.omega_text.specs.hoa.Forms.{IsForm, IsUnit, Spells}
 use Rattle.omega_text.specs.hoa.scanning.Modes.{IsFirstUnit, IsScanned, IsStuck, SpellsUnit, letter_kind, next_mode, run, sign_kind, unit_of}
-use Rattle.omega_text.specs.pg.Bytes.{is_digit, is_letter, is_white, is_word_byte}
-use Rattle.omega_text.specs.pg.Forms.{IsDigits, IsWord}
+use Rattle.omega_text.specs.Bytes.{is_digit, is_letter, is_white, is_word_byte}
+use Rattle.omega_text.specs.Forms.{IsDigits, IsWord}
 use Rattle.omega_text.proofs.pg_texts.Classes.{both_ways}
 use Rattle.omega_text.proofs.pg_texts.Longest.{head, head-take, longest_digits, longest_word}
 use Rattle.omega_text.proofs.hoa_texts.Longest.{stuck_longest, stuck_no_unit}

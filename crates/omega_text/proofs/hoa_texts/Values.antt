@@ -9,8 +9,8 @@ use Rattle.omega_text.specs.declared.hoa.kind.HoaKind.TheVariants.{Int}
 use Rattle.omega_text.specs.declared.pg.kind.PgKind.TheVariants.{Number}
 use Rattle.omega_text.specs.hoa.Forms.{Spells}
 use Rattle.omega_text.specs.hoa.scanning.Unfinished.{IsValueOf}
-use Rattle.omega_text.specs.pg.Bytes.{is_digit}
-use Rattle.omega_text.specs.pg.Forms.{IsDigits}
+use Rattle.omega_text.specs.Bytes.{is_digit}
+use Rattle.omega_text.specs.Forms.{IsDigits}
 use Rattle.omega_text.proofs.hoa_texts.Numbers.{IsNoNumber}
 use Rattle.omega_text.proofs.pg_texts.Longest.{head}
 use Rattle.omega_text.proofs.pg_texts.Numbers.{decimal_value, front_value, needless_zero, too_great, value_more, value_no_less, worth_small}

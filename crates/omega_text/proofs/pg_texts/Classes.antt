@@ -1,7 +1,7 @@
 -- What the classes of bytes are as numbers, and that a first byte belongs to one of them.
 use Rattle.std.proofs.Common.{inl, inr, refl, ◌⊎◌, ◌≡◌, ℕ, ◌≤◌, Bool, true, false, arith}
 use Rattle.std.proofs.lemmas.Bool.Decides.{nat_tests}
-use Rattle.omega_text.specs.pg.Bytes.{is_digit, is_letter, is_word_byte}
+use Rattle.omega_text.specs.Bytes.{is_digit, is_letter, is_word_byte}
 
 -- a digit as a number
 pub digit_range : (byte : ℕ) → is_digit byte ≡ true → (48 ≤ byte) × (byte ≤ 57)

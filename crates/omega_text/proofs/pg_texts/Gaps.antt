@@ -3,7 +3,7 @@ use Rattle.std.proofs.Common.{◌≡◌, ℕ, ◌+◌, ◌-◌, ◌<◌, ◌≤�
 use Rattle.std.proofs.lemmas.List.{get_or-drop}
 use Rattle.std.proofs.lemmas.List.Sums.{prefix_len-le-length, prefix_len_passes, prefix_len_stops}
 use Rattle.std.specs.List.{prefix_len}
-use Rattle.omega_text.specs.pg.Bytes.{is_white}
+use Rattle.omega_text.specs.Bytes.{is_white}
 use Rattle.omega_text.specs.pg.Cut.{IsGap}
 
 module _ (source : List ℕ) (from : ℕ) (inside : from ≤ length source) where

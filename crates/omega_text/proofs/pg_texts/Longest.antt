@@ -4,9 +4,10 @@ use Rattle.std.proofs.lemmas.List.{get_or-take}
 use Rattle.std.proofs.lemmas.List.Sums.{prefix_len-le-length, prefix_len_passes, prefix_len_stops}
 use Rattle.std.proofs.str.Laws.{order}
 use Rattle.std.specs.List.{prefix_len, AllPass}
-use Rattle.omega_text.specs.pg.Bytes.{is_digit, is_letter, is_word_byte}
+use Rattle.omega_text.specs.Bytes.{is_digit, is_letter, is_word_byte}
 use Rattle.omega_text.specs.pg.Fault.{BeginsNoForm}
-use Rattle.omega_text.specs.pg.Forms.{IsDigits, IsForm, IsLongest, IsQuoted, IsWord}
+use Rattle.omega_text.specs.Forms.{IsDigits, IsWord}
+use Rattle.omega_text.specs.pg.Forms.{IsForm, IsLongest, IsQuoted}
 use Rattle.omega_text.proofs.pg_texts.Classes.{both_ways, digit_range, letter_in_word, letter_range}
 
 -- the first byte of a form

@@ -11,10 +11,11 @@ use Rattle.std.specs.Fmt.{decimal, digit_glyph, digits, digits_onto}
 use Rattle.std.specs.Int.{IsInRange}
 use Rattle.std.specs.List.{AllPass}
 use Rattle.std.specs.Str.Parse.{digits_value}
-use Rattle.omega_text.specs.pg.Bytes.{is_digit}
+use Rattle.omega_text.specs.Bytes.{is_digit}
 use Rattle.omega_text.specs.Limits.{most_number}
 use Rattle.omega_text.specs.declared.pg.kind.PgKind.TheVariants.{Comma, Name, Number, Parity, ParitySol, Semicolon}
-use Rattle.omega_text.specs.pg.Forms.{IsDigits, IsNoToken, IsWord}
+use Rattle.omega_text.specs.Forms.{IsDigits, IsWord}
+use Rattle.omega_text.specs.pg.Forms.{IsNoToken}
 use Rattle.omega_text.proofs.pg_texts.Classes.{digit_range, letter_range}
 use Rattle.omega_text.proofs.pg_texts.Longest.{head}
 

@@ -6,7 +6,7 @@ use Rattle.std.proofs.str.Laws.{order}
 use Rattle.std.specs.Cmp.Lexicographic.{bytes_decides, pointwise}
 use Rattle.std.specs.List.{prefix_len}
 use Rattle.std.specs.Str.Parse.{digits_value}
-use Rattle.omega_text.specs.pg.Bytes.{is_digit, is_letter, is_name_byte, is_white, is_word_byte}
+use Rattle.omega_text.specs.Bytes.{is_digit, is_letter, is_white, is_word_byte}
 use Rattle.omega_text.specs.pg.Cut.{Follows, IsGap}
 use Rattle.omega_text.specs.Limits.{most_number}
 use Rattle.omega_text.specs.declared.refusal.text.TextFault.{TextFault}
@@ -14,7 +14,7 @@ use Rattle.omega_text.specs.declared.refusal.text.TextFault.TheVariants.{Lex, Nu
 use Rattle.omega_text.specs.declared.pg.kind.PgKind.{PgKind}
 use Rattle.omega_text.specs.declared.pg.kind.PgKind.TheVariants.{Comma, Name, Number, Parity, ParitySol, Semicolon}
 use Rattle.omega_text.specs.pg.Fault.{Faults, IsFaultOf}
-use Rattle.omega_text.specs.pg.Forms.{IsLongest, IsNoToken, Spells}
+use Rattle.omega_text.specs.pg.Forms.{IsLongest, IsNoToken, Spells, is_name_byte}
 use Rattle.omega_text.specs.Lexeme.{Lexeme, lexeme_at}
 use Rattle.omega_text.proofs.pg_texts.Classes.{both_ways, two_ways}
 use Rattle.omega_text.proofs.pg_texts.Gaps.{run_black, run_gap}

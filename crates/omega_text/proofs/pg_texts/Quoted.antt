@@ -3,9 +3,8 @@ use Rattle.std.proofs.Common.{◌≡◌, ℕ, suc, ◌+◌, ◌<◌, ◌≤◌, 
 use Rattle.std.proofs.lemmas.List.{at_drop_more, get_or-drop, get_or-take, get_or_append_left, get_or_push, take_more}
 use Rattle.std.proofs.lemmas.List.Sums.{prefix_len-le-length, prefix_len_is, prefix_len_passes}
 use Rattle.std.specs.List.{prefix_len}
-use Rattle.omega_text.specs.pg.Bytes.{is_name_byte}
 use Rattle.omega_text.specs.pg.Fault.{BeginsNoForm}
-use Rattle.omega_text.specs.pg.Forms.{IsLongest, IsQuoted, quoted}
+use Rattle.omega_text.specs.pg.Forms.{IsLongest, IsQuoted, quoted, is_name_byte}
 use Rattle.omega_text.proofs.pg_texts.Classes.{both_ways}
 use Rattle.omega_text.proofs.pg_texts.Longest.{form_head, head, head-take, quoted_form}
 

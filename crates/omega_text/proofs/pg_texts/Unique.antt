@@ -4,7 +4,7 @@ use Rattle.std.proofs.lemmas.Bool.Decides.{nat_tests}
 use Rattle.std.proofs.lemmas.Fmt.{decimal_injective}
 use Rattle.std.proofs.lemmas.List.{get_or-drop}
 use Rattle.std.proofs.str.Laws.{order}
-use Rattle.omega_text.specs.pg.Bytes.{is_digit, is_letter, is_white}
+use Rattle.omega_text.specs.Bytes.{is_digit, is_letter, is_white}
 use Rattle.omega_text.specs.pg.Cut.{BeginsWith, Follows, IsGap}
 use Rattle.omega_text.specs.Limits.{most_number}
 use Rattle.omega_text.specs.declared.refusal.text.TextFault.{TextFault}
@@ -12,7 +12,8 @@ use Rattle.omega_text.specs.declared.refusal.text.TextFault.TheVariants.{Lex, Nu
 use Rattle.omega_text.specs.declared.pg.kind.PgKind.{PgKind}
 use Rattle.omega_text.specs.declared.pg.kind.PgKind.TheVariants.{Comma, Name, Number, Parity, ParitySol, Semicolon}
 use Rattle.omega_text.specs.pg.Fault.{BeginsNoForm, BeginsWrongDigits, BeginsWrongWord, Faults, IsFaultOf}
-use Rattle.omega_text.specs.pg.Forms.{IsDigits, IsForm, IsLongest, IsNoToken, IsWord, Spells}
+use Rattle.omega_text.specs.Forms.{IsDigits, IsWord}
+use Rattle.omega_text.specs.pg.Forms.{IsForm, IsLongest, IsNoToken, Spells}
 use Rattle.omega_text.specs.Lexeme.{Lexeme}
 use Rattle.omega_text.proofs.pg_texts.Classes.{both_ways, digit_range, letter_range}
 use Rattle.omega_text.proofs.pg_texts.Longest.{form_head, head, head-take}

@@ -7,12 +7,13 @@ use Rattle.std.proofs.str.Laws.{order}
 use Rattle.std.specs.Fmt.{decimal}
 use Rattle.std.specs.List.{AllPass, prefix_len}
 use Rattle.std.specs.Str.Parse.{digits_value}
-use Rattle.omega_text.specs.pg.Bytes.{is_digit, is_letter, is_name_byte, is_white, is_word_byte}
+use Rattle.omega_text.specs.Bytes.{is_digit, is_letter, is_white, is_word_byte}
 use Rattle.omega_text.specs.pg.Cut.{BeginsWith, Follows, IsGap}
 use Rattle.omega_text.specs.Limits.{most_number}
 use Rattle.omega_text.specs.declared.pg.kind.PgKind.{PgKind}
 use Rattle.omega_text.specs.declared.pg.kind.PgKind.TheVariants.{Number}
-use Rattle.omega_text.specs.pg.Forms.{IsDigits, IsLongest, IsQuoted, IsSign, IsWord, Spells, quoted}
+use Rattle.omega_text.specs.Forms.{IsDigits, IsWord}
+use Rattle.omega_text.specs.pg.Forms.{IsLongest, IsQuoted, IsSign, Spells, quoted, is_name_byte}
 use Rattle.omega_text.specs.Lexeme.{lexeme_at}
 use Rattle.omega_text.proofs.pg_texts.Longest.{head, longest_digits, longest_sign, longest_word}
 use Rattle.omega_text.proofs.pg_texts.Numbers.{decimal_digits, decimal_value}

@@ -6,7 +6,7 @@ use Rattle.omega_text.specs.declared.refusal.text.TextFault.{TextFault}
 use Rattle.omega_text.specs.declared.refusal.text.TextFault.TheVariants.{Lex, Number, Syntax, TooLong}
 use Rattle.omega_text.specs.hoa.Cut.{IsGap, IsLongest}
 use Rattle.omega_text.specs.hoa.Forms.{IsUnit, Spells}
-use Rattle.omega_text.specs.pg.Forms.{IsDigits}
+use Rattle.omega_text.specs.Forms.{IsDigits}
 
 -- there are bytes, and no front of them is a unit: neither a token's form nor a white byte nor a comment
 pub record BeginsNoUnit (bytes : List ℕ) : Type 0 where

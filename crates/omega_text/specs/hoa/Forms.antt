@@ -2,8 +2,8 @@
 use Rattle.std.specs.Prelude.{◌≡◌, ◌≢◌, ℕ, suc, ◌<◌, ◌≤◌, true, ◌⊎◌, Option, Some, None, List, [], ◌∷◌, ◌++◌, length, slice_index, codes, decimal}
 use Rattle.std.specs.List.{AllPass}
 use Rattle.omega_text.specs.Limits.{most_number}
-use Rattle.omega_text.specs.pg.Bytes.{is_white, is_word_byte}
-use Rattle.omega_text.specs.pg.Forms.{IsDigits, IsWord}
+use Rattle.omega_text.specs.Bytes.{is_white, is_word_byte}
+use Rattle.omega_text.specs.Forms.{IsDigits, IsWord}
 use Rattle.omega_text.specs.declared.hoa.kind.HoaKind.{HoaKind}
 use Rattle.omega_text.specs.declared.hoa.kind.HoaKind.TheVariants.{Identifier, HeaderName, AliasName, True, False, Int, String, Body, End, Abort, Not, And, Or, OpenParenthesis, CloseParenthesis, OpenBracket, CloseBracket, OpenBrace, CloseBrace}
 

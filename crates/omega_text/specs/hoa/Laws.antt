@@ -8,8 +8,8 @@ use Rattle.omega_text.specs.declared.hoa.kind.HoaKind.{HoaKind}
 use Rattle.omega_text.specs.declared.hoa.kind.HoaKind.TheVariants.{Identifier, AliasName, True, False, Int}
 use Rattle.omega_text.specs.hoa.Cut.{Follows, IsGap, IsLongest}
 use Rattle.omega_text.specs.hoa.Forms.{IsAlias, IsForm, Spells}
-use Rattle.omega_text.specs.pg.Bytes.{is_digit, is_white, is_word_byte}
-use Rattle.omega_text.specs.pg.Forms.{IsDigits, IsWord}
+use Rattle.omega_text.specs.Bytes.{is_digit, is_white, is_word_byte}
+use Rattle.omega_text.specs.Forms.{IsDigits, IsWord}
 
 -- a text is a token of at most one kind and value, and no value is above the greatest number
 abbrev pub SpellingsAreOne : Type 0

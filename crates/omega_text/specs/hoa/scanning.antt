@@ -1,4 +1,5 @@
 -- How units are read byte by byte. Only contracts inside this crate look into it.
+pub mod KeptMode
 pub mod Modes
 pub mod Reading
 pub mod Unfinished

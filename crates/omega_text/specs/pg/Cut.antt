@@ -1,7 +1,7 @@
 -- How a game text is cut into tokens: the longest form at each place, and white space between.
 use Rattle.std.specs.Prelude.{◌≡◌, ℕ, ◌-◌, ◌<◌, ◌≤◌, true, List, length, take, drop}
 use Rattle.std.specs.List.{AllWithin}
-use Rattle.omega_text.specs.pg.Bytes.{is_white}
+use Rattle.omega_text.specs.Bytes.{is_white}
 use Rattle.omega_text.specs.pg.Forms.{IsLongest, Spells}
 use Rattle.omega_text.specs.declared.pg.kind.PgKind.{PgKind}
 use Rattle.omega_text.specs.Lexeme.{Lexeme}

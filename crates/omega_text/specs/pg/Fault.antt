@@ -1,8 +1,9 @@
 -- Where a game text can't be cut.
 use Rattle.std.specs.Prelude.{◌≡◌, ℕ, ◌<◌, false, ◌⊎◌, List, length, take, drop, slice_index}
-use Rattle.omega_text.specs.pg.Bytes.{is_white}
+use Rattle.omega_text.specs.Bytes.{is_white}
 use Rattle.omega_text.specs.pg.Cut.{IsGap}
-use Rattle.omega_text.specs.pg.Forms.{IsDigits, IsForm, IsLongest, IsNoToken, IsWord}
+use Rattle.omega_text.specs.Forms.{IsDigits, IsWord}
+use Rattle.omega_text.specs.pg.Forms.{IsForm, IsLongest, IsNoToken}
 use Rattle.omega_text.specs.declared.refusal.text.TextFault.{TextFault}
 use Rattle.omega_text.specs.declared.refusal.text.TextFault.TheVariants.{Lex, Number, Syntax, TooLong}
 

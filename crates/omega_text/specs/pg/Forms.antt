@@ -1,22 +1,19 @@
 -- The forms of a game text's tokens, and which of them are tokens.
-use Rattle.std.specs.Prelude.{◌≡◌, ℕ, ◌<◌, ◌≤◌, true, ◌⊎◌, List, [], ◌∷◌, ◌++◌, length, take, slice_index, codes, decimal}
+use Rattle.std.specs.Prelude.{◌≡◌, ℕ, ◌<◌, ◌≤◌, Bool, not, ◌&&◌, ◌==◌, ◌⊎◌, List, [], ◌∷◌, ◌++◌, length, take, codes, decimal}
+use Rattle.std.specs.Int.{is_in_range}
 use Rattle.std.specs.List.{AllPass}
-use Rattle.omega_text.specs.pg.Bytes.{is_digit, is_letter, is_name_byte, is_word_byte}
+use Rattle.omega_text.specs.Forms.{IsDigits, IsWord}
 use Rattle.omega_text.specs.Limits.{most_number}
 use Rattle.omega_text.specs.declared.pg.kind.PgKind.{PgKind}
 use Rattle.omega_text.specs.declared.pg.kind.PgKind.TheVariants.{Comma, Name, Number, Parity, ParitySol, Semicolon}
 
--- one digit or more, and nothing else
-abbrev pub IsDigits : List ℕ → Type 0
-IsDigits text = (0 < length text) × AllPass is_digit text
-
--- a letter or an underscore, and then letters, digits, underscores and hyphens
-abbrev pub IsWord : List ℕ → Type 0
-IsWord text = (0 < length text) × (is_letter (slice_index text 0) ≡ true) × AllPass is_word_byte text
-
 -- a semicolon or a comma
 abbrev pub IsSign : List ℕ → Type 0
 IsSign text = (text ≡ codes ";") ⊎ (text ≡ codes ",")
+
+-- a byte that may stand between the quotes of a name: 32 to 126, and not the quote itself
+abbrev pub is_name_byte : ℕ → Bool
+is_name_byte byte = is_in_range 32 126 byte && not (byte == 34)
 
 -- the bytes of a name between its quotes
 abbrev pub quoted : List ℕ → List ℕ

@@ -2,9 +2,10 @@
 use Rattle.std.specs.Prelude.{◌≡◌, ℕ, ◌+◌, ◌<◌, ◌≤◌, false, ◌↔◌, List, ◌++◌, length, drop, slice_index, decimal}
 use Rattle.std.specs.List.{AllPass}
 use Rattle.std.specs.Str.Parse.{digits_value}
-use Rattle.omega_text.specs.pg.Bytes.{is_digit, is_white, is_word_byte}
+use Rattle.omega_text.specs.Bytes.{is_digit, is_white, is_word_byte}
 use Rattle.omega_text.specs.pg.Cut.{Follows, IsGap}
-use Rattle.omega_text.specs.pg.Forms.{IsDigits, IsLongest, IsQuoted, IsSign, IsWord, Spells}
+use Rattle.omega_text.specs.Forms.{IsDigits, IsWord}
+use Rattle.omega_text.specs.pg.Forms.{IsLongest, IsQuoted, IsSign, Spells}
 use Rattle.omega_text.specs.Lexeme.{lexeme_at}
 use Rattle.omega_text.specs.Limits.{most_number}
 use Rattle.omega_text.specs.declared.pg.kind.PgKind.{PgKind}

@@ -3,7 +3,7 @@ ghost use Rattle.omega_text.specs.hoa.Forms.{spelling};
 ghost use Rattle.omega_text.specs.hoa.scanning.Modes.{alias_mode, bracket_kind, closed_mode, comment_mode, dash_mode, dashes_mode, digits_mode, first_mode, letter_kind, mark_mode, marked, next_mode, quoted_mode, sign_kind, slash_mode, slashed_mode, star_mode, whole, word_mode};
 
 use super::kind::{HoaKind, spelling};
-use crate::pg::bytes::{is_letter, is_white, is_word_byte};
+use crate::bytes::{is_letter, is_white, is_word_byte};
 
 /// How far a token, or a part of a gap, has been read.
 #[derive(Clone, Copy, Debug, PartialEq, Eq)]

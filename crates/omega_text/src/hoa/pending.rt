@@ -1,9 +1,10 @@
 ghost use Rattle.std.specs.Prelude.{◌≡◌, ◌<◌, ◌≤◌, ◌∷◌, ◌++◌, [], ℕ, List, true, ◌^◌, IfErr, IfOk};
 ghost use Rattle.omega_text.specs.hoa.scanning.Unfinished.{IsFaultIn, IsGrown, IsTokenIn, IsValueOf, fresh};
-ghost use Rattle.omega_text.specs.pg.Bytes.{is_digit};
-ghost use Rattle.omega_text.specs.pg.Forms.{IsDigits};
+ghost use Rattle.omega_text.specs.Bytes.{is_digit};
+ghost use Rattle.omega_text.specs.Forms.{IsDigits};
 ghost use Rattle.omega_text.specs.Limits.{most_number};
 
+use super::kept_mode::KeptMode;
 use super::kind::HoaKind;
 use super::mode::Mode;
 use super::placed::PlacedToken;
@@ -17,7 +18,7 @@ const NO_NUMBER: u64 = MOST_NUMBER as u64 + 1;
 /// The unit that is being read: how far, where it begins, and the value of its digits.
 #[derive(Clone, Copy, Debug, PartialEq, Eq)]
 pub(crate) struct Pending {
-    pub(crate) mode: Mode,
+    pub(crate) mode: KeptMode,
     pub(crate) start: usize,
     pub(crate) value: u64,
 }
@@ -29,7 +30,7 @@ impl Pending {
         ensures { result ≡ fresh start }
     {
         Pending {
-            mode: Mode::Start,
+            mode: KeptMode::new(Mode::Start),
             start,
             value: 0,
         }
@@ -55,7 +56,7 @@ impl Pending {
                     more_value(self.value, byte)
                 };
                 let pending = Pending {
-                    mode: next,
+                    mode: KeptMode::new(next),
                     start,
                     value,
                 };
@@ -63,7 +64,7 @@ impl Pending {
             }
             _ => {
                 let pending = Pending {
-                    mode: next,
+                    mode: KeptMode::new(next),
                     start,
                     value: 0,
                 };
@@ -78,7 +79,7 @@ impl Pending {
         ensures token { IfOk result (IsTokenIn self.mode self.value self.start end) }
         ensures fault { IfErr result (IsFaultIn self.mode self.value self.start) }
     {
-        match self.mode {
+        match self.mode.get() {
             Mode::Word(kind) => Ok(placed_token(kind, 0, self.start, end)),
             Mode::Alias => Ok(placed_token(HoaKind::AliasName, 0, self.start, end)),
             Mode::Digits => {

@@ -6,7 +6,7 @@ ghost use Rattle.omega_text.specs.hoa.Fault.{Faults};
 
 use super::kind::HoaKind;
 use super::unit::first_unit;
-use crate::pg::token::tail;
+use crate::bytes::tail;
 use crate::refusal::TextFault;
 use crate::token::{Span, Token};
 

@@ -112,15 +112,16 @@ fn end_unit(pending: Pending, place: usize, byte: u8) -> (Pending, Settled)
     ensures { (seen : List ℕ) (lexemes : List (Lexeme HoaKind)) → place ≡ length seen → IsAt Any seen lexemes pending → next_mode pending.mode byte ≡ None
         → IsKept result.1.fault (seen ++ byte ∷ []) (lexemes ++ settled_lexemes (seen ++ byte ∷ []) result.1) result.0 }
 {
+    let fresh = Pending::new(place);
     match pending.judge(place) {
-        Err(fault) => (pending, settled(None, None, Some(fault))),
+        Err(fault) => (fresh, settled(None, None, Some(fault))),
         Ok(token) => match Mode::Start.next(byte) {
             None => {
                 let fault = TextFault::Lex { at: place };
-                (pending, settled(Some(token), None, Some(fault)))
+                (fresh, settled(Some(token), None, Some(fault)))
             }
             Some(next) => {
-                let (after, second) = Pending::new(place).grow(next, byte, place + 1);
+                let (after, second) = fresh.grow(next, byte, place + 1);
                 (after, settled(Some(token), second, None))
             }
         },
@@ -132,7 +133,7 @@ fn end_of_text(pending: Pending, place: usize) -> Settled
     ensures { (seen : List ℕ) (lexemes : List (Lexeme HoaKind)) → place ≡ length seen → IsAt Any seen lexemes pending
         → IsFinished result.fault seen (lexemes ++ settled_lexemes seen result) }
 {
-    match pending.mode {
+    match pending.mode.get() {
         Mode::Start => settled(None, None, None),
         _ => match pending.judge(place) {
             Ok(token) => settled(Some(token), None, None),

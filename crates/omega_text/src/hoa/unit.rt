@@ -1,13 +1,13 @@
 ghost use Rattle.std.specs.Prelude.{◌≡◌, ◌<◌, ◌≤◌, ◌^◌, length, slice_index, true, false, None, Some, IfErr, IfOk};
 ghost use Rattle.omega_text.specs.hoa.Fault.{IsFaultOf};
 ghost use Rattle.omega_text.specs.hoa.scanning.Modes.{IsFirstUnit, IsScanned, sign_kind};
-ghost use Rattle.omega_text.specs.pg.Bytes.{is_digit, is_letter, is_white};
+ghost use Rattle.omega_text.specs.Bytes.{is_digit, is_letter, is_white};
 
 use super::kind::HoaKind;
 use super::mode::{Mode, letter_kind, sign_kind};
+use crate::bytes::{is_letter, is_white, word_count};
+use crate::digits::{front_digits, has_needless_zero};
 use crate::limits::MOST_NUMBER;
-use crate::pg::bytes::{is_letter, is_white, word_count};
-use crate::pg::token::{front_digits, has_needless_zero};
 use crate::refusal::TextFault;
 
 /// The longest unit that bytes begin with: a token, or a part of a gap, which has no kind.

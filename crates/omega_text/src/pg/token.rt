@@ -1,16 +1,19 @@
 ghost use Rattle.std.specs.Prelude.{◌≡◌, ◌+◌, ◌^◌, ◌≤◌, ◌<◌, ℕ, true, false, take, drop, length, decimal, MatchBool, IfOk, IfErr, IfSome, IfNone, slice_index};
 ghost use Rattle.std.specs.List.{AllPass, prefix_len};
 ghost use Rattle.std.specs.Str.Parse.{digits_value};
-ghost use Rattle.omega_text.specs.pg.Bytes.{is_digit, is_letter, is_white};
+ghost use Rattle.omega_text.specs.Bytes.{is_digit, is_letter, is_white};
 ghost use Rattle.omega_text.specs.pg.Cut.{BeginsWith, Follows, IsGap};
 ghost use Rattle.omega_text.specs.pg.Fault.{Faults, IsFaultOf};
-ghost use Rattle.omega_text.specs.pg.Forms.{IsDigits, IsNoToken};
+ghost use Rattle.omega_text.specs.Forms.{IsDigits};
+ghost use Rattle.omega_text.specs.pg.Forms.{IsNoToken};
 ghost use Rattle.omega_text.specs.Format.{IsPartBehind};
 ghost use Rattle.omega_text.specs.Lexeme.{lexeme_at, lexeme_of};
 ghost use Rattle.omega_text.specs.Limits.{most_number};
 
-use super::bytes::{is_letter, name_count, white_count, word_count};
 use super::kind::PgKind;
+use super::name::name_count;
+use crate::bytes::{is_letter, tail, white_count, word_count};
+use crate::digits::{front_digits, has_needless_zero};
 use crate::limits::MOST_NUMBER;
 use crate::refusal::TextFault;
 use crate::token::{Span, Token};
@@ -41,14 +44,6 @@ fn gap_end(source: &[u8], from: usize) -> usize
     ensures black { result < length source.now → is_white (slice_index source.now result) ≡ false }
 {
     from + white_count(tail(source, from))
-}
-
-/// The bytes from a place on.
-pub(crate) fn tail(source: &[u8], from: usize) -> &[u8]
-    requires { from ≤ length source.now }
-    ensures { result.now ≡ drop from source.now }
-{
-    &source[from..]
 }
 
 /// The token that bytes begin with, which stand at a place of the text and do not begin with white space.
@@ -92,35 +87,6 @@ fn first_number(bytes: &[u8], place: usize) -> Result<Token<'_, PgKind>, TextFau
         return Err(TextFault::Number { at: place });
     }
     Ok(front_token(bytes, place, count, PgKind::Number, value as u32))
-}
-
-/// How many bytes at the front are digits, and their value, or some value above the greatest number's where theirs is.
-#[inline(always)]
-pub(crate) fn front_digits(bytes: &[u8]) -> (usize, u64)
-    ensures count { result.0 ≡ prefix_len is_digit bytes.now }
-    ensures value { result.1 ≤ most_number → result.1 ≡ digits_value 10 (take result.0 bytes.now) }
-    ensures great { most_number < result.1 → most_number < digits_value 10 (take result.0 bytes.now) }
-{
-    let mut value = 0u64;
-    for (count, byte) in bytes.iter().enumerate() {
-        if !byte.is_ascii_digit() {
-            return (count, value);
-        }
-        if value <= MOST_NUMBER as u64 {
-            value = value * 10 + u64::from(*byte - b'0');
-        }
-    }
-    (bytes.len(), value)
-}
-
-/// Whether the digits at the front begin with a zero and go on.
-pub(crate) fn has_needless_zero(bytes: &[u8], count: usize) -> bool
-    requires { 0 < length bytes.now }
-    ensures { MatchBool result
-        ((slice_index bytes.now 0 ≡ 48) × (1 < count))
-        (slice_index bytes.now 0 ≡ 48 → count ≤ 1) }
-{
-    bytes[0] == b'0' && count > 1
 }
 
 /// The word that bytes begin with: the longest one is `parity` or `paritysol`, or is refused.

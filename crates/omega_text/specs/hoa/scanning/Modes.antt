@@ -6,7 +6,7 @@ use Rattle.omega_text.specs.declared.hoa.mode.Mode.{Mode}
 use Rattle.omega_text.specs.declared.hoa.mode.Mode.TheVariants.{Start, Word, At, Alias, Digits, Quoted, Escaped, Slash, Comment, Star, Slashed, Dash, Dashes, Mark, Whole, Blank}
 use Rattle.omega_text.specs.hoa.Cut.{IsLongest}
 use Rattle.omega_text.specs.hoa.Forms.{IsBlank, Spells, spelling}
-use Rattle.omega_text.specs.pg.Bytes.{is_digit, is_letter, is_white, is_word_byte}
+use Rattle.omega_text.specs.Bytes.{is_digit, is_letter, is_white, is_word_byte}
 
 -- the kind of a word of one letter
 abbrev pub letter_kind : ℕ → HoaKind

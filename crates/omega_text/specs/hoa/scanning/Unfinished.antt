@@ -10,8 +10,8 @@ use Rattle.omega_text.specs.declared.hoa.placed.PlacedToken.{PlacedToken}
 use Rattle.omega_text.specs.declared.refusal.text.TextFault.{TextFault}
 use Rattle.omega_text.specs.declared.refusal.text.TextFault.TheVariants.{Lex, Number}
 use Rattle.omega_text.specs.hoa.Forms.{Spells}
-use Rattle.omega_text.specs.pg.Bytes.{is_digit}
-use Rattle.omega_text.specs.pg.Forms.{IsDigits}
+use Rattle.omega_text.specs.Bytes.{is_digit}
+use Rattle.omega_text.specs.Forms.{IsDigits}
 
 -- nothing of a unit
 abbrev pub fresh : ℕ → Pending

@@ -1,5 +1,5 @@
 -- What the last unit is.
-use Rattle.std.proofs.Common.{None, Some, sym, subst, append-nil}
+use Rattle.std.proofs.Common.{None, Some, sym, subst, ◌∙◌, append-nil}
 use Rattle.omega_text.specs.Cut.{IsCut}
 use Rattle.omega_text.specs.hoa.Format.{hoa_format}
 use Rattle.omega_text.specs.hoa.Pieces.{FaultsBehind, IsFinished}
@@ -10,7 +10,7 @@ use Rattle.omega_text.proofs.hoa.tokenizer.end_of_text.Goals as goal
 pub returns-in-Start : goal.returns-in-Start
 returns-in-Start c = λ seen lexemes place at.
     settled_as (λ fault. IsFinished fault seen) seen lexemes c.settled.result None None None c.settled.ensures.first c.settled.ensures.second c.settled.ensures.fault
-    (subst (IsCut hoa_format seen) (sym (append-nil lexemes)) (ends_in_gap seen lexemes c.args.pending at c.in-Start.is))
+    (subst (IsCut hoa_format seen) (sym (append-nil lexemes)) (ends_in_gap seen lexemes c.args.pending at (sym c.get.ensures ∙ c.in-Start.is)))
 
 pub returns-in-Ok : goal.returns-in-Ok
 returns-in-Ok c = λ seen lexemes place at.
@@ -21,4 +21,4 @@ returns-in-Ok c = λ seen lexemes place at.
 pub returns-in-Err : goal.returns-in-Err
 returns-in-Err c = λ seen lexemes place at.
     settled_as (λ fault. IsFinished fault seen) seen lexemes c.settled-in-Err.result None None (Some c.in-Err.fault) c.settled-in-Err.ensures.first c.settled-in-Err.ensures.second c.settled-in-Err.ensures.fault
-    (subst (λ ls. FaultsBehind seen ls c.in-Err.fault) (sym (append-nil lexemes)) (ends_in_fault seen lexemes c.args.pending at c.in-Err.fault c.in_default.not-Start c.in-Err.ensures.fault))
+    (subst (λ ls. FaultsBehind seen ls c.in-Err.fault) (sym (append-nil lexemes)) (ends_in_fault seen lexemes c.args.pending at c.in-Err.fault (λ start. c.in_default.not-Start (c.get.ensures ∙ start)) c.in-Err.ensures.fault))

@@ -9,7 +9,7 @@ use Rattle.omega_text.proofs.hoa.tokenizer.end_unit.Goals as goal
 
 pub returns-in-Err : goal.returns-in-Err
 returns-in-Err c = λ seen lexemes place at ends.
-    settled_as (λ fault ls. IsKept fault (seen ++ c.args.byte ∷ []) ls c.args.pending) (seen ++ c.args.byte ∷ []) lexemes c.settled.result None None (Some c.in-Err.fault)
+    settled_as (λ fault ls. IsKept fault (seen ++ c.args.byte ∷ []) ls c.new-fresh.result) (seen ++ c.args.byte ∷ []) lexemes c.settled.result None None (Some c.in-Err.fault)
     c.settled.ensures.first c.settled.ensures.second c.settled.ensures.fault
     (subst (λ ls. SettlesFault (seen ++ c.args.byte ∷ []) ls c.in-Err.fault) (sym (append-nil lexemes))
     (faulty seen lexemes c.args.pending c.args.byte c.in-Err.fault (at_with seen lexemes c.args.pending c.args.byte at) ends c.in-Err.ensures.fault))
@@ -18,7 +18,7 @@ pub returns-in-None : goal.returns-in-None
 returns-in-None c = λ seen lexemes place at ends.
     let token = subst (λ n. IsTokenIn c.args.pending.mode c.args.pending.value c.args.pending.start n c.in-Ok.token) place c.in-Ok.ensures.token in
     let before = judged seen lexemes c.args.pending c.args.byte c.in-Ok.token at ends token in
-    settled_as (λ fault ls. IsKept fault (seen ++ c.args.byte ∷ []) ls c.args.pending) (seen ++ c.args.byte ∷ []) lexemes c.settled-in-None.result (Some c.in-Ok.token) None (Some (Lex c.args.place))
+    settled_as (λ fault ls. IsKept fault (seen ++ c.args.byte ∷ []) ls c.new-fresh.result) (seen ++ c.args.byte ∷ []) lexemes c.settled-in-None.result (Some c.in-Ok.token) None (Some (Lex c.args.place))
     c.settled-in-None.ensures.first c.settled-in-None.ensures.second c.settled-in-None.ensures.fault
     (faulty seen (lexemes ++ lexeme_in (seen ++ c.args.byte ∷ []) c.in-Ok.token ∷ []) (fresh (length seen)) c.args.byte (Lex c.args.place) before (sym c.in-None.ensures) (ap Lex place))
 
@@ -27,10 +27,10 @@ returns-in-Some c = λ seen lexemes place at ends.
     let source = seen ++ c.args.byte ∷ [] in
     let token = subst (λ n. IsTokenIn c.args.pending.mode c.args.pending.value c.args.pending.start n c.in-Ok.token) place c.in-Ok.ensures.token in
     let before = judged seen lexemes c.args.pending c.args.byte c.in-Ok.token at ends token in
-    let same = c.new.ensures ∙ ap fresh place in
-    let grows = subst (λ n. IsGrown (fresh (length seen)) c.args.byte (n + 1) c.in-Some.next c.grow-second.result.0 c.grow-second.result.1) place
-    (subst (λ p. IsGrown p c.args.byte (c.args.place + 1) c.in-Some.next c.grow-second.result.0 c.grow-second.result.1) same c.grow-second.ensures) in
-    settled_as (λ fault ls. IsKept fault source ls c.grow-second.result.0) source lexemes c.settled-in-Some.result (Some c.in-Ok.token) c.grow-second.result.1 None
+    let same = c.new-fresh.ensures ∙ ap fresh place in
+    let grows = subst (λ n. IsGrown (fresh (length seen)) c.args.byte (n + 1) c.in-Some.next c.grow-after.result.0 c.grow-after.result.1) place
+    (subst (λ p. IsGrown p c.args.byte (c.args.place + 1) c.in-Some.next c.grow-after.result.0 c.grow-after.result.1) same c.grow-after.ensures) in
+    settled_as (λ fault ls. IsKept fault source ls c.grow-after.result.0) source lexemes c.settled-in-Some.result (Some c.in-Ok.token) c.grow-after.result.1 None
     c.settled-in-Some.ensures.first c.settled-in-Some.ensures.second c.settled-in-Some.ensures.fault
-    (subst (λ ls. IsAt Any source ls c.grow-second.result.0) (append_assoc lexemes (lexeme_in source c.in-Ok.token ∷ []) (lexemes_in source c.grow-second.result.1))
-    (grown seen (lexemes ++ lexeme_in source c.in-Ok.token ∷ []) (fresh (length seen)) c.args.byte before c.in-Some.next c.grow-second.result.0 c.grow-second.result.1 (sym c.in-Some.ensures) grows))
+    (subst (λ ls. IsAt Any source ls c.grow-after.result.0) (append_assoc lexemes (lexeme_in source c.in-Ok.token ∷ []) (lexemes_in source c.grow-after.result.1))
+    (grown seen (lexemes ++ lexeme_in source c.in-Ok.token ∷ []) (fresh (length seen)) c.args.byte before c.in-Some.next c.grow-after.result.0 c.grow-after.result.1 (sym c.in-Some.ensures) grows))

@@ -2,7 +2,7 @@
 use Rattle.std.proofs.Common.{◌≡◌, ◌+◌, ◌<◌, length, get_or, drop, inl, refl, ap, ◌∙◌, arith, length-drop}
 use Rattle.std.proofs.lemmas.List.Sums.{prefix_len-le-length}
 use Rattle.std.specs.List.{prefix_len}
-use Rattle.omega_text.specs.pg.Bytes.{is_name_byte}
+use Rattle.omega_text.specs.pg.Forms.{is_name_byte}
 use Rattle.omega_text.proofs.pg_texts.Quoted.{longest_name, no_name}
 use Rattle.omega_text.proofs.pg_texts.Tokens.{begins_as}
 use Rattle.omega_text.proofs.pg.token.first_name.Goals as goal

@@ -1,7 +1,8 @@
 -- The whole run of digits is the longest form, and is a number or none.
 use Rattle.std.proofs.Common.{◌≡◌, length, get_or, take, refl, sym, subst, ◌∙◌, arith, length-take-le}
 use Rattle.std.proofs.lemmas.List.{get_or-take}
-use Rattle.omega_text.specs.pg.Forms.{IsDigits, IsLongest, IsNoToken}
+use Rattle.omega_text.specs.Forms.{IsDigits}
+use Rattle.omega_text.specs.pg.Forms.{IsLongest, IsNoToken}
 use Rattle.omega_text.proofs.pg_texts.Longest.{longest_digits}
 use Rattle.omega_text.proofs.pg_texts.Numbers.{front_value, needless_zero, too_great}
 use Rattle.omega_text.proofs.pg_texts.Tokens.{begins_as}

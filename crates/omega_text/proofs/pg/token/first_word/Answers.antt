@@ -1,7 +1,8 @@
 -- The longest word is one of the two words, or no token.
 use Rattle.std.proofs.Common.{take, inr, refl, sym, subst, ◌∙◌}
 use Rattle.std.specs.Cmp.Lexicographic.{bytes_decides}
-use Rattle.omega_text.specs.pg.Forms.{IsLongest, IsWord}
+use Rattle.omega_text.specs.Forms.{IsWord}
+use Rattle.omega_text.specs.pg.Forms.{IsLongest}
 use Rattle.omega_text.proofs.pg_texts.Classes.{both_ways}
 use Rattle.omega_text.proofs.pg_texts.Longest.{longest_word}
 use Rattle.omega_text.proofs.pg_texts.Numbers.{wrong_word}

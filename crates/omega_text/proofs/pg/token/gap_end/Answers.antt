@@ -1,7 +1,7 @@
 -- The white bytes that are counted are a gap, and a black byte ends it.
 use Rattle.std.proofs.Common.{◌≡◌, ◌+◌, ◌<◌, false, length, get_or, drop, sym, ap, ◌∙◌, subst, arith}
 use Rattle.std.specs.List.{prefix_len}
-use Rattle.omega_text.specs.pg.Bytes.{is_white}
+use Rattle.omega_text.specs.Bytes.{is_white}
 use Rattle.omega_text.specs.pg.Cut.{IsGap}
 use Rattle.omega_text.proofs.pg_texts.Gaps.{run_black, run_gap}
 use Rattle.omega_text.proofs.pg.token.gap_end.Goals as goal

@@ -28,4 +28,4 @@ pub returns-in-None-clause-settles : goal.returns-in-None-clause-settles
 returns-in-None-clause-settles c = λ seen lexemes read.
     let source = seen ++ c.args.byte ∷ [] in
     let kept = subst (λ fault. IsKept fault seen lexemes c.args.self.now.pending) c.in-None.is read.kept in
-    kept_settled c.read_byte.result.1.fault source (lexemes ++ settled_lexemes source c.read_byte.result.1) c.read_byte.result.0 (c.read_byte.ensures seen lexemes read.place kept)
+    kept_settled c.read_byte-pending.result.1.fault source (lexemes ++ settled_lexemes source c.read_byte-pending.result.1) c.read_byte-pending.result.0 (c.read_byte-pending.ensures seen lexemes read.place kept)

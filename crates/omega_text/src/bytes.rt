@@ -1,12 +1,10 @@
-ghost use Rattle.std.specs.Prelude.{◌≡◌};
+ghost use Rattle.std.specs.Prelude.{◌≡◌, ◌≤◌, drop, length};
 ghost use Rattle.std.specs.List.{prefix_len};
-ghost use Rattle.omega_text.specs.pg.Bytes.{is_letter, is_name_byte, is_white, is_word_byte};
+ghost use Rattle.omega_text.specs.Bytes.{is_letter, is_white, is_word_byte};
 
 const UNDERSCORE: u8 = b'_';
 
 const HYPHEN: u8 = b'-';
-
-const QUOTE: u8 = b'"';
 
 pub(crate) fn is_white(byte: u8) -> bool
     ensures { result ≡ is_white byte }
@@ -26,12 +24,6 @@ pub(crate) fn is_word_byte(byte: u8) -> bool
     byte.is_ascii_alphanumeric() || byte == UNDERSCORE || byte == HYPHEN
 }
 
-pub(crate) fn is_name_byte(byte: u8) -> bool
-    ensures { result ≡ is_name_byte byte }
-{
-    byte >= 32 && byte <= 126 && byte != QUOTE
-}
-
 /// How many bytes at the front are white.
 pub(crate) fn white_count(bytes: &[u8]) -> usize
     ensures { result ≡ prefix_len is_white bytes.now }
@@ -46,9 +38,10 @@ pub(crate) fn word_count(bytes: &[u8]) -> usize
     bytes.iter().take_while(|byte| is_word_byte(**byte)).count()
 }
 
-/// How many bytes at the front may stand in a name.
-pub(crate) fn name_count(bytes: &[u8]) -> usize
-    ensures { result ≡ prefix_len is_name_byte bytes.now }
+/// The bytes from a place on.
+pub(crate) fn tail(source: &[u8], from: usize) -> &[u8]
+    requires { from ≤ length source.now }
+    ensures { result.now ≡ drop from source.now }
 {
-    bytes.iter().take_while(|byte| is_name_byte(**byte)).count()
+    &source[from..]
 }

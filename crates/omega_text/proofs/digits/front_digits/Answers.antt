@@ -2,10 +2,10 @@
 use Rattle.std.proofs.Common.{◌≡◌, ◌+◌, ◌<◌, ℕ, true, get_or, inl, inr, subst, sym, ◌∙◌, arith}
 use Rattle.std.proofs.lemmas.Bool.{cases_order}
 use Rattle.std.proofs.lemmas.List.Sums.{prefix_len_is}
-use Rattle.omega_text.specs.pg.Bytes.{is_digit}
+use Rattle.omega_text.specs.Bytes.{is_digit}
 use Rattle.omega_text.proofs.pg_texts.Numbers.{value_more, value_no_less, worth_small}
-use Rattle.omega_text.proofs.pg.token.front_digits.Goals as goal
-use Rattle.omega_text.proofs.pg.token.front_digits.Goals.{then-value, else-value}
+use Rattle.omega_text.proofs.digits.front_digits.Goals as goal
+use Rattle.omega_text.proofs.digits.front_digits.Goals.{then-value, else-value}
 
 pub returns-then-not-is_ascii_digit-clause-count : goal.returns-then-not-is_ascii_digit-clause-count
 returns-then-not-is_ascii_digit-clause-count c =

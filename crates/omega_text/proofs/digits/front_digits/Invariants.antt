@@ -1,9 +1,9 @@
 -- The digits so far with their value, or that it is above the greatest number.
 use Rattle.std.proofs.Common.{◌≡◌, ◌+◌, ◌*◌, ◌≤◌, ◌<◌, ℕ, true, get_or, take}
 use Rattle.std.specs.Str.Parse.{digits_value}
-use Rattle.omega_text.specs.pg.Bytes.{is_digit}
+use Rattle.omega_text.specs.Bytes.{is_digit}
 use Rattle.omega_text.specs.Limits.{most_number}
-use Rattle.omega_text.proofs.pg.token.front_digits.Given as goal
+use Rattle.omega_text.proofs.digits.front_digits.Given as goal
 
 abbrev pub invariant-loop-count : goal.invariant-loop-count
 invariant-loop-count l = record {

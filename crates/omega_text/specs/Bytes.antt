@@ -1,7 +1,6 @@
--- The classes of bytes in a text.
-use Rattle.std.specs.Prelude.{ℕ, Bool, not, ◌&&◌, ◌||◌, ◌==◌}
+-- The classes of bytes that texts of each format share.
+use Rattle.std.specs.Prelude.{ℕ, Bool, ◌||◌, ◌==◌}
 use Rattle.std.specs.Char.{is_ascii_alphabetic, is_ascii_alphanumeric, is_ascii_digit}
-use Rattle.std.specs.Int.{is_in_range}
 
 -- space, tab, line feed and carriage return
 abbrev pub is_white : ℕ → Bool
@@ -18,7 +17,3 @@ is_letter byte = is_ascii_alphabetic byte || byte == 95
 -- a letter, a digit, an underscore or a hyphen, which may go on in a word
 abbrev pub is_word_byte : ℕ → Bool
 is_word_byte byte = (is_ascii_alphanumeric byte || byte == 95) || byte == 45
-
--- a byte that may stand between the quotes of a name: 32 to 126, and not the quote itself
-abbrev pub is_name_byte : ℕ → Bool
-is_name_byte byte = is_in_range 32 126 byte && not (byte == 34)
