@@ -23,5 +23,10 @@ pub mod RawLabelLemmas
 pub mod ReadingLemmas
 pub mod ReadingUniqueness
 pub mod TextLemmas
+pub mod TokenLemmas
 pub mod Valuations
+pub mod WrittenAccDepths
+pub mod WrittenDepths
+pub mod WrittenFormulas
+pub mod WrittenLabels
 pub mod WordLemmas

@@ -14,4 +14,5 @@ pub mod Reading
 pub mod Satisfiable
 pub mod Symbols
 pub mod Writing
+pub mod WritingLaws
 pub mod layout

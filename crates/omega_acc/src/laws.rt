@@ -3,6 +3,13 @@
 ghost use Rattle.omega_acc.specs.AccReading.{FormulasAreOne};
 ghost use Rattle.omega_acc.specs.KindLaws.{BuchiIsEverySet, ParityIsPriority};
 ghost use Rattle.omega_acc.specs.Reading.{LabelsAreOne};
+ghost use Rattle.omega_acc.specs.WritingLaws.{AccTextsAreFormulas, LabelTextsAreLabels, WrittenFormulasAreShallowest, WrittenFormulasMean, WrittenLabelsAreShallowest, WrittenLabelsMean};
+
+use omega_text::HoaKind;
+use omega_text::hoa::laws::{
+    closed_are_longest, numbers_are_longest, numbers_are_plain, words_are_longest,
+};
+use omega_text::laws::cuts_join;
 
 /// A parity formula holds of mark sets exactly if the greatest of their priorities is even.
 pub fn parity_is_priority()
@@ -22,4 +29,47 @@ pub fn labels_are_one()
 /// Of all tokens at most one acceptance formula is read, and at most one rest is left.
 pub fn formulas_are_one()
     ensures { FormulasAreOne }
+{}
+
+/// Where the canonical text of a label stands, apart from what follows, there are the tokens of that label as it is written.
+pub fn label_texts_are_labels()
+    ensures { LabelTextsAreLabels }
+{
+    cuts_join::<HoaKind>();
+    numbers_are_longest();
+    numbers_are_plain();
+    words_are_longest();
+    closed_are_longest();
+}
+
+/// A label as it is written means itself.
+pub fn written_labels_mean()
+    ensures { WrittenLabelsMean }
+{}
+
+/// No expression that means a label is less deep than that label as it is written.
+pub fn written_labels_are_shallowest()
+    ensures { WrittenLabelsAreShallowest }
+{}
+
+/// Where the canonical text of an acceptance formula stands, apart from what follows, there are the tokens of that formula as it
+/// is written.
+pub fn acc_texts_are_formulas()
+    ensures { AccTextsAreFormulas }
+{
+    cuts_join::<HoaKind>();
+    numbers_are_longest();
+    numbers_are_plain();
+    words_are_longest();
+    closed_are_longest();
+}
+
+/// An acceptance formula as it is written means itself.
+pub fn written_formulas_mean()
+    ensures { WrittenFormulasMean }
+{}
+
+/// No expression that means an acceptance formula is less deep than that formula as it is written.
+pub fn written_formulas_are_shallowest()
+    ensures { WrittenFormulasAreShallowest }
 {}

@@ -36,7 +36,11 @@ pub use aliases::Aliases;
 pub use expansion::{expand, expanded_size};
 pub use kind::{AccKind, Order, Parity, ParityKind};
 pub use label::Label;
-pub use laws::{buchi_is_every_set, formulas_are_one, labels_are_one, parity_is_priority};
+pub use laws::{
+    acc_texts_are_formulas, buchi_is_every_set, formulas_are_one, label_texts_are_labels,
+    labels_are_one, parity_is_priority, written_formulas_are_shallowest, written_formulas_mean,
+    written_labels_are_shallowest, written_labels_mean,
+};
 pub use limits::{
     MOST_BUCHI_SETS, MOST_DEPTH, MOST_MENTIONED, MOST_SIZE, expression_limits_are_stated,
 };

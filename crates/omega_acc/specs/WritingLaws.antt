@@ -1,0 +1,119 @@
+-- How written expressions are read back (docs/formats.md, labels and acceptance formulas): the canonical text of a tree is the tokens of one expression as it is written, which means that tree.
+use Rattle.std.specs.Prelude.{◌≡◌, ◌≢◌, ℕ, ◌+◌, ◌≤◌, Bool, false, nat_le, nat_lt, if◌then◌else◌, List, [], ◌∷◌, ◌++◌, Option, Some, codes, drop, length, map, slice_index}
+use Rattle.omega_acc.specs.AccMeaning.{acc_meant}
+use Rattle.omega_acc.specs.AccReading.{IsAccOf, acc_spelled}
+use Rattle.omega_acc.specs.Acceptance.{AccTree}
+use Rattle.omega_acc.specs.Acceptance as acc
+use Rattle.omega_acc.specs.Expanding.{Defined, Entry, Meaning, expansion, replaced}
+use Rattle.omega_acc.specs.Label.{LabelTree, conjunction, constant, disjunction, negation, proposition}
+use Rattle.omega_acc.specs.RawAcc.{RawAccTree, raw_acc_depth}
+use Rattle.omega_acc.specs.RawAcc as raw_acc
+use Rattle.omega_acc.specs.RawLabel.{RawLabelTree, raw_depth}
+use Rattle.omega_acc.specs.RawLabel as raw
+use Rattle.omega_acc.specs.Reading.{IsOf, spelled}
+use Rattle.omega_acc.specs.Symbols.{Symbol, disjunctive, symbol_of}
+use Rattle.omega_acc.specs.Writing.{acc_text, label_text}
+use Rattle.omega_text.specs.Cut.{Cuts}
+use Rattle.omega_text.specs.Lexeme.{Lexeme}
+use Rattle.omega_text.specs.Limits.{most_number}
+use Rattle.omega_text.specs.declared.hoa.kind.HoaKind.{HoaKind}
+use Rattle.omega_text.specs.hoa.Format.{hoa_format}
+use Rattle.omega_text.specs.pg.Bytes.{is_word_byte}
+
+-- a label in parentheses or not
+abbrev pub grouped : Bool → RawLabelTree → RawLabelTree
+grouped within label = if within then raw.group label else label
+
+-- the label as its canonical text has it, with parentheses only where an operator needs them
+abbrev pub label_written : LabelTree → RawLabelTree
+label_written (constant value) = raw.constant value
+label_written (proposition number) = raw.proposition number
+label_written (negation part) = raw.negation (grouped (nat_lt (label_text part).rank 3) (label_written part))
+label_written (conjunction left right) =
+    raw.conjunction (grouped (nat_lt (label_text left).rank 2) (label_written left)) (grouped (nat_le (label_text right).rank 2) (label_written right))
+label_written (disjunction left right) =
+    raw.disjunction (grouped (nat_lt (label_text left).rank 1) (label_written left)) (grouped (nat_le (label_text right).rank 1) (label_written right))
+
+-- a formula in parentheses or not
+abbrev pub acc_grouped : Bool → RawAccTree → RawAccTree
+acc_grouped within formula = if within then raw_acc.group formula else formula
+
+-- the formula as its canonical text has it, with parentheses only where an operator needs them
+abbrev pub acc_written : AccTree → RawAccTree
+acc_written (acc.constant value) = raw_acc.constant value
+acc_written (acc.inf negated set) = raw_acc.atom (codes "Inf") negated set
+acc_written (acc.fin negated set) = raw_acc.atom (codes "Fin") negated set
+acc_written (acc.conjunction left right) =
+    raw_acc.conjunction (acc_grouped (nat_lt (acc_text left).rank 2) (acc_written left)) (acc_grouped (nat_le (acc_text right).rank 2) (acc_written right))
+acc_written (acc.disjunction left right) =
+    raw_acc.disjunction (acc_grouped (nat_lt (acc_text left).rank 1) (acc_written left)) (acc_grouped (nat_le (acc_text right).rank 1) (acc_written right))
+
+-- no proposition of a label is above the greatest number of a text
+abbrev pub NumbersFit : LabelTree → Type 0
+NumbersFit (constant value) = Unit {0}
+NumbersFit (proposition number) = number ≤ most_number
+NumbersFit (negation part) = NumbersFit part
+NumbersFit (conjunction left right) = NumbersFit left × NumbersFit right
+NumbersFit (disjunction left right) = NumbersFit left × NumbersFit right
+
+-- no set of a formula is above the greatest number of a text
+abbrev pub SetsFit : AccTree → Type 0
+SetsFit (acc.constant value) = Unit {0}
+SetsFit (acc.inf negated set) = set ≤ most_number
+SetsFit (acc.fin negated set) = set ≤ most_number
+SetsFit (acc.conjunction left right) = SetsFit left × SetsFit right
+SetsFit (acc.disjunction left right) = SetsFit left × SetsFit right
+
+-- a text begins with nothing that goes on in a word, nor with a colon
+pub record StandsApart (text : List ℕ) : Type 0 where
+  pub ends : is_word_byte (slice_index text 0) ≡ false
+  pub closes : slice_index text 0 ≢ 58
+
+-- from one place of a text to another there are tokens, and they are these symbols
+pub record AreThere (source : List ℕ) (from to : ℕ) (symbols : List Symbol) : Type 0 where
+  pub lexemes : List (Lexeme HoaKind)
+  pub cuts : Cuts hoa_format source from lexemes to
+  pub spells : map symbol_of lexemes ≡ symbols
+
+-- where the canonical text of a label stands, apart from what follows, there are the tokens of the label as it is written
+abbrev pub LabelTextsAreLabels : Type 0
+LabelTextsAreLabels = (tree : LabelTree) (source behind : List ℕ) (from : ℕ) → NumbersFit tree → StandsApart behind
+    → drop from source ≡ (label_text tree).bytes ++ behind → AreThere source from (from + length (label_text tree).bytes) (spelled (label_written tree))
+
+-- where the canonical text of a formula stands, apart from what follows, there are the tokens of the formula as it is written
+abbrev pub AccTextsAreFormulas : Type 0
+AccTextsAreFormulas = (tree : AccTree) (source behind : List ℕ) (from : ℕ) → SetsFit tree → StandsApart behind
+    → drop from source ≡ (acc_text tree).bytes ++ behind → AreThere source from (from + length (acc_text tree).bytes) (acc_spelled (acc_written tree))
+
+-- a label as it is written is an or-expression that means the label, whatever aliases there are
+pub record MeansItself (entries : List Entry) (tree : LabelTree) : Type 0 where
+  pub is : IsOf disjunctive (label_written tree)
+  pub means : replaced entries (label_written tree) ≡ Some (record { tree = tree; depth = raw_depth (label_written tree) })
+
+-- each label as it is written means itself
+abbrev pub WrittenLabelsMean : Type 0
+WrittenLabelsMean = (entries : List Entry) (tree : LabelTree) → MeansItself entries tree
+
+-- a formula as it is written is an or-expression that means the formula
+pub record AccMeansItself (tree : AccTree) : Type 0 where
+  pub is : IsAccOf disjunctive (acc_written tree)
+  pub means : acc_meant (acc_written tree) ≡ Some tree
+
+-- each formula as it is written means itself
+abbrev pub WrittenFormulasMean : Type 0
+WrittenFormulasMean = (tree : AccTree) → AccMeansItself tree
+
+-- each definition is an or-expression
+abbrev pub AreExpressions : List Defined → Type 0
+AreExpressions [] = Unit {0}
+AreExpressions (definition ∷ definitions) = IsOf disjunctive definition.body × AreExpressions definitions
+
+-- no expression that means a label is less deep than the label as it is written
+abbrev pub WrittenLabelsAreShallowest : Type 0
+WrittenLabelsAreShallowest = (definitions : List Defined) (label : RawLabelTree) (meaning : Meaning)
+    → AreExpressions definitions → IsOf disjunctive label → expansion definitions label ≡ Some meaning → raw_depth (label_written meaning.tree) ≤ meaning.depth
+
+-- no expression that means a formula is less deep than the formula as it is written
+abbrev pub WrittenFormulasAreShallowest : Type 0
+WrittenFormulasAreShallowest = (formula : RawAccTree) (tree : AccTree)
+    → IsAccOf disjunctive formula → acc_meant formula ≡ Some tree → raw_acc_depth (acc_written tree) ≤ raw_acc_depth formula
