@@ -1,0 +1,2 @@
+-- How automata lie in memory: cited by private contracts alone.
+pub mod Automaton
