@@ -3,4 +3,6 @@ pub use Rattle.omega_text.specs.Cases
 pub use Rattle.omega_text.specs.Refusal
 pub mod Limits
 pub mod Automaton
+pub mod Items
+pub mod Faults
 pub mod layout

@@ -4,6 +4,7 @@
 mod automaton;
 mod edge;
 mod header;
+mod judging;
 mod state;
 mod tool;
 

@@ -1,0 +1,15 @@
+//! Which meaning faults of an automaton text apply (docs/formats.md, meaning of an automaton text): a file a subject.
+
+mod header;
+mod implicit;
+mod labels;
+mod sets;
+mod states;
+mod version;
+
+pub(crate) use header::{has_repeated_item, has_unknown_capital, lacks_acceptance};
+pub(crate) use implicit::has_wrong_edge_count;
+pub(crate) use labels::has_mixed_labels;
+pub(crate) use sets::any_marked_beyond;
+pub(crate) use states::{has_state_out_of_range, state_count};
+pub(crate) use version::has_other_version;
