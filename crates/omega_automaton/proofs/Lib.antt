@@ -1,3 +1,4 @@
 pub mod Greatest
 pub mod Powers
+pub mod Repeats
 pub mod Said

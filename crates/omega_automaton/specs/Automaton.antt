@@ -48,10 +48,10 @@ edge_count a = length (edges_of a)
 abbrev pub edge_at : Description → ℕ → Option BodyEdge
 edge_at a number = slice_get (edges_of a) number
 
--- whether some item of a list is the same as a later one
+-- whether some item of a list is the same as an earlier one
 abbrev pub has_repeat : {X : Type 0} → (X → X → Bool) → List X → Bool
 has_repeat same [] = false
-has_repeat same (x ∷ xs) = list_any (same x) xs || has_repeat same xs
+has_repeat same (x ∷ xs) = list_any (λ later. same later x) xs || has_repeat same xs
 
 -- the sets of an acceptance formula from left to right, each as often as it stands there
 abbrev pub sets_of : AccTree → List ℕ
