@@ -2,3 +2,4 @@ pub mod Greatest
 pub mod Powers
 pub mod Repeats
 pub mod Said
+pub mod Zipped

@@ -187,6 +187,10 @@ has_wrong_atom raw = false
 abbrev pub is_deep : Option Meaning → Bool
 is_deep meaning = passes (λ known. nat_lt most_depth known.depth) meaning
 
+-- whether what a label means is too large, and not too deep besides
+abbrev pub is_large : Option Meaning → Bool
+is_large meaning = passes (λ known. not (nat_lt most_depth known.depth) && nat_lt most_size (label_size known.tree)) meaning
+
 -- 32: whether an acceptance, an alias or a label is over 256 deep, its aliases replaced
 unfoldable pub has_deep_expression : RawAutomaton → Bool
 has_deep_expression raw = some_meaning is_deep raw
@@ -205,10 +209,11 @@ abbrev pub label_total : List Defined → RawState → ℕ
 label_total definitions state =
     size_under definitions state.label + sum_by (λ edge. size_under definitions edge.label) state.edges
 
--- 33: whether an alias or a label has over 65,536 tree nodes, its aliases replaced, or all labels together over 16,777,216
+-- 33: whether an alias or a label, its aliases replaced, has over 65,536 tree nodes, or all labels together over 16,777,216;
+-- of what is also too deep 32 speaks
 unfoldable pub has_large_expression : RawAutomaton → Bool
 has_large_expression raw =
-    some_meaning (λ meaning. nat_lt most_size (size_of_meaning meaning)) raw
+    some_meaning is_large raw
     || nat_lt most_total_size (sum_by (label_total (definitions_of raw)) raw.states)
 
 -- whether a fault applies

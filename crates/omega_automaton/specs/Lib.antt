@@ -5,4 +5,5 @@ pub mod Limits
 pub mod Automaton
 pub mod Items
 pub mod Faults
+pub mod Meaning
 pub mod layout

@@ -1,2 +1,4 @@
 -- How automata lie in memory: cited by private contracts alone.
 pub mod Automaton
+pub mod Trials
+pub mod Gathered

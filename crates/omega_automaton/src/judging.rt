@@ -6,6 +6,7 @@ mod labels;
 mod repeats;
 mod sets;
 mod states;
+mod trial;
 mod version;
 
 pub(crate) use header::{has_repeated_item, has_unknown_capital, lacks_acceptance};
@@ -14,4 +15,5 @@ pub(crate) use labels::has_mixed_labels;
 pub(crate) use repeats::{has_name_twice, has_state_twice};
 pub(crate) use sets::any_marked_beyond;
 pub(crate) use states::{has_state_out_of_range, state_count};
+pub(crate) use trial::{Trial, any_fails, fails};
 pub(crate) use version::has_other_version;

@@ -5,6 +5,7 @@ mod automaton;
 mod edge;
 mod header;
 mod judging;
+mod making;
 mod state;
 mod tool;
 
