@@ -1,3 +1,5 @@
+pub mod AccMeaning
+pub mod AccReading
 pub mod Acceptance
 pub mod Depth
 pub mod Expanding
@@ -6,8 +8,10 @@ pub mod KindLaws
 pub mod Label
 pub mod Limits
 pub mod Names
+pub mod RawAcc
 pub mod RawLabel
 pub mod Reading
 pub mod Satisfiable
+pub mod Symbols
 pub mod Writing
 pub mod layout

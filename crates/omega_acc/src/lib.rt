@@ -3,6 +3,7 @@
 
 mod acc;
 mod acc_name;
+mod acc_reading;
 mod aliases;
 mod depth;
 mod expansion;
@@ -12,30 +13,37 @@ mod label;
 mod laws;
 mod limits;
 mod mentioned;
+mod passing;
 mod pending;
+mod plain;
+mod postfix;
 mod priorities;
+mod raw_acc;
 mod raw_label;
 mod reading;
 mod recognition;
 mod satisfying;
 mod texts;
 mod unfinished;
+mod unfinished_acc;
 mod words;
 mod writing;
 
 pub use acc::Acc;
 pub use acc_name::{AccName, Parameter};
+pub use acc_reading::{read_acc, read_raw_acc};
 pub use aliases::Aliases;
 pub use expansion::{expand, expanded_size};
 pub use kind::{AccKind, Order, Parity, ParityKind};
 pub use label::Label;
-pub use laws::{buchi_is_every_set, labels_are_one, parity_is_priority};
+pub use laws::{buchi_is_every_set, formulas_are_one, labels_are_one, parity_is_priority};
 pub use limits::{
     MOST_BUCHI_SETS, MOST_DEPTH, MOST_MENTIONED, MOST_SIZE, expression_limits_are_stated,
 };
 pub use priorities::priority;
+pub use raw_acc::RawAcc;
 pub use raw_label::RawLabel;
-pub use reading::read_label;
+pub use reading::{read_label, read_raw_label};
 pub use recognition::{acceptance_kind, parity_of};
 pub use satisfying::satisfiable;
 pub use writing::{write_acc, write_label};
