@@ -1,7 +1,7 @@
 -- When each meaning fault of an automaton text applies, each by itself, and which one the text has (docs/formats.md,
 -- meaning of an automaton text).
-use Rattle.std.specs.Prelude.{ℕ, zero, suc, ◌+◌, ◌^◌, Bool, true, false, not, ◌&&◌, ◌||◌, ◌==◌, nat_lt, nat_le, nat_eq, if◌then◌else◌, List, [], ◌∷◌, length, map, sum_by, count_by, find, max, min, Option, Some, None, is_some, is_none, option_map, option_and_then, unwrap_or, codes, ◌++◌}
-use Rattle.std.specs.List.{filter_map, list_any}
+use Rattle.std.specs.Prelude.{ℕ, zero, suc, ◌+◌, ◌^◌, Bool, true, false, not, ◌&&◌, ◌||◌, ◌==◌, nat_lt, nat_le, nat_eq, if◌then◌else◌, List, [], ◌∷◌, length, map, sum_by, count_by, find, max, min, Option, Some, None, is_some, is_none, option_map, option_and_then, unwrap_or, codes}
+use Rattle.std.specs.List.{filter_map, list_all, list_any}
 use Rattle.std.specs.Str.{bytes_eq}
 use Rattle.omega_text.specs.Limits.{most_number}
 use Rattle.omega_text.specs.declared.refusal.automaton.AutomatonFault.{AutomatonFault}
@@ -9,7 +9,7 @@ use Rattle.omega_text.specs.declared.refusal.automaton.AutomatonFault.TheVariant
 use Rattle.omega_acc.specs.Expanding.{Defined, Entry, Meaning, entries_of, expansion}
 use Rattle.omega_acc.specs.Label.{label_size}
 use Rattle.omega_acc.specs.Limits.{most_depth, most_size}
-use Rattle.omega_acc.specs.RawLabel.{RawLabelTree, alias, conjunction, constant, disjunction, group, negation, proposition}
+use Rattle.omega_acc.specs.RawLabel.{RawLabelTree, raw_propositions}
 use Rattle.omega_raw.specs.declared.raw_automaton.RawAutomaton.{RawAutomaton}
 use Rattle.omega_raw.specs.declared.raw_edge.RawEdge.{RawEdge}
 use Rattle.omega_raw.specs.declared.raw_item.RawItem.{RawItem}
@@ -99,39 +99,33 @@ has_set_out_of_range raw =
     list_any (λ item. passes (λ accepted. list_any (nat_le (set_count raw)) (sets_of accepted.formula)) (acceptance_in item)) raw.items
     || list_any (is_marked (nat_le (set_count raw))) raw.states
 
--- the propositions of a label as it is written, from left to right
-abbrev pub numbers_in : RawLabelTree → List ℕ
-numbers_in (constant value) = []
-numbers_in (proposition number) = number ∷ []
-numbers_in (alias name) = []
-numbers_in (negation part) = numbers_in part
-numbers_in (conjunction left right) = numbers_in left ++ numbers_in right
-numbers_in (disjunction left right) = numbers_in left ++ numbers_in right
-numbers_in (group part) = numbers_in part
-
 -- whether a label of a state of the body or of an edge of it passes a test
 abbrev pub is_labelled : (RawLabelTree → Bool) → RawState → Bool
 is_labelled test state = passes test state.label || list_any (λ edge. passes test edge.label) state.edges
+
+-- the count of propositions, 0 where there is no `AP:`
+abbrev pub proposition_count : RawAutomaton → ℕ
+proposition_count raw = unwrap_or (option_map (λ named. named.count) (first_said propositions_in raw.items)) 0
 
 -- the names of the propositions, none where there is no `AP:`
 abbrev pub names_of : RawAutomaton → List (List ℕ)
 names_of raw = unwrap_or (option_map (λ named. named.names) (first_said propositions_in raw.items)) []
 
--- whether the names of propositions are not as many as stated, or alike, or too many
+-- whether the names of propositions are not as many as stated, or too many, or alike
 abbrev pub is_misnamed : Named → Bool
 is_misnamed named =
-    not (named.count == length named.names) || has_repeat bytes_eq named.names || nat_lt most_propositions (length named.names)
+    not (named.count == length named.names) || nat_lt most_propositions (length named.names) || has_repeat bytes_eq named.names
 
--- whether a label mentions a proposition that is not among so many
+-- whether a label mentions a proposition that is not below a count
 abbrev pub is_beyond : ℕ → RawLabelTree → Bool
-is_beyond count label = list_any (nat_le count) (numbers_in label)
+is_beyond count label = not (list_all (λ number. nat_lt number count) (raw_propositions label))
 
 -- 26: whether propositions are miscounted, alike or too many, or a label or an alias mentions one out of range
 unfoldable pub has_wrong_proposition : RawAutomaton → Bool
 has_wrong_proposition raw =
     list_any (λ item. passes is_misnamed (propositions_in item)) raw.items
-    || list_any (λ item. passes (λ defined. is_beyond (length (names_of raw)) defined.body) (alias_in item)) raw.items
-    || list_any (is_labelled (is_beyond (length (names_of raw)))) raw.states
+    || list_any (λ item. passes (λ defined. is_beyond (proposition_count raw) defined.body) (alias_in item)) raw.items
+    || list_any (is_labelled (is_beyond (proposition_count raw))) raw.states
 
 -- the aliases with their definitions, in the order of their items
 abbrev pub definitions_of : RawAutomaton → List Defined
@@ -177,7 +171,7 @@ is_miscounted count state =
 
 -- 30: whether a state without labels has edges, but not one for each valuation of the propositions
 unfoldable pub has_wrong_edge_count : RawAutomaton → Bool
-has_wrong_edge_count raw = list_any (is_miscounted (length (names_of raw))) raw.states
+has_wrong_edge_count raw = list_any (is_miscounted (proposition_count raw)) raw.states
 
 -- 31: whether an acceptance has an atom that is neither `Fin` nor `Inf`
 unfoldable pub has_wrong_atom : RawAutomaton → Bool
