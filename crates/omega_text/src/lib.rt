@@ -16,6 +16,7 @@ mod syntax;
 mod token;
 mod token_kind;
 mod token_reader;
+mod token_source;
 mod tokens;
 
 pub use cursor::Cursor;
@@ -30,3 +31,4 @@ pub use syntax::TextSyntax;
 pub use token::{Span, Token};
 pub use token_kind::TokenKind;
 pub use token_reader::TokenReader;
+pub use token_source::TokenSource;
