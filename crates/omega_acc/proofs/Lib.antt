@@ -10,6 +10,7 @@ pub mod KindLemmas
 pub mod LabelLemmas
 pub mod Parities
 pub mod PutLemmas
+pub mod RawAccLemmas
 pub mod RawLabelLemmas
 pub mod ReadingLemmas
 pub mod ReadingUniqueness

@@ -1,7 +1,7 @@
 -- Labels as they are written in postfix order: what makes nodes and names a label.
-use Rattle.std.proofs.Common.{◌≡◌, ℕ, ◌≤◌, List, [], ◌∷◌, ◌++◌, ap, append_assoc, sym, ◌∙◌}
+use Rattle.std.proofs.Common.{◌≡◌, ℕ, List, [], ◌∷◌, ◌++◌, ap, append_assoc, sym, ◌∙◌}
 use Rattle.omega_acc.specs.RawLabel.{RawLabelTree, conjunction, disjunction, group, negation, raw_depth}
-use Rattle.omega_acc.specs.Limits.{most_depth}
+use Rattle.omega_acc.specs.Depth.{counted}
 use Rattle.omega_acc.specs.layout.RawLabel.{IsRawLabel, alias_names, raw_postfix, raw_tree_of, raw_tree_of-postfix}
 use Rattle.omega_acc.specs.declared.raw_label.RawNode.{RawNode}
 use Rattle.omega_acc.specs.declared.raw_label.RawNode.TheVariants.{And, Group, Not, Or}
@@ -18,14 +18,13 @@ raw_tree-is tree nodes names are =
 
 -- a tree's nodes, names and depth are a label
 pub IsRawLabel-of : (tree : RawLabelTree) (nodes : List RawNode) (names : List ℕ) (deep : ℕ)
-    → AreOf tree nodes names → deep ≡ raw_depth tree → deep ≤ most_depth → IsRawLabel nodes names deep
-IsRawLabel-of tree nodes names deep are depth_is shallow =
+    → AreOf tree nodes names → deep ≡ counted (raw_depth tree) → IsRawLabel nodes names deep
+IsRawLabel-of tree nodes names deep are depth_is =
     let is : raw_tree_of nodes names ≡ tree = raw_tree-is tree nodes names are in
     record {
       flat = ap raw_postfix is ∙ sym are.flat;
       named = ap alias_names is ∙ sym are.named;
-      depth_is = ap raw_depth is ∙ sym depth_is;
-      shallow = shallow;
+      depth_is = ap (λ of. counted (raw_depth of)) is ∙ sym depth_is;
     }
 
 -- a label's nodes and names are those of the tree that is seen

@@ -1,8 +1,12 @@
--- What a refusal of an expression that grows says.
-use Rattle.std.specs.Prelude.{◌≡◌}
+-- How deep an expression is counted, and what a refusal of one that grows says.
+use Rattle.std.specs.Prelude.{◌≡◌, ℕ, min}
 use Rattle.omega_text.specs.declared.refusal.Refusal.{Refusal}
 use Rattle.omega_text.specs.declared.refusal.automaton.AutomatonFault.TheVariants.{TooDeep}
 use Rattle.omega_text.specs.Cases.{never, or_automaton, or_memory}
+
+-- a depth as it is counted: exact up to the limit, and one more beyond
+abbrev pub counted : ℕ → ℕ
+counted depth = min depth 257
 
 -- want of memory alone
 abbrev pub IsMemory : Refusal → Type 0

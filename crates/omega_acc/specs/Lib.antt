@@ -6,6 +6,7 @@ pub mod KindLaws
 pub mod Label
 pub mod Limits
 pub mod Names
+pub mod RawAcc
 pub mod RawLabel
 pub mod Reading
 pub mod Satisfiable

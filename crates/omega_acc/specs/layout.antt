@@ -8,6 +8,8 @@ pub mod Extents
 pub mod Joins
 pub mod Label
 pub mod LabelFields
+pub mod RawAcc
+pub mod RawAccFields
 pub mod RawLabel
 pub mod RawLabelFields
 pub mod Texts

@@ -1,9 +1,10 @@
-ghost use Rattle.std.specs.Prelude.{◌≡◌, ◌≤◌, [], ◌∷◌, ◌++◌, max, IfErr, IfOk};
+ghost use Rattle.std.specs.Prelude.{◌≡◌, ◌≤◌, max, IfErr, IfOk};
 ghost use Rattle.omega_acc.specs.Acceptance.{acc_depth, conjunction, constant as constant_tree, disjunction, fin as fin_tree, inf as inf_tree};
 ghost use Rattle.omega_acc.specs.Depth.{IsDeeper, IsMemory};
 ghost use Rattle.omega_acc.specs.Limits.{most_depth};
 
 use crate::depth::deeper;
+use crate::postfix::{alone, with_all, with_one};
 use omega_text::{Refusal, Seq};
 use std::alloc::Global;
 use std::marker::Model;
@@ -56,7 +57,7 @@ impl Acc {
         ensures err { IfErr result IsMemory }
     {
         Ok(Acc {
-            nodes: node_alone(alloc, AccNode::Constant(value))?,
+            nodes: alone(alloc, AccNode::Constant(value))?,
             depth: 1,
         })
     }
@@ -67,7 +68,7 @@ impl Acc {
         ensures err { IfErr result IsMemory }
     {
         Ok(Acc {
-            nodes: node_alone(alloc, AccNode::Inf(negated, set))?,
+            nodes: alone(alloc, AccNode::Inf(negated, set))?,
             depth: 1,
         })
     }
@@ -78,7 +79,7 @@ impl Acc {
         ensures err { IfErr result IsMemory }
     {
         Ok(Acc {
-            nodes: node_alone(alloc, AccNode::Fin(negated, set))?,
+            nodes: alone(alloc, AccNode::Fin(negated, set))?,
             depth: 1,
         })
     }
@@ -89,8 +90,9 @@ impl Acc {
         ensures err { IfErr result (IsDeeper (max (acc_depth self) (acc_depth other) ≡ most_depth)) }
     {
         let depth = deeper(self.depth.max(other.depth))?;
+        let nodes = with_all(self.nodes, other.nodes)?;
         Ok(Acc {
-            nodes: with_node(with_nodes(self.nodes, other.nodes)?, AccNode::And)?,
+            nodes: with_one(nodes, AccNode::And)?,
             depth,
         })
     }
@@ -101,8 +103,9 @@ impl Acc {
         ensures err { IfErr result (IsDeeper (max (acc_depth self) (acc_depth other) ≡ most_depth)) }
     {
         let depth = deeper(self.depth.max(other.depth))?;
+        let nodes = with_all(self.nodes, other.nodes)?;
         Ok(Acc {
-            nodes: with_node(with_nodes(self.nodes, other.nodes)?, AccNode::Or)?,
+            nodes: with_one(nodes, AccNode::Or)?,
             depth,
         })
     }
@@ -121,34 +124,4 @@ impl Acc {
     {
         self.nodes.as_slice()
     }
-}
-
-/// One node.
-fn node_alone(alloc: Global, node: AccNode) -> Result<Seq<AccNode>, Refusal>
-    ensures ok { IfOk result (λ nodes. nodes ≡ node ∷ []) }
-    ensures err { IfErr result IsMemory }
-{
-    let mut nodes = Vec::new(alloc);
-    nodes.push(node)?;
-    Ok(Seq::from_vec(nodes))
-}
-
-/// Nodes and one more.
-fn with_node(nodes: Seq<AccNode>, node: AccNode) -> Result<Seq<AccNode>, Refusal>
-    ensures ok { IfOk result (λ more. more ≡ nodes ++ node ∷ []) }
-    ensures err { IfErr result IsMemory }
-{
-    let mut nodes = nodes.into_vec();
-    nodes.push(node)?;
-    Ok(Seq::from_vec(nodes))
-}
-
-/// Nodes and more of them.
-fn with_nodes(nodes: Seq<AccNode>, others: Seq<AccNode>) -> Result<Seq<AccNode>, Refusal>
-    ensures ok { IfOk result (λ more. more ≡ nodes ++ others) }
-    ensures err { IfErr result IsMemory }
-{
-    let mut nodes = nodes.into_vec();
-    nodes.extend_from_slice(others.as_slice())?;
-    Ok(Seq::from_vec(nodes))
 }

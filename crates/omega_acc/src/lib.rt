@@ -13,7 +13,9 @@ mod laws;
 mod limits;
 mod mentioned;
 mod pending;
+mod postfix;
 mod priorities;
+mod raw_acc;
 mod raw_label;
 mod reading;
 mod recognition;
@@ -34,6 +36,7 @@ pub use limits::{
     MOST_BUCHI_SETS, MOST_DEPTH, MOST_MENTIONED, MOST_SIZE, expression_limits_are_stated,
 };
 pub use priorities::priority;
+pub use raw_acc::RawAcc;
 pub use raw_label::RawLabel;
 pub use reading::read_label;
 pub use recognition::{acceptance_kind, parity_of};

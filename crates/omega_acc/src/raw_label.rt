@@ -1,9 +1,11 @@
-ghost use Rattle.std.specs.Prelude.{◌≡◌, ◌≤◌, [], ◌∷◌, ◌++◌, max, IfErr, IfOk};
+ghost use Rattle.std.specs.Prelude.{◌≡◌, ◌<◌, ◌≤◌, ◌↔◌, IsTrue, max, IfErr, IfOk};
 ghost use Rattle.omega_acc.specs.RawLabel.{alias as alias_tree, conjunction, constant as constant_tree, disjunction, group as group_tree, negation, proposition as proposition_tree, raw_depth};
-ghost use Rattle.omega_acc.specs.Depth.{IsDeeper, IsMemory};
+ghost use Rattle.omega_acc.specs.Depth.{IsDeeper, IsMemory, counted};
 ghost use Rattle.omega_acc.specs.Limits.{most_depth};
 
 use crate::depth::deeper;
+use crate::limits::MOST_DEPTH;
+use crate::postfix::{alone, with_all, with_one};
 use omega_text::{Refusal, Seq};
 use std::alloc::Global;
 use std::marker::Model;
@@ -20,9 +22,9 @@ pub(crate) enum RawNode {
     Group,
 }
 
-/// A label as it is written, with alias names and parentheses, at most 256 deep, where an alias name has depth 1.
+/// A label as it is written, with alias names and parentheses, of any depth, where an alias name has depth 1.
 ///
-/// Contracts see its tree. Reading, comparing and dropping it need no recursion.
+/// Contracts see its tree. Reading, measuring, comparing and dropping it need no recursion.
 #[derive(Debug, PartialEq, Eq, Drop)]
 pub struct RawLabel {
     nodes: Seq<RawNode>,
@@ -31,6 +33,7 @@ pub struct RawLabel {
 }
 
 impl Model for RawLabel {
+    ghost use Rattle.omega_acc.specs.Depth.{counted};
     ghost use Rattle.omega_acc.specs.RawLabel.{RawLabelTree, raw_depth};
     ghost use Rattle.omega_acc.specs.layout.RawLabel.{IsRawLabel, alias_names, raw_label_code, raw_postfix, raw_tree_of};
 
@@ -44,7 +47,7 @@ impl Model for RawLabel {
 
     ghost invariant = { λ a. IsRawLabel a.nodes a.names a.depth };
 
-    ghost inverse = { λ tree. record { nodes = raw_postfix tree; names = alias_names tree; depth = raw_depth tree } };
+    ghost inverse = { λ tree. record { nodes = raw_postfix tree; names = alias_names tree; depth = counted (raw_depth tree) } };
 
     ghost inverse_ok = { raw_label_given_back };
 }
@@ -58,7 +61,7 @@ impl RawLabel {
         ensures err { IfErr result IsMemory }
     {
         Ok(RawLabel {
-            nodes: node_alone(alloc, RawNode::Constant(value))?,
+            nodes: alone(alloc, RawNode::Constant(value))?,
             names: Seq::new(alloc),
             depth: 1,
         })
@@ -70,7 +73,7 @@ impl RawLabel {
         ensures err { IfErr result IsMemory }
     {
         Ok(RawLabel {
-            nodes: node_alone(alloc, RawNode::Proposition(number))?,
+            nodes: alone(alloc, RawNode::Proposition(number))?,
             names: Seq::new(alloc),
             depth: 1,
         })
@@ -84,7 +87,7 @@ impl RawLabel {
         let mut names = Vec::new(alloc);
         names.extend_from_slice(name)?;
         Ok(RawLabel {
-            nodes: node_alone(alloc, RawNode::Alias(name.len()))?,
+            nodes: alone(alloc, RawNode::Alias(name.len()))?,
             names: Seq::from_vec(names),
             depth: 1,
         })
@@ -93,11 +96,12 @@ impl RawLabel {
     /// `!` before the label, which stands in parentheses only if it is a group. Refusal 32 where it would be too deep.
     pub fn not(self) -> Result<RawLabel, Refusal>
         ensures ok { IfOk result (λ label. label ≡ negation self) }
-        ensures err { IfErr result (IsDeeper (raw_depth self ≡ most_depth)) }
+        ensures shallow { IfOk result (λ label. raw_depth label ≤ most_depth) }
+        ensures err { IfErr result (IsDeeper (most_depth ≤ raw_depth self)) }
     {
         let depth = deeper(self.depth)?;
         Ok(RawLabel {
-            nodes: with_node(self.nodes, RawNode::Not)?,
+            nodes: with_one(self.nodes, RawNode::Not)?,
             names: self.names,
             depth,
         })
@@ -106,11 +110,12 @@ impl RawLabel {
     /// The label in parentheses. Refusal 32 where it would be too deep.
     pub fn group(self) -> Result<RawLabel, Refusal>
         ensures ok { IfOk result (λ label. label ≡ group_tree self) }
-        ensures err { IfErr result (IsDeeper (raw_depth self ≡ most_depth)) }
+        ensures shallow { IfOk result (λ label. raw_depth label ≤ most_depth) }
+        ensures err { IfErr result (IsDeeper (most_depth ≤ raw_depth self)) }
     {
         let depth = deeper(self.depth)?;
         Ok(RawLabel {
-            nodes: with_node(self.nodes, RawNode::Group)?,
+            nodes: with_one(self.nodes, RawNode::Group)?,
             names: self.names,
             depth,
         })
@@ -119,12 +124,14 @@ impl RawLabel {
     /// Both labels joined by `&`. Refusal 32 where they would be too deep.
     pub fn and(self, other: RawLabel) -> Result<RawLabel, Refusal>
         ensures ok { IfOk result (λ label. label ≡ conjunction self other) }
-        ensures err { IfErr result (IsDeeper (max (raw_depth self) (raw_depth other) ≡ most_depth)) }
+        ensures shallow { IfOk result (λ label. raw_depth label ≤ most_depth) }
+        ensures err { IfErr result (IsDeeper (most_depth ≤ max (raw_depth self) (raw_depth other))) }
     {
         let depth = deeper(self.depth.max(other.depth))?;
+        let nodes = with_all(self.nodes, other.nodes)?;
         Ok(RawLabel {
-            nodes: with_node(with_nodes(self.nodes, other.nodes)?, RawNode::And)?,
-            names: with_names(self.names, other.names)?,
+            nodes: with_one(nodes, RawNode::And)?,
+            names: with_all(self.names, other.names)?,
             depth,
         })
     }
@@ -132,14 +139,30 @@ impl RawLabel {
     /// Both labels joined by `|`. Refusal 32 where they would be too deep.
     pub fn or(self, other: RawLabel) -> Result<RawLabel, Refusal>
         ensures ok { IfOk result (λ label. label ≡ disjunction self other) }
-        ensures err { IfErr result (IsDeeper (max (raw_depth self) (raw_depth other) ≡ most_depth)) }
+        ensures shallow { IfOk result (λ label. raw_depth label ≤ most_depth) }
+        ensures err { IfErr result (IsDeeper (most_depth ≤ max (raw_depth self) (raw_depth other))) }
     {
         let depth = deeper(self.depth.max(other.depth))?;
+        let nodes = with_all(self.nodes, other.nodes)?;
         Ok(RawLabel {
-            nodes: with_node(with_nodes(self.nodes, other.nodes)?, RawNode::Or)?,
-            names: with_names(self.names, other.names)?,
+            nodes: with_one(nodes, RawNode::Or)?,
+            names: with_all(self.names, other.names)?,
             depth,
         })
+    }
+
+    /// Its depth up to 256, and 257 where it is deeper.
+    pub fn depth(&self) -> u32
+        ensures { result ≡ counted (raw_depth self.now) }
+    {
+        self.depth
+    }
+
+    /// Whether it is over 256 deep.
+    pub fn is_too_deep(&self) -> bool
+        ensures { IsTrue result ↔ (most_depth < raw_depth self.now) }
+    {
+        self.depth > MOST_DEPTH
     }
 
     /// The label of nodes in postfix order, alias names and a depth.
@@ -167,44 +190,4 @@ impl RawLabel {
     {
         self.names.as_slice()
     }
-}
-
-/// One node.
-fn node_alone(alloc: Global, node: RawNode) -> Result<Seq<RawNode>, Refusal>
-    ensures ok { IfOk result (λ nodes. nodes ≡ node ∷ []) }
-    ensures err { IfErr result IsMemory }
-{
-    let mut nodes = Vec::new(alloc);
-    nodes.push(node)?;
-    Ok(Seq::from_vec(nodes))
-}
-
-/// Nodes and one more.
-fn with_node(nodes: Seq<RawNode>, node: RawNode) -> Result<Seq<RawNode>, Refusal>
-    ensures ok { IfOk result (λ more. more ≡ nodes ++ node ∷ []) }
-    ensures err { IfErr result IsMemory }
-{
-    let mut nodes = nodes.into_vec();
-    nodes.push(node)?;
-    Ok(Seq::from_vec(nodes))
-}
-
-/// Nodes and more of them.
-fn with_nodes(nodes: Seq<RawNode>, others: Seq<RawNode>) -> Result<Seq<RawNode>, Refusal>
-    ensures ok { IfOk result (λ more. more ≡ nodes ++ others) }
-    ensures err { IfErr result IsMemory }
-{
-    let mut nodes = nodes.into_vec();
-    nodes.extend_from_slice(others.as_slice())?;
-    Ok(Seq::from_vec(nodes))
-}
-
-/// Names and more of them.
-fn with_names(names: Seq<u8>, others: Seq<u8>) -> Result<Seq<u8>, Refusal>
-    ensures ok { IfOk result (λ more. more ≡ names ++ others) }
-    ensures err { IfErr result IsMemory }
-{
-    let mut names = names.into_vec();
-    names.extend_from_slice(others.as_slice())?;
-    Ok(Seq::from_vec(names))
 }

@@ -1,5 +1,6 @@
 -- How a label is built from its tokens: what is still open before the part that stands last.
-use Rattle.std.specs.Prelude.{◌≡◌, ℕ, List, [], ◌∷◌, ◌++◌, map, min}
+use Rattle.std.specs.Prelude.{◌≡◌, ℕ, List, [], ◌∷◌, ◌++◌, map}
+use Rattle.omega_acc.specs.Depth.{counted}
 use Rattle.omega_acc.specs.RawLabel.{RawLabelTree, raw_depth}
 use Rattle.omega_acc.specs.Reading.{IsOf, Rank, Reads, Symbol, conjunctive, disjunctive, sign, spelled, symbol_of, unary}
 use Rattle.omega_acc.specs.declared.pending.Pending.{Pending}
@@ -19,9 +20,9 @@ pub data Before : Type 0 where
   anded : Before → RawLabelTree → Before
   ored : Before → RawLabelTree → Before
 
--- a depth, no further than just past the limit
+-- its depth as it is counted
 abbrev pub capped : RawLabelTree → ℕ
-capped tree = min (raw_depth tree) 257
+capped tree = counted (raw_depth tree)
 
 -- its symbols
 abbrev pub before_symbols : Before → List Symbol

@@ -1,8 +1,8 @@
 -- How a label as it is written lies in memory: its tree in postfix order, and its alias names one after another.
-use Rattle.std.specs.Prelude.{◌≡◌, ℕ, ◌≤◌, false, List, [], ◌∷◌, ◌++◌, length, take, drop}
+use Rattle.std.specs.Prelude.{◌≡◌, ℕ, false, List, [], ◌∷◌, ◌++◌, length, take, drop}
 use Rattle.std.specs.Coded.{Coded, code_by, coded_list, coded×, coded_ℕ}
 use Rattle.omega_acc.specs.RawLabel.{RawLabelTree, alias, conjunction, constant, disjunction, group, negation, proposition, raw_depth}
-use Rattle.omega_acc.specs.Limits.{most_depth}
+use Rattle.omega_acc.specs.Depth.{counted}
 use Rattle.omega_acc.specs.layout.Joins.{regrouped}
 use Rattle.omega_acc.specs.contracts.raw_label.RawNode as node
 use Rattle.omega_acc.specs.declared.raw_label.RawNode.{RawNode}
@@ -95,9 +95,8 @@ raw_label_code =
     code_by (List RawNode × List ℕ) (coded× (coded_list node.the_row.coded) (coded_list coded_ℕ))
     (λ tree. (raw_postfix tree, alias_names tree)) (λ stored. raw_tree_of stored.0 stored.1) raw_tree_of-postfix
 
--- nodes and names that are a tree in postfix order, with its depth, which is within the limit
+-- nodes and names that are a tree in postfix order, with its depth as it is counted
 pub record IsRawLabel (nodes : List RawNode) (names : List ℕ) (deep : ℕ) : Type 0 where
   pub flat : raw_postfix (raw_tree_of nodes names) ≡ nodes
   pub named : alias_names (raw_tree_of nodes names) ≡ names
-  pub depth_is : raw_depth (raw_tree_of nodes names) ≡ deep
-  pub shallow : deep ≤ most_depth
+  pub depth_is : counted (raw_depth (raw_tree_of nodes names)) ≡ deep

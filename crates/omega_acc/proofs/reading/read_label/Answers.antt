@@ -16,7 +16,7 @@ pub of_nodes-requires : goal.of_nodes-requires
 of_nodes-requires c =
     let read = rw c.if-branch.false at (c.in_ok-goes_on.ensures.more c.args.cursor.now.0 c.loop-unfinished.invariant) in
     IsRawLabel-of read.tree _ _ _ (record { flat = read.flat; named = read.named })
-    (omega (arith, read.deep, c.if-unfinished-gt-MOST_DEPTH.false)) (omega (arith, read.deep, c.if-unfinished-gt-MOST_DEPTH.false))
+    read.deep
 
 pub returns-clause-ok : goal.returns-clause-ok
 returns-clause-ok c =

@@ -11,7 +11,7 @@ invariant_of-result c =
     IsAcc-of (disjunction c.args.self c.args.other) _ _
     (acc_nodes-disjunction c.args.self c.args.other _ _ _ _
     (acc_nodes-seen _ _ _ c.self.invariant c.self.view_is) (acc_nodes-seen _ _ _ c.other.invariant c.other.view_is)
-    c.in_ok-with_nodes.ensures.ok c.in_ok-with_node.ensures.ok)
+    c.in_ok-nodes.ensures.ok c.in_ok-with_one.ensures.ok)
     (omega (arith, c.in_ok-depth.ensures.ok.0, c.max.ensures, c.self.invariant.depth_is, c.other.invariant.depth_is))
     c.in_ok-depth.ensures.ok.1
 
@@ -20,4 +20,4 @@ returns-clause-ok c =
     acc_tree-is (disjunction c.args.self c.args.other) _
     (acc_nodes-disjunction c.args.self c.args.other _ _ _ _
     (acc_nodes-seen _ _ _ c.self.invariant c.self.view_is) (acc_nodes-seen _ _ _ c.other.invariant c.other.view_is)
-    c.in_ok-with_nodes.ensures.ok c.in_ok-with_node.ensures.ok)
+    c.in_ok-nodes.ensures.ok c.in_ok-with_one.ensures.ok)

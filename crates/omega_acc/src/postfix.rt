@@ -1,0 +1,37 @@
+//! Nodes in postfix order, and the names that stand beside them.
+
+ghost use Rattle.std.specs.Prelude.{◌≡◌, ◌∷◌, ◌++◌, [], IfErr, IfOk};
+ghost use Rattle.omega_acc.specs.Depth.{IsMemory};
+
+use omega_text::{Refusal, Seq};
+use std::alloc::Global;
+
+/// One node.
+pub(crate) fn alone<N: Drop>(alloc: Global, node: N) -> Result<Seq<N>, Refusal>
+    ensures ok { IfOk result (λ nodes. nodes ≡ node ∷ []) }
+    ensures err { IfErr result IsMemory }
+{
+    let mut nodes = Vec::new(alloc);
+    nodes.push(node)?;
+    Ok(Seq::from_vec(nodes))
+}
+
+/// Nodes and one more.
+pub(crate) fn with_one<N: Drop>(nodes: Seq<N>, node: N) -> Result<Seq<N>, Refusal>
+    ensures ok { IfOk result (λ more. more ≡ nodes ++ node ∷ []) }
+    ensures err { IfErr result IsMemory }
+{
+    let mut nodes = nodes.into_vec();
+    nodes.push(node)?;
+    Ok(Seq::from_vec(nodes))
+}
+
+/// Nodes and more of them.
+pub(crate) fn with_all<N: Copy>(nodes: Seq<N>, others: Seq<N>) -> Result<Seq<N>, Refusal>
+    ensures ok { IfOk result (λ more. more ≡ nodes ++ others) }
+    ensures err { IfErr result IsMemory }
+{
+    let mut nodes = nodes.into_vec();
+    nodes.extend_from_slice(others.as_slice())?;
+    Ok(Seq::from_vec(nodes))
+}
