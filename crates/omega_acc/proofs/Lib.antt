@@ -1,5 +1,8 @@
 pub mod AccLemmas
+pub mod AccReadingLemmas
+pub mod AccUnread
 pub mod AliasLemmas
+pub mod AtomLemmas
 pub mod BuchiLemmas
 pub mod ChainLemmas
 pub mod EmitLemmas
@@ -9,6 +12,8 @@ pub mod ExtentLemmas
 pub mod KindLemmas
 pub mod LabelLemmas
 pub mod Parities
+pub mod PassingLemmas
+pub mod PendingLemmas
 pub mod PutLemmas
 pub mod RawAccLemmas
 pub mod RawLabelLemmas

@@ -1,39 +1,21 @@
 -- Labels built from their tokens.
-use Rattle.std.proofs.Common.{◌≡◌, ℕ, ◌+◌, zero, suc, Bool, true, false, List, [], ◌∷◌, ◌++◌, map, max, min, ap, append_assoc, refl, sym, ◌∙◌, subst, arith, Result, Ok, Err, IfErr, IsErrAnd}
+use Rattle.std.proofs.Common.{◌≡◌, ℕ, ◌+◌, zero, suc, Bool, true, false, List, [], ◌∷◌, ◌++◌, map, max, min, ap, append_assoc, refl, sym, ◌∙◌, subst, arith}
 use Rattle.std.proofs.lemmas.List.{map-append}
 use Rattle.omega_acc.specs.RawLabel.{RawLabelTree, alias, conjunction, constant, disjunction, group, negation, proposition}
-use Rattle.omega_acc.specs.Reading.{EndsThere, IsNoOperator, IsOf, IsUnread, Rank, Reads, ReadsNone, Symbol, conjunctive, disjunctive, name, number, seen_as, sign, spelled, symbol_of, truth_kind, unary}
+use Rattle.omega_acc.specs.Reading.{IsOf, Reads, ReadsNone, spelled}
+use Rattle.omega_acc.specs.Symbols.{EndsThere, IsNoOperator, Rank, Symbol, conjunctive, disjunctive, name, number, seen_as, sign, symbol_of, truth_kind, unary}
 use Rattle.omega_acc.specs.declared.pending.Pending.{Pending}
 use Rattle.omega_acc.specs.declared.pending.Pending.TheVariants.{And, Not, Open, Or}
 use Rattle.omega_acc.specs.declared.raw_label.RawNode.{RawNode}
 use Rattle.omega_acc.specs.declared.raw_label.RawNode.TheVariants as node
-use Rattle.omega_acc.specs.layout.Building.{Before, Fits, Has, IsOpen, NextIsNot, Passed, PassesOne, Wants, anded, before_names, before_nodes, before_pending, before_symbols, capped, denied, opened, ored, start}
+use Rattle.omega_acc.specs.layout.Building.{Before, Fits, Has, IsOpen, Wants, anded, before_names, before_nodes, before_pending, before_symbols, capped, denied, opened, ored, start}
+use Rattle.omega_acc.specs.layout.Passing.{NextIsNot, Passed, PassesOne}
 use Rattle.omega_acc.specs.layout.RawLabel.{alias_names, raw_postfix}
+use Rattle.omega_acc.proofs.PassingLemmas.{GoOnNone, GoesOnNone, enclosed_list, end_others, followed_lists, go_on_others, joined_lists, passed_next, passed_same}
+use Rattle.omega_acc.proofs.PendingLemmas.{IsBar, IsConjunct, IsDisjunct, IsFree, IsLoose, IsNothing, IsParenthesis, below, free_open, kept, top}
 use Rattle.omega_text.specs.Lexeme.{Lexeme}
 use Rattle.omega_text.specs.declared.hoa.kind.HoaKind.{HoaKind}
 use Rattle.omega_text.specs.declared.hoa.kind.HoaKind.TheVariants as kind
-use Rattle.omega_text.specs.declared.refusal.Refusal.{Refusal}
-use Rattle.omega_text.specs.declared.refusal.Refusal.TheVariants as refusals
-
--- a token more is passed
-passed_more : (whole : List (Lexeme HoaKind)) (symbols : List Symbol) (lexeme : Lexeme HoaKind) (left : List (Lexeme HoaKind)) (more : List Symbol)
-    → Passed whole symbols (lexeme ∷ left) → more ≡ symbols ++ symbol_of lexeme ∷ [] → Passed whole more left
-passed_more whole symbols lexeme left more passed is = record {
-  front = passed.front ++ lexeme ∷ [];
-  split = passed.split ∙ sym (append_assoc passed.front (lexeme ∷ []) left);
-  spells = map-append symbol_of passed.front (lexeme ∷ []) ∙ (ap (λ front. front ++ symbol_of lexeme ∷ []) passed.spells ∙ sym is);
-}
-
--- the same symbols otherwise grouped
-passed_same : (whole left : List (Lexeme HoaKind)) (symbols more : List Symbol)
-    → Passed whole symbols left → more ≡ symbols → Passed whole more left
-passed_same whole left symbols more passed is = record { front = passed.front; split = passed.split; spells = passed.spells ∙ sym is }
-
--- the next token
-passed_next : (whole old left : List (Lexeme HoaKind)) (lexeme : Lexeme HoaKind) (symbols more : List Symbol) (symbol : Symbol)
-    → Passed whole symbols old → old ≡ lexeme ∷ left → symbol_of lexeme ≡ symbol → more ≡ symbols ++ symbol ∷ [] → Passed whole more left
-passed_next whole old left lexeme symbols more symbol passed next is grouped =
-    passed_more whole symbols lexeme left more (subst (Passed whole symbols) next passed) (grouped ∙ ap (λ s. symbols ++ s ∷ []) (sym is))
 
 -- nothing has been read
 pub wants_first : (whole : List (Lexeme HoaKind)) → Wants whole whole [] [] []
@@ -120,64 +102,6 @@ has_atom whole old left lexeme nodes names pending tree all_nodes all_names all_
   passed = passed_next whole old left lexeme _ _ _ wants.passed next refl (ap (λ symbols. before_symbols wants.before ++ symbols) (atom_spelled tree (symbol_of lexeme) is));
 }
 
--- what is pending below the top
-abbrev below : List Pending → List Pending
-below [] = []
-below (pending ∷ rest) = rest
-
--- the depth that the top keeps
-abbrev kept : List Pending → ℕ
-kept (And depth ∷ rest) = depth
-kept (Or depth ∷ rest) = depth
-kept pending = 0
-
--- what is on top
-pub data Top : Type 0 where
-  nothing : Top
-  parenthesis : Top
-  bar : Top
-  conjunct : Top
-  disjunct : Top
-
-abbrev top : List Pending → Top
-top [] = nothing
-top (Open ∷ rest) = parenthesis
-top (Not ∷ rest) = bar
-top (And depth ∷ rest) = conjunct
-top (Or depth ∷ rest) = disjunct
-
-abbrev IsBar : Top → Type 0
-IsBar bar = Unit {0}
-IsBar other = ⊥
-
-abbrev IsConjunct : Top → Type 0
-IsConjunct conjunct = Unit {0}
-IsConjunct other = ⊥
-
-abbrev IsDisjunct : Top → Type 0
-IsDisjunct disjunct = Unit {0}
-IsDisjunct other = ⊥
-
-abbrev IsParenthesis : Top → Type 0
-IsParenthesis parenthesis = Unit {0}
-IsParenthesis other = ⊥
-
-abbrev IsNothing : Top → Type 0
-IsNothing nothing = Unit {0}
-IsNothing other = ⊥
-
--- neither `!` nor `&` is on top
-abbrev pub IsLoose : List Pending → Type 0
-IsLoose (Not ∷ rest) = ⊥
-IsLoose (And depth ∷ rest) = ⊥
-IsLoose pending = Unit {0}
-
--- no operator is on top
-abbrev pub IsFree : List Pending → Type 0
-IsFree [] = Unit {0}
-IsFree (Open ∷ rest) = Unit {0}
-IsFree pending = ⊥
-
 -- `!` and a part
 negated_before : (before : Before) (whole left : List (Lexeme HoaKind)) (depth deeper : ℕ) (nodes : List RawNode) (names : List ℕ) (rest : List Pending) (part : RawLabelTree)
     → IsOf unary part → IsOpen before → depth ≡ capped part → deeper ≡ min (depth + 1) 257 → nodes ≡ before_nodes before ++ raw_postfix part
@@ -207,17 +131,6 @@ has_negated whole left depth deeper nodes all names pending rest waits ended mor
     subst (λ final. Has unary whole left deeper final names rest) (sym ended)
     (negated_before has.before whole left depth deeper nodes names rest has.part has.is has.sound has.deep more has.flat has.named (sym waits ∙ has.pends) has.passed)
 
--- joined lists regrouped
-joined_symbols : (before left right : List Symbol) (symbol : Symbol)
-    → before ++ (left ++ symbol ∷ right) ≡ (before ++ (left ++ symbol ∷ [])) ++ right
-joined_symbols before left right symbol =
-    sym (append_assoc before (left ++ symbol ∷ []) right ∙ ap (λ more. before ++ more) (append_assoc left (symbol ∷ []) right))
-
-joined_nodes : (before left right : List RawNode) (node : RawNode)
-    → ((before ++ left) ++ right) ++ node ∷ [] ≡ before ++ (left ++ (right ++ node ∷ []))
-joined_nodes before left right node =
-    append_assoc (before ++ left) right (node ∷ []) ∙ append_assoc before left (right ++ node ∷ [])
-
 -- a part behind `&`
 conjoined_before : (before : Before) (whole left : List (Lexeme HoaKind)) (depth other deeper : ℕ) (nodes : List RawNode) (names : List ℕ) (rest : List Pending) (part : RawLabelTree)
     → IsOf unary part → IsOpen before → depth ≡ capped part → deeper ≡ min (max depth other + 1) 257 → nodes ≡ before_nodes before ++ raw_postfix part
@@ -236,10 +149,10 @@ conjoined_before (anded before first) whole left depth other deeper nodes names 
       fits = sound.1.0;
       sound = sound.1.1;
       deep = omega (arith, deep, more, first_deep);
-      flat = ap (λ front. front ++ node.And ∷ []) flat ∙ joined_nodes (before_nodes before) (raw_postfix first) (raw_postfix part) node.And;
+      flat = ap (λ front. front ++ node.And ∷ []) flat ∙ followed_lists (before_nodes before) (raw_postfix first) (raw_postfix part) node.And;
       named = named ∙ append_assoc (before_names before) (alias_names first) (alias_names part);
       pends = ap below pends;
-      passed = passed_same whole left _ _ passed (joined_symbols (before_symbols before) (spelled first) (spelled part) (sign kind.And));
+      passed = passed_same whole left _ _ passed (joined_lists (before_symbols before) (spelled first) (spelled part) (sign kind.And));
     }
 
 pub has_conjoined : (whole left : List (Lexeme HoaKind)) (depth other deeper : ℕ) (nodes all : List RawNode) (names : List ℕ) (pending rest : List Pending)
@@ -267,10 +180,10 @@ disjoined_before (ored before first) whole left depth other deeper nodes names r
       fits = sound.1.0;
       sound = sound.1.1;
       deep = omega (arith, deep, more, first_deep);
-      flat = ap (λ front. front ++ node.Or ∷ []) flat ∙ joined_nodes (before_nodes before) (raw_postfix first) (raw_postfix part) node.Or;
+      flat = ap (λ front. front ++ node.Or ∷ []) flat ∙ followed_lists (before_nodes before) (raw_postfix first) (raw_postfix part) node.Or;
       named = named ∙ append_assoc (before_names before) (alias_names first) (alias_names part);
       pends = ap below pends;
-      passed = passed_same whole left _ _ passed (joined_symbols (before_symbols before) (spelled first) (spelled part) (sign kind.Or));
+      passed = passed_same whole left _ _ passed (joined_lists (before_symbols before) (spelled first) (spelled part) (sign kind.Or));
     }
 
 pub has_disjoined : (whole left : List (Lexeme HoaKind)) (depth other deeper : ℕ) (nodes all : List RawNode) (names : List ℕ) (pending rest : List Pending)
@@ -395,12 +308,6 @@ wants_disjunct whole old left lexeme depth nodes names pending has next is = rec
   passed = passed_next whole old left lexeme _ _ _ has.passed next is (sym (append_assoc (before_symbols has.before) (spelled has.part) (sign kind.Or ∷ [])));
 }
 
--- a part and its `)`
-grouped_symbols : (before part : List Symbol) (first last : Symbol)
-    → before ++ first ∷ (part ++ last ∷ []) ≡ ((before ++ first ∷ []) ++ part) ++ last ∷ []
-grouped_symbols before part first last =
-    sym (append_assoc (before ++ first ∷ []) part (last ∷ []) ∙ append_assoc before (first ∷ []) (part ++ last ∷ []))
-
 grouped_before : (before : Before) (whole old left : List (Lexeme HoaKind)) (lexeme : Lexeme HoaKind) (depth deeper : ℕ) (nodes : List RawNode) (names : List ℕ) (rest : List Pending) (part : RawLabelTree)
     → IsOf disjunctive part → IsOpen before → depth ≡ capped part → deeper ≡ min (depth + 1) 257 → nodes ≡ before_nodes before ++ raw_postfix part
     → names ≡ before_names before ++ alias_names part → Open ∷ rest ≡ before_pending before → Passed whole (before_symbols before ++ spelled part) old
@@ -420,7 +327,7 @@ grouped_before (opened before) whole old left lexeme depth deeper nodes names re
   flat = ap (λ front. front ++ node.Group ∷ []) flat ∙ append_assoc (before_nodes before) (raw_postfix part) (node.Group ∷ []);
   named = named;
   pends = ap below pends;
-  passed = passed_next whole old left lexeme _ _ _ passed next closes (grouped_symbols (before_symbols before) (spelled part) (sign kind.OpenParenthesis) (sign kind.CloseParenthesis));
+  passed = passed_next whole old left lexeme _ _ _ passed next closes (enclosed_list (before_symbols before) (spelled part) (sign kind.OpenParenthesis) (sign kind.CloseParenthesis));
 }
 
 pub has_grouped : (whole old left : List (Lexeme HoaKind)) (lexeme : Lexeme HoaKind) (depth deeper : ℕ) (nodes all : List RawNode) (names : List ℕ) (pending rest : List Pending)
@@ -559,25 +466,9 @@ IsThrough ended = Unit {0}
 IsThrough other = ⊥
 
 ended-kind : (kind : HoaKind) (value : ℕ) (text : List ℕ) → IsNoOperator kind → go (had 0) (seen_as kind value text) ≡ ended
-ended-kind kind.Identifier value text none = refl
-ended-kind kind.HeaderName value text none = refl
-ended-kind kind.AliasName value text none = refl
-ended-kind kind.True value text none = refl
-ended-kind kind.False value text none = refl
-ended-kind kind.Int value text none = refl
-ended-kind kind.String value text none = refl
-ended-kind kind.Body value text none = refl
-ended-kind kind.End value text none = refl
-ended-kind kind.Abort value text none = refl
-ended-kind kind.Not value text none = refl
 ended-kind kind.And value text none = absurd none
 ended-kind kind.Or value text none = absurd none
-ended-kind kind.OpenParenthesis value text none = refl
-ended-kind kind.CloseParenthesis value text none = refl
-ended-kind kind.OpenBracket value text none = refl
-ended-kind kind.CloseBracket value text none = refl
-ended-kind kind.OpenBrace value text none = refl
-ended-kind kind.CloseBrace value text none = refl
+ended-kind other value text none = refl
 
 through-rest : (rest : List (Lexeme HoaKind)) → EndsThere rest → IsThrough (run (had 0) (map symbol_of rest))
 through-rest [] ends = tt
@@ -602,63 +493,24 @@ BeginsNone kind.OpenParenthesis = ⊥
 BeginsNone other = Unit {0}
 
 failed-kind : (kind : HoaKind) (count value : ℕ) (text : List ℕ) → BeginsNone kind → go (wanted count) (seen_as kind value text) ≡ failed
-failed-kind kind.Identifier count value text none = refl
-failed-kind kind.HeaderName count value text none = refl
 failed-kind kind.AliasName count value text none = absurd none
 failed-kind kind.True count value text none = absurd none
 failed-kind kind.False count value text none = absurd none
 failed-kind kind.Int count value text none = absurd none
-failed-kind kind.String count value text none = refl
-failed-kind kind.Body count value text none = refl
-failed-kind kind.End count value text none = refl
-failed-kind kind.Abort count value text none = refl
 failed-kind kind.Not count value text none = absurd none
-failed-kind kind.And count value text none = refl
-failed-kind kind.Or count value text none = refl
 failed-kind kind.OpenParenthesis count value text none = absurd none
-failed-kind kind.CloseParenthesis count value text none = refl
-failed-kind kind.OpenBracket count value text none = refl
-failed-kind kind.CloseBracket count value text none = refl
-failed-kind kind.OpenBrace count value text none = refl
-failed-kind kind.CloseBrace count value text none = refl
-
--- neither an operator nor `)`
-abbrev pub GoesOnNone : HoaKind → Type 0
-GoesOnNone kind.And = ⊥
-GoesOnNone kind.Or = ⊥
-GoesOnNone kind.CloseParenthesis = ⊥
-GoesOnNone other = Unit {0}
+failed-kind other count value text none = refl
 
 stuck-kind : (kind : HoaKind) (count value : ℕ) (text : List ℕ) → GoesOnNone kind → go (had (suc count)) (seen_as kind value text) ≡ failed
-stuck-kind kind.Identifier count value text none = refl
-stuck-kind kind.HeaderName count value text none = refl
-stuck-kind kind.AliasName count value text none = refl
-stuck-kind kind.True count value text none = refl
-stuck-kind kind.False count value text none = refl
-stuck-kind kind.Int count value text none = refl
-stuck-kind kind.String count value text none = refl
-stuck-kind kind.Body count value text none = refl
-stuck-kind kind.End count value text none = refl
-stuck-kind kind.Abort count value text none = refl
-stuck-kind kind.Not count value text none = refl
 stuck-kind kind.And count value text none = absurd none
 stuck-kind kind.Or count value text none = absurd none
-stuck-kind kind.OpenParenthesis count value text none = refl
 stuck-kind kind.CloseParenthesis count value text none = absurd none
-stuck-kind kind.OpenBracket count value text none = refl
-stuck-kind kind.CloseBracket count value text none = refl
-stuck-kind kind.OpenBrace count value text none = refl
-stuck-kind kind.CloseBrace count value text none = refl
+stuck-kind other count value text none = refl
 
 -- the tokens begin with no part
 abbrev pub BeginNone : List (Lexeme HoaKind) → Type 0
 BeginNone [] = Unit {0}
 BeginNone (lexeme ∷ rest) = BeginsNone lexeme.kind
-
--- the tokens begin with neither an operator nor `)`
-abbrev pub GoOnNone : List (Lexeme HoaKind) → Type 0
-GoOnNone [] = Unit {0}
-GoOnNone (lexeme ∷ rest) = GoesOnNone lexeme.kind
 
 not-through-wanted : (left : List (Lexeme HoaKind)) (count : ℕ) → BeginNone left → IsThrough (run (wanted count) (map symbol_of left)) → ⊥
 not-through-wanted [] count none through = through
@@ -698,99 +550,15 @@ pub none_closed : (whole left : List (Lexeme HoaKind)) (depth : ℕ) (nodes : Li
 none_closed whole left depth nodes names rest has none =
     unclosed_before has.before whole left rest has.part has.pends has.passed none
 
--- what neither `!` nor `&` is
-pub loose_others : (pending : Pending) (rest : List Pending) → (pending ≡ Not → ⊥) → ((depth : ℕ) → pending ≡ And depth → ⊥) → IsLoose (pending ∷ rest)
-loose_others Open rest not_not not_and = tt
-loose_others Not rest not_not not_and = not_not refl
-loose_others (And depth) rest not_not not_and = not_and depth refl
-loose_others (Or depth) rest not_not not_and = tt
-
--- nor `|`
-pub free_others : (pending : Pending) (rest : List Pending) → IsLoose (pending ∷ rest) → ((depth : ℕ) → pending ≡ Or depth → ⊥) → IsFree (pending ∷ rest)
-free_others Open rest loose not_or = tt
-free_others Not rest loose not_or = loose
-free_others (And depth) rest loose not_or = loose
-free_others (Or depth) rest loose not_or = not_or depth refl
-
--- only a parenthesis is free
-pub free_open : (pending : Pending) (rest : List Pending) → IsFree (pending ∷ rest) → pending ≡ Open
-free_open Open rest free = refl
-free_open Not rest free = absurd free
-free_open (And depth) rest free = absurd free
-free_open (Or depth) rest free = absurd free
-
 -- a kind that begins no part
 pub begins_others : (sort : HoaKind) → (sort ≡ kind.AliasName → ⊥) → (sort ≡ kind.True → ⊥) → (sort ≡ kind.False → ⊥) → (sort ≡ kind.Int → ⊥) → (sort ≡ kind.Not → ⊥) → (sort ≡ kind.OpenParenthesis → ⊥) → BeginsNone sort
-begins_others kind.Identifier a b c d e f = tt
-begins_others kind.HeaderName a b c d e f = tt
 begins_others kind.AliasName a b c d e f = a refl
 begins_others kind.True a b c d e f = b refl
 begins_others kind.False a b c d e f = c refl
 begins_others kind.Int a b c d e f = d refl
-begins_others kind.String a b c d e f = tt
-begins_others kind.Body a b c d e f = tt
-begins_others kind.End a b c d e f = tt
-begins_others kind.Abort a b c d e f = tt
 begins_others kind.Not a b c d e f = e refl
-begins_others kind.And a b c d e f = tt
-begins_others kind.Or a b c d e f = tt
 begins_others kind.OpenParenthesis a b c d e f = f refl
-begins_others kind.CloseParenthesis a b c d e f = tt
-begins_others kind.OpenBracket a b c d e f = tt
-begins_others kind.CloseBracket a b c d e f = tt
-begins_others kind.OpenBrace a b c d e f = tt
-begins_others kind.CloseBrace a b c d e f = tt
-
-goes_on_others : (sort : HoaKind) → (sort ≡ kind.And → ⊥) → (sort ≡ kind.Or → ⊥) → (sort ≡ kind.CloseParenthesis → ⊥) → GoesOnNone sort
-goes_on_others kind.Identifier a b c = tt
-goes_on_others kind.HeaderName a b c = tt
-goes_on_others kind.AliasName a b c = tt
-goes_on_others kind.True a b c = tt
-goes_on_others kind.False a b c = tt
-goes_on_others kind.Int a b c = tt
-goes_on_others kind.String a b c = tt
-goes_on_others kind.Body a b c = tt
-goes_on_others kind.End a b c = tt
-goes_on_others kind.Abort a b c = tt
-goes_on_others kind.Not a b c = tt
-goes_on_others kind.And a b c = a refl
-goes_on_others kind.Or a b c = b refl
-goes_on_others kind.OpenParenthesis a b c = tt
-goes_on_others kind.CloseParenthesis a b c = c refl
-goes_on_others kind.OpenBracket a b c = tt
-goes_on_others kind.CloseBracket a b c = tt
-goes_on_others kind.OpenBrace a b c = tt
-goes_on_others kind.CloseBrace a b c = tt
-
-ends_others : (sort : HoaKind) → (sort ≡ kind.And → ⊥) → (sort ≡ kind.Or → ⊥) → IsNoOperator sort
-ends_others kind.Identifier a b = tt
-ends_others kind.HeaderName a b = tt
-ends_others kind.AliasName a b = tt
-ends_others kind.True a b = tt
-ends_others kind.False a b = tt
-ends_others kind.Int a b = tt
-ends_others kind.String a b = tt
-ends_others kind.Body a b = tt
-ends_others kind.End a b = tt
-ends_others kind.Abort a b = tt
-ends_others kind.Not a b = tt
-ends_others kind.And a b = a refl
-ends_others kind.Or a b = b refl
-ends_others kind.OpenParenthesis a b = tt
-ends_others kind.CloseParenthesis a b = tt
-ends_others kind.OpenBracket a b = tt
-ends_others kind.CloseBracket a b = tt
-ends_others kind.OpenBrace a b = tt
-ends_others kind.CloseBrace a b = tt
-
--- tokens that do not go on
-pub go_on_others : (left : List (Lexeme HoaKind)) → NextIsNot kind.And left → NextIsNot kind.Or left → NextIsNot kind.CloseParenthesis left → GoOnNone left
-go_on_others [] a b c = tt
-go_on_others (lexeme ∷ rest) a b c = goes_on_others lexeme.kind a b c
-
-pub end_others : (left : List (Lexeme HoaKind)) → NextIsNot kind.And left → NextIsNot kind.Or left → EndsThere left
-end_others [] a b = tt
-end_others (lexeme ∷ rest) a b = ends_others lexeme.kind a b
+begins_others other a b c d e f = tt
 
 -- `&` is passed and waits
 pub after_and : (whole old left : List (Lexeme HoaKind)) (depth : ℕ) (nodes : List RawNode) (names : List ℕ) (pending more : List Pending)
@@ -835,17 +603,3 @@ after_close whole old same still left depth deeper nodes all names pending first
     has_grouped whole old left one.lexeme depth deeper nodes all names pending rest
     (waits ∙ ap (λ p. p ∷ rest) (free_open first rest free)) joined more
     (sym (rests ∙ stays) ∙ one.next) (ap (λ k. seen_as k one.lexeme.value one.lexeme.text) one.is) has
-
--- a refusal that speaks of no depth
-pub unread_more : (none deep : Type 0) (refusal : Refusal) → IsUnread none ⊥ refusal → IsUnread none deep refusal
-unread_more none deep (refusals.Text fault) is = is
-unread_more none deep (refusals.Game fault) is = is
-unread_more none deep (refusals.Automaton fault) is = absurd is.1
-unread_more none deep (refusals.Task fault) is = is
-unread_more none deep refusals.Memory is = is
-unread_more none deep refusals.Io is = is
-
--- what holds of an error follows from what else holds of it
-pub error_then : {A E : Type 0} (result : Result A E) (said wanted_of : E → Type 0) → IsErrAnd result said → ((error : E) → said error → wanted_of error) → IfErr result wanted_of
-error_then (Ok value) said wanted_of is follows = tt
-error_then (Err error) said wanted_of is follows = follows error is

@@ -3,7 +3,8 @@ use Rattle.std.proofs.Common.{◌≡◌, ℕ, true, false, List, [], ◌∷◌, 
 use Rattle.std.proofs.lemmas.List.{map-append, length-map}
 use Rattle.std.proofs.Math.Seq.{drop-append_seam}
 use Rattle.omega_acc.specs.RawLabel.{RawLabelTree, alias, conjunction, constant, disjunction, group, negation, proposition}
-use Rattle.omega_acc.specs.Reading.{EndsThere, IsNoOperator, IsOf, Reads, Symbol, conjunctive, disjunctive, name, number, seen_as, sign, spelled, symbol_of, unary}
+use Rattle.omega_acc.specs.Reading.{IsOf, Reads, spelled}
+use Rattle.omega_acc.specs.Symbols.{EndsThere, IsNoOperator, Symbol, conjunctive, disjunctive, name, number, seen_as, sign, symbol_of, unary}
 use Rattle.omega_acc.specs.layout.Building.{Before, Fits, anded, denied, opened, ored, start}
 use Rattle.omega_text.specs.Lexeme.{Lexeme}
 use Rattle.omega_text.specs.declared.hoa.kind.HoaKind.{HoaKind}
@@ -185,27 +186,12 @@ label_of (had before part) = joined before part
 label_of (whole part) = part
 label_of failed = constant true
 
-step-ends : (kind : HoaKind) (value : ℕ) (text : List ℕ) (inner : Before) (last : RawLabelTree) → IsNoOperator kind → outside inner ≡ start
-    → step (had inner last) (seen_as kind value text) ≡ whole (joined inner last)
-step-ends kind.Identifier value text inner last none around = ap (λ outer. finished outer (joined inner last)) around
-step-ends kind.HeaderName value text inner last none around = ap (λ outer. finished outer (joined inner last)) around
-step-ends kind.AliasName value text inner last none around = ap (λ outer. finished outer (joined inner last)) around
-step-ends kind.True value text inner last none around = ap (λ outer. finished outer (joined inner last)) around
-step-ends kind.False value text inner last none around = ap (λ outer. finished outer (joined inner last)) around
-step-ends kind.Int value text inner last none around = ap (λ outer. finished outer (joined inner last)) around
-step-ends kind.String value text inner last none around = ap (λ outer. finished outer (joined inner last)) around
-step-ends kind.Body value text inner last none around = ap (λ outer. finished outer (joined inner last)) around
-step-ends kind.End value text inner last none around = ap (λ outer. finished outer (joined inner last)) around
-step-ends kind.Abort value text inner last none around = ap (λ outer. finished outer (joined inner last)) around
-step-ends kind.Not value text inner last none around = ap (λ outer. finished outer (joined inner last)) around
+step-ends : (sort : HoaKind) (value : ℕ) (text : List ℕ) (inner : Before) (last : RawLabelTree) → IsNoOperator sort → outside inner ≡ start
+    → step (had inner last) (seen_as sort value text) ≡ whole (joined inner last)
 step-ends kind.And value text inner last none around = absurd none
 step-ends kind.Or value text inner last none around = absurd none
-step-ends kind.OpenParenthesis value text inner last none around = ap (λ outer. finished outer (joined inner last)) around
 step-ends kind.CloseParenthesis value text inner last none around = ap (λ outer. closed outer (joined inner last)) around
-step-ends kind.OpenBracket value text inner last none around = ap (λ outer. finished outer (joined inner last)) around
-step-ends kind.CloseBracket value text inner last none around = ap (λ outer. finished outer (joined inner last)) around
-step-ends kind.OpenBrace value text inner last none around = ap (λ outer. finished outer (joined inner last)) around
-step-ends kind.CloseBrace value text inner last none around = ap (λ outer. finished outer (joined inner last)) around
+step-ends other value text inner last none around = ap (λ outer. finished outer (joined inner last)) around
 
 rest-ends : (rest : List (Lexeme HoaKind)) (inner : Before) (last : RawLabelTree) → EndsThere rest → outside inner ≡ start
     → label_of (steps (had inner last) (map symbol_of rest)) ≡ joined inner last

@@ -1,3 +1,4 @@
+pub mod AccReading
 pub mod Acceptance
 pub mod Depth
 pub mod Expanding
@@ -10,5 +11,6 @@ pub mod RawAcc
 pub mod RawLabel
 pub mod Reading
 pub mod Satisfiable
+pub mod Symbols
 pub mod Writing
 pub mod layout

@@ -1,36 +1,14 @@
 -- How labels as they are written stand in tokens: `!` binds tightest, then `&`, then `|`, and equal operators group to the left (HOA v1).
-use Rattle.std.specs.Prelude.{◌≡◌, ℕ, ◌<◌, Bool, true, false, List, [], ◌∷◌, ◌++◌, map}
+use Rattle.std.specs.Prelude.{◌≡◌, ◌<◌, List, [], ◌∷◌, ◌++◌, map}
 use Rattle.omega_acc.specs.RawLabel.{RawLabelTree, alias, conjunction, constant, disjunction, group, negation, proposition, raw_depth}
 use Rattle.omega_acc.specs.Limits.{most_depth}
+use Rattle.omega_acc.specs.Symbols.{EndsThere, IsSyntax, Rank, Symbol, TakesAnd, TakesOr, conjunctive, disjunctive, name, number, sign, symbol_of, truth_kind, unary}
 use Rattle.omega_text.specs.Cases.{never, or_automaton, or_memory, or_text}
 use Rattle.omega_text.specs.Lexeme.{Lexeme}
 use Rattle.omega_text.specs.declared.hoa.kind.HoaKind.{HoaKind}
 use Rattle.omega_text.specs.declared.hoa.kind.HoaKind.TheVariants as kind
 use Rattle.omega_text.specs.declared.refusal.Refusal.{Refusal}
 use Rattle.omega_text.specs.declared.refusal.automaton.AutomatonFault.TheVariants.{TooDeep}
-use Rattle.omega_text.specs.declared.refusal.text.TextFault.{TextFault}
-use Rattle.omega_text.specs.declared.refusal.text.TextFault.TheVariants.{Syntax}
-
--- what the grammar of labels sees of a token
-pub data Symbol : Type 0 where
-  number : ℕ → Symbol
-  name : List ℕ → Symbol
-  sign : HoaKind → Symbol
-
--- the symbol of a token of this kind, value and text
-abbrev pub seen_as : HoaKind → ℕ → List ℕ → Symbol
-seen_as kind.Int value text = number value
-seen_as kind.AliasName value text = name text
-seen_as other value text = sign other
-
--- the symbol of a token
-abbrev pub symbol_of : Lexeme HoaKind → Symbol
-symbol_of lexeme = seen_as lexeme.kind lexeme.value lexeme.text
-
--- the kind of a constant's token
-abbrev pub truth_kind : Bool → HoaKind
-truth_kind true = kind.True
-truth_kind false = kind.False
 
 -- the symbols of a label
 abbrev pub spelled : RawLabelTree → List Symbol
@@ -41,24 +19,6 @@ spelled (negation part) = sign kind.Not ∷ spelled part
 spelled (conjunction left right) = spelled left ++ sign kind.And ∷ spelled right
 spelled (disjunction left right) = spelled left ++ sign kind.Or ∷ spelled right
 spelled (group part) = sign kind.OpenParenthesis ∷ (spelled part ++ sign kind.CloseParenthesis ∷ [])
-
--- the three nested cases of the grammar
-pub data Rank : Type 0 where
-  unary : Rank
-  conjunctive : Rank
-  disjunctive : Rank
-
--- an `&` may stand outermost
-abbrev pub TakesAnd : Rank → Type 0
-TakesAnd unary = ⊥
-TakesAnd conjunctive = Unit {0}
-TakesAnd disjunctive = Unit {0}
-
--- an `|` may stand outermost
-abbrev pub TakesOr : Rank → Type 0
-TakesOr unary = ⊥
-TakesOr conjunctive = ⊥
-TakesOr disjunctive = Unit {0}
 
 -- the label is of this case: an or-expression is an and-expression or an or-expression, `|` and an and-expression; an
 -- and-expression is a unary one or an and-expression, `&` and a unary one; a unary one is an atom, `!` and a unary one, or an
@@ -71,17 +31,6 @@ IsOf rank (negation part) = IsOf unary part
 IsOf rank (conjunction left right) = TakesAnd rank × (IsOf conjunctive left × IsOf unary right)
 IsOf rank (disjunction left right) = TakesOr rank × (IsOf disjunctive left × IsOf conjunctive right)
 IsOf rank (group part) = IsOf disjunctive part
-
--- neither `&` nor `|`
-abbrev pub IsNoOperator : HoaKind → Type 0
-IsNoOperator kind.And = ⊥
-IsNoOperator kind.Or = ⊥
-IsNoOperator other = Unit {0}
-
--- the tokens begin with neither `&` nor `|`
-abbrev pub EndsThere : List (Lexeme HoaKind) → Type 0
-EndsThere [] = Unit {0}
-EndsThere (lexeme ∷ rest) = IsNoOperator lexeme.kind
 
 -- the tokens are a label's, and then the rest, which does not go on with an operator
 pub record Reads (tokens : List (Lexeme HoaKind)) (tree : RawLabelTree) (rest : List (Lexeme HoaKind)) : Type 0 where
@@ -101,14 +50,9 @@ pub record ReadsDeep (tokens rest : List (Lexeme HoaKind)) : Type 0 where
   pub reads : Reads tokens tree rest
   pub deep : most_depth < raw_depth tree
 
--- the fault of a syntax, where this holds
-abbrev pub IsSyntax : Type 0 → TextFault → Type 0
-IsSyntax holds (Syntax at) = holds
-IsSyntax holds fault = ⊥
-
--- the refusals of reading, where no label is read, and where one is that is too deep
-abbrev pub IsUnread : Type 0 → Type 0 → Refusal → Type 0
-IsUnread none deep = or_text (IsSyntax none) (or_automaton (λ fault. (fault ≡ TooDeep) × deep) (or_memory never))
+-- the refusals of reading a label, where none is read, and where one is that is too deep
+abbrev pub IsUnreadLabel : Type 0 → Type 0 → Refusal → Type 0
+IsUnreadLabel none deep = or_text (IsSyntax none) (or_automaton (λ fault. (fault ≡ TooDeep) × deep) (or_memory never))
 
 -- of all tokens at most one label is read, and at most one rest is left
 abbrev pub LabelsAreOne : Type 0

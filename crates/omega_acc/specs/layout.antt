@@ -1,4 +1,6 @@
+pub mod AccBuilding
 pub mod AccFields
+pub mod AccStates
 pub mod Acceptance
 pub mod Aliases
 pub mod Building
@@ -8,6 +10,7 @@ pub mod Extents
 pub mod Joins
 pub mod Label
 pub mod LabelFields
+pub mod Passing
 pub mod RawAcc
 pub mod RawAccFields
 pub mod RawLabel

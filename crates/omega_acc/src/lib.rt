@@ -3,6 +3,7 @@
 
 mod acc;
 mod acc_name;
+mod acc_reading;
 mod aliases;
 mod depth;
 mod expansion;
@@ -12,6 +13,7 @@ mod label;
 mod laws;
 mod limits;
 mod mentioned;
+mod passing;
 mod pending;
 mod postfix;
 mod priorities;
@@ -22,11 +24,13 @@ mod recognition;
 mod satisfying;
 mod texts;
 mod unfinished;
+mod unfinished_acc;
 mod words;
 mod writing;
 
 pub use acc::Acc;
 pub use acc_name::{AccName, Parameter};
+pub use acc_reading::read_raw_acc;
 pub use aliases::Aliases;
 pub use expansion::{expand, expanded_size};
 pub use kind::{AccKind, Order, Parity, ParityKind};
@@ -38,7 +42,7 @@ pub use limits::{
 pub use priorities::priority;
 pub use raw_acc::RawAcc;
 pub use raw_label::RawLabel;
-pub use reading::read_label;
+pub use reading::{read_label, read_raw_label};
 pub use recognition::{acceptance_kind, parity_of};
 pub use satisfying::satisfiable;
 pub use writing::{write_acc, write_label};

@@ -1,61 +1,78 @@
 //! Labels read from tokens.
 
 ghost use Rattle.std.specs.Prelude.{◌≡◌, ◌<◌, ◌≤◌, List, length, IfErr, IfOk, MatchBool, OnOk};
-ghost use Rattle.omega_acc.specs.Reading.{IsUnread, Reads, ReadsDeep, ReadsNone, conjunctive, disjunctive, unary};
+ghost use Rattle.omega_acc.specs.Reading.{IsUnreadLabel, Reads, ReadsDeep, ReadsNone};
+ghost use Rattle.omega_acc.specs.Symbols.{IsUnread, conjunctive, unary};
 ghost use Rattle.omega_acc.specs.Limits.{most_depth};
 ghost use Rattle.omega_acc.specs.RawLabel.{raw_depth};
-ghost use Rattle.omega_acc.specs.layout.Building.{HasIn, IsWhole, NextIsNot, PassesOne, WantsIn};
+ghost use Rattle.omega_acc.specs.layout.Building.{HasIn, IsWhole, WantsIn};
 ghost use Rattle.omega_text.specs.Lexeme.{Lexeme};
 ghost use Rattle.omega_text.specs.declared.hoa.kind.HoaKind.{HoaKind as Kind};
 
-use crate::limits::MOST_DEPTH;
+use crate::passing::is_passed;
 use crate::pending::Pending;
 use crate::raw_label::{RawLabel, RawNode};
 use crate::unfinished::{Unfinished, deeper};
-use omega_text::{AutomatonFault, Cursor, HoaKind, Refusal, TextFault};
+use omega_text::{AutomatonFault, HoaKind, Refusal, TextFault, TokenSource};
 use std::alloc::Global;
 
-/// Reads a label, which is the one front of the tokens that is a label and has neither `&` nor `|` behind it. An alias has
-/// depth 1.
-///
-/// Refusal 3 where there is none, else 32 where it is over 256 deep; the cursor then stands behind it. Time is linear, and
-/// nothing recurs.
-pub fn read_label(alloc: Global, cursor: &mut Cursor<'_, '_, HoaKind>) -> Result<RawLabel, Refusal>
-    ensures ok { IfOk result (λ label. Reads cursor.old.0 label cursor.new.0) }
-    ensures shallow { IfOk result (λ label. raw_depth label ≤ most_depth) }
-    ensures err { IfErr result (IsUnread (ReadsNone cursor.old.0) (ReadsDeep cursor.old.0 cursor.new.0)) }
+/// Reads a label as it is written, which is the one front of the tokens that is a label and has neither `&` nor `|` behind it
+/// (HOA v1, label expressions). Refusal 3 where there is none. Time is linear, and nothing recurs.
+pub fn read_raw_label<'a, S: TokenSource<'a, HoaKind>>(
+    alloc: Global,
+    source: &mut S,
+) -> Result<RawLabel, Refusal>
+    ensures ok { IfOk result (λ label. Reads (S.left source.old) label (S.left source.new)) }
+    ensures err { IfErr result (IsUnread (ReadsNone (S.left source.old))) }
 {
     let mut unfinished = Unfinished::new(alloc);
-    operand(&mut unfinished, cursor)?;
-    while goes_on(&mut unfinished, cursor)? {}
-    if unfinished.depth > MOST_DEPTH {
-        return Err(Refusal::Automaton(AutomatonFault::TooDeep));
-    }
+    operand(&mut unfinished, source)?;
+    while goes_on(&mut unfinished, source)? {}
     Ok(RawLabel::of_nodes(unfinished.nodes, unfinished.names, unfinished.depth))
 }
 
-/// Reads a unary part, with what stands before it, and joins it to what waits for it before `&`.
-fn operand(unfinished: &mut Unfinished, cursor: &mut Cursor<'_, '_, HoaKind>) -> Result<(), Refusal>
-    ensures ok { OnOk result ((whole : List (Lexeme Kind)) → WantsIn whole cursor.old.0 unfinished.old → HasIn conjunctive whole cursor.new.0 unfinished.new) }
-    ensures err { IfErr result (λ refusal. (whole : List (Lexeme Kind)) → WantsIn whole cursor.old.0 unfinished.old → IsUnread (ReadsNone whole) ⊥ refusal) }
-    ensures less { OnOk result (length cursor.new.0 < length cursor.old.0) }
+/// Reads a label as `read_raw_label` does. Refusal 3 where there is none, else 32 where it is over 256 deep, an alias having
+/// depth 1; the tokens behind it are then left.
+pub fn read_label<'a, S: TokenSource<'a, HoaKind>>(
+    alloc: Global,
+    source: &mut S,
+) -> Result<RawLabel, Refusal>
+    ensures ok { IfOk result (λ label. Reads (S.left source.old) label (S.left source.new)) }
+    ensures shallow { IfOk result (λ label. raw_depth label ≤ most_depth) }
+    ensures err { IfErr result (IsUnreadLabel (ReadsNone (S.left source.old)) (ReadsDeep (S.left source.old) (S.left source.new))) }
 {
-    while is_prefix(unfinished, cursor)? {}
+    let label = read_raw_label(alloc, source)?;
+    if label.is_too_deep() {
+        return Err(Refusal::Automaton(AutomatonFault::TooDeep));
+    }
+    Ok(label)
+}
+
+/// Reads a unary part, with what stands before it, and joins it to what waits for it before `&`.
+fn operand<'a, S: TokenSource<'a, HoaKind>>(
+    unfinished: &mut Unfinished,
+    source: &mut S,
+) -> Result<(), Refusal>
+    ensures ok { OnOk result ((whole : List (Lexeme Kind)) → WantsIn whole (S.left source.old) unfinished.old → HasIn conjunctive whole (S.left source.new) unfinished.new) }
+    ensures err { IfErr result (λ refusal. (whole : List (Lexeme Kind)) → WantsIn whole (S.left source.old) unfinished.old → IsUnread (ReadsNone whole) refusal) }
+    ensures less { OnOk result (length (S.left source.new) < length (S.left source.old)) }
+{
+    while is_prefix(unfinished, source)? {}
     unfinished.bind_tightly()
 }
 
 /// Passes a token where a part is wanted, and says whether one is wanted still.
-fn is_prefix(
+fn is_prefix<'a, S: TokenSource<'a, HoaKind>>(
     unfinished: &mut Unfinished,
-    cursor: &mut Cursor<'_, '_, HoaKind>,
+    source: &mut S,
 ) -> Result<bool, Refusal>
-    ensures wants { IfOk result (λ more. (whole : List (Lexeme Kind)) → WantsIn whole cursor.old.0 unfinished.old
-        → MatchBool more (WantsIn whole cursor.new.0 unfinished.new) (HasIn unary whole cursor.new.0 unfinished.new)) }
-    ensures err { IfErr result (λ refusal. (whole : List (Lexeme Kind)) → WantsIn whole cursor.old.0 unfinished.old → IsUnread (ReadsNone whole) ⊥ refusal) }
-    ensures less { OnOk result (length cursor.new.0 < length cursor.old.0) }
+    ensures wants { IfOk result (λ more. (whole : List (Lexeme Kind)) → WantsIn whole (S.left source.old) unfinished.old
+        → MatchBool more (WantsIn whole (S.left source.new) unfinished.new) (HasIn unary whole (S.left source.new) unfinished.new)) }
+    ensures err { IfErr result (λ refusal. (whole : List (Lexeme Kind)) → WantsIn whole (S.left source.old) unfinished.old → IsUnread (ReadsNone whole) refusal) }
+    ensures less { OnOk result (length (S.left source.new) < length (S.left source.old)) }
 {
-    let at = cursor.place();
-    let Some(token) = cursor.take() else {
+    let at = source.place();
+    let Some(token) = source.take() else {
         return Err(Refusal::Text(TextFault::Syntax { at }));
     };
     match token.kind {
@@ -81,52 +98,35 @@ fn is_prefix(
 }
 
 /// Passes a token behind a part, with the part that it joins, and says whether more may follow; if not, the whole label is read.
-fn goes_on(
+fn goes_on<'a, S: TokenSource<'a, HoaKind>>(
     unfinished: &mut Unfinished,
-    cursor: &mut Cursor<'_, '_, HoaKind>,
+    source: &mut S,
 ) -> Result<bool, Refusal>
-    ensures more { IfOk result (λ more. (whole : List (Lexeme Kind)) → HasIn conjunctive whole cursor.old.0 unfinished.old
-        → MatchBool more (HasIn conjunctive whole cursor.new.0 unfinished.new) (IsWhole whole cursor.new.0 unfinished.new)) }
-    ensures err { IfErr result (λ refusal. (whole : List (Lexeme Kind)) → HasIn conjunctive whole cursor.old.0 unfinished.old → IsUnread (ReadsNone whole) ⊥ refusal) }
-    ensures less { IfOk result (λ more. MatchBool more (length cursor.new.0 < length cursor.old.0) (Unit {0})) }
+    ensures more { IfOk result (λ more. (whole : List (Lexeme Kind)) → HasIn conjunctive whole (S.left source.old) unfinished.old
+        → MatchBool more (HasIn conjunctive whole (S.left source.new) unfinished.new) (IsWhole whole (S.left source.new) unfinished.new)) }
+    ensures err { IfErr result (λ refusal. (whole : List (Lexeme Kind)) → HasIn conjunctive whole (S.left source.old) unfinished.old → IsUnread (ReadsNone whole) refusal) }
+    ensures less { IfOk result (λ more. MatchBool more (length (S.left source.new) < length (S.left source.old)) (Unit {0})) }
 {
-    if is_passed(cursor, HoaKind::And) {
+    if is_passed(source, HoaKind::And) {
         unfinished.pending.push(Pending::And(unfinished.depth))?;
-        operand(unfinished, cursor)?;
+        operand(unfinished, source)?;
         return Ok(true);
     }
     unfinished.bind_loosely()?;
-    if is_passed(cursor, HoaKind::Or) {
+    if is_passed(source, HoaKind::Or) {
         unfinished.pending.push(Pending::Or(unfinished.depth))?;
-        operand(unfinished, cursor)?;
+        operand(unfinished, source)?;
         return Ok(true);
     }
     let Some(_) = unfinished.pending.pop() else {
         return Ok(false);
     };
-    if !is_passed(cursor, HoaKind::CloseParenthesis) {
-        let at = cursor.place();
+    if !is_passed(source, HoaKind::CloseParenthesis) {
+        let at = source.place();
         return Err(Refusal::Text(TextFault::Syntax { at }));
     }
     unfinished.nodes.push(RawNode::Group)?;
     unfinished.depth = deeper(unfinished.depth);
     unfinished.bind_tightly()?;
     Ok(true)
-}
-
-/// Passes the next token if it is of a kind, and says whether it is.
-fn is_passed(cursor: &mut Cursor<'_, '_, HoaKind>, kind: HoaKind) -> bool
-    ensures passed { MatchBool result (PassesOne kind cursor.old.0 cursor.new.0) (cursor.new.0 ≡ cursor.old.0) }
-    ensures other { MatchBool result (Unit {0}) (NextIsNot kind cursor.old.0) }
-{
-    match cursor.look() {
-        Some(token) => {
-            if token.kind == kind {
-                cursor.take();
-                return true;
-            }
-            false
-        }
-        None => false,
-    }
 }

@@ -21,7 +21,7 @@ pub(crate) struct Unfinished {
 
 impl Unfinished {
     ghost use Rattle.omega_acc.specs.layout.Building.{HasIn, WantsIn};
-    ghost use Rattle.omega_acc.specs.Reading.{conjunctive, disjunctive, unary};
+    ghost use Rattle.omega_acc.specs.Symbols.{conjunctive, disjunctive, unary};
     ghost use Rattle.omega_text.specs.Lexeme.{Lexeme};
     ghost use Rattle.omega_text.specs.declared.hoa.kind.HoaKind.{HoaKind};
 

@@ -1,11 +1,13 @@
 -- How a label is built from its tokens: what is still open before the part that stands last.
-use Rattle.std.specs.Prelude.{◌≡◌, ℕ, List, [], ◌∷◌, ◌++◌, map}
+use Rattle.std.specs.Prelude.{◌≡◌, ℕ, List, [], ◌∷◌, ◌++◌}
 use Rattle.omega_acc.specs.Depth.{counted}
 use Rattle.omega_acc.specs.RawLabel.{RawLabelTree, raw_depth}
-use Rattle.omega_acc.specs.Reading.{IsOf, Rank, Reads, Symbol, conjunctive, disjunctive, sign, spelled, symbol_of, unary}
+use Rattle.omega_acc.specs.Reading.{IsOf, Reads, spelled}
+use Rattle.omega_acc.specs.Symbols.{Rank, Symbol, conjunctive, disjunctive, sign}
 use Rattle.omega_acc.specs.declared.pending.Pending.{Pending}
 use Rattle.omega_acc.specs.declared.pending.Pending.TheVariants.{And, Not, Open, Or}
 use Rattle.omega_acc.specs.declared.raw_label.RawNode.{RawNode}
+use Rattle.omega_acc.specs.layout.Passing.{FitsOr, FitsTight, Passed}
 use Rattle.omega_acc.specs.layout.RawLabel.{alias_names, raw_postfix}
 use Rattle.omega_acc.specs.declared.unfinished.Unfinished.{Unfinished}
 use Rattle.omega_text.specs.Lexeme.{Lexeme}
@@ -56,18 +58,6 @@ before_pending (denied before) = Not ∷ before_pending before
 before_pending (anded before left) = And (capped left) ∷ before_pending before
 before_pending (ored before left) = Or (capped left) ∷ before_pending before
 
--- a part of this case may stand behind `!` or `&`
-abbrev pub FitsTight : Rank → Type 0
-FitsTight unary = Unit {0}
-FitsTight conjunctive = ⊥
-FitsTight disjunctive = ⊥
-
--- a part of this case may stand behind `|`
-abbrev pub FitsOr : Rank → Type 0
-FitsOr unary = Unit {0}
-FitsOr conjunctive = Unit {0}
-FitsOr disjunctive = ⊥
-
 -- a part of this case may stand behind it
 abbrev pub Fits : Rank → Before → Type 0
 Fits rank start = Unit {0}
@@ -83,12 +73,6 @@ IsOpen (opened before) = IsOpen before
 IsOpen (denied before) = IsOpen before
 IsOpen (anded before left) = IsOf conjunctive left × (Fits conjunctive before × IsOpen before)
 IsOpen (ored before left) = IsOf disjunctive left × (Fits disjunctive before × IsOpen before)
-
--- the whole tokens are these symbols, and then those that are left
-pub record Passed (whole : List (Lexeme HoaKind)) (symbols : List Symbol) (left : List (Lexeme HoaKind)) : Type 0 where
-  pub front : List (Lexeme HoaKind)
-  pub split : whole ≡ front ++ left
-  pub spells : map symbol_of front ≡ symbols
 
 -- a part is wanted, behind what these hold
 pub record Wants (whole left : List (Lexeme HoaKind)) (nodes : List RawNode) (names : List ℕ) (pending : List Pending) : Type 0 where
@@ -127,14 +111,3 @@ pub record IsWhole (whole left : List (Lexeme HoaKind)) (unfinished : Unfinished
   pub flat : unfinished.nodes.items ≡ raw_postfix tree
   pub named : unfinished.names.items ≡ alias_names tree
   pub deep : unfinished.depth ≡ capped tree
-
--- the next token is not of this kind
-abbrev pub NextIsNot : HoaKind → List (Lexeme HoaKind) → Type 0
-NextIsNot kind [] = Unit {0}
-NextIsNot kind (lexeme ∷ rest) = lexeme.kind ≡ kind → ⊥
-
--- a token of this kind is passed
-pub record PassesOne (kind : HoaKind) (old new : List (Lexeme HoaKind)) : Type 0 where
-  pub lexeme : Lexeme HoaKind
-  pub next : old ≡ lexeme ∷ new
-  pub is : lexeme.kind ≡ kind

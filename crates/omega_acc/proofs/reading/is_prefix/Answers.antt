@@ -1,27 +1,27 @@
 -- What begins a part is passed, and where nothing does nothing is read.
 use Rattle.std.proofs.Common.{true, false, ap, append-nil, subst, sym, ◌∙◌}
 use Rattle.omega_acc.specs.RawLabel.{alias, constant, proposition}
-use Rattle.omega_acc.specs.Reading.{seen_as}
+use Rattle.omega_acc.specs.Symbols.{seen_as}
 use Rattle.omega_acc.specs.layout.Building.{Wants}
 use Rattle.omega_acc.proofs.ReadingLemmas.{BeginNone, IsAtom, begins_others, called, has_atom, none_wanted, numbered, truth, wants_denied, wants_opened}
 use Rattle.omega_acc.proofs.reading.is_prefix.Goals as goal
 use Rattle.omega_acc.proofs.reading.is_prefix.Goals.{in-True+in_ok-push-in-True, in-False+in_ok-push-in-False, in-Int+in_ok-push-in-Int, in-AliasName+in_ok-push-in-AliasName+in_ok-extend_from_slice-in-AliasName}
 
 pub returns-in_default-clause-err : goal.returns-in_default-clause-err
-returns-in_default-clause-err c whole wants = none_wanted whole _ _ _ _ wants (subst BeginNone (sym c.in_default.ensures.none.0) tt)
+returns-in_default-clause-err g c whole wants = none_wanted whole _ _ _ _ wants (subst BeginNone (sym c.in_default.ensures.none.0) tt)
 
 pub returns-in-Not-clause-wants : goal.returns-in-Not-clause-wants
-returns-in-Not-clause-wants c whole wants =
-    subst (Wants whole c.take.new.self.0 c.args.unfinished.now.nodes.items c.args.unfinished.now.names.items) (sym c.in_ok-push-in-Not.ensures.ok)
+returns-in-Not-clause-wants g c whole wants =
+    subst (Wants whole (g.S.TokenSource.left c.take.new.self) c.args.unfinished.now.nodes.items c.args.unfinished.now.names.items) (sym c.in_ok-push-in-Not.ensures.ok)
     (wants_denied whole _ _ _ _ _ _ wants c.in-Some.ensures.some (ap (λ k. seen_as k c.in-Some.token.value c.in-Some.token.text.now) c.in-Not.is))
 
 pub returns-in-OpenParenthesis-clause-wants : goal.returns-in-OpenParenthesis-clause-wants
-returns-in-OpenParenthesis-clause-wants c whole wants =
-    subst (Wants whole c.take.new.self.0 c.args.unfinished.now.nodes.items c.args.unfinished.now.names.items) (sym c.in_ok-push-in-OpenParenthesis.ensures.ok)
+returns-in-OpenParenthesis-clause-wants g c whole wants =
+    subst (Wants whole (g.S.TokenSource.left c.take.new.self) c.args.unfinished.now.nodes.items c.args.unfinished.now.names.items) (sym c.in_ok-push-in-OpenParenthesis.ensures.ok)
     (wants_opened whole _ _ _ _ _ _ wants c.in-Some.ensures.some (ap (λ k. seen_as k c.in-Some.token.value c.in-Some.token.text.now) c.in-OpenParenthesis.is))
 
 pub returns-in_default-kind : goal.returns-in_default-kind
-returns-in_default-kind c = record {
+returns-in_default-kind g c = record {
   wants = tt;
   err = λ whole wants. none_wanted whole _ _ _ _ wants
       (subst BeginNone (sym c.in-Some.ensures.some)
@@ -30,7 +30,7 @@ returns-in_default-kind c = record {
 }
 
 pub returns-clause-wants : goal.returns-clause-wants
-returns-clause-wants c whole wants =
+returns-clause-wants g c whole wants =
     elim c.match-token.branch [
       | in-True+in_ok-push-in-True w ↦ has_atom whole _ _ _ _ _ _ (constant true) _ _ _ c.in-Some.ensures.some
           (subst (IsAtom (constant true)) (sym (ap (λ k. seen_as k c.in-Some.token.value c.in-Some.token.text.now) w.in-True.is)) (truth true))

@@ -6,10 +6,10 @@ use Rattle.omega_text.specs.declared.hoa.kind.HoaKind.{HoaKind}
 use Rattle.omega_acc.proofs.reading.operand.Given as goal
 
 abbrev pub invariant-loop : goal.invariant-loop
-invariant-loop l = record {
-  wants : (whole : List (Lexeme HoaKind)) → WantsIn whole l.fn.cursor.0 l.fn.unfinished → WantsIn whole l.cursor.0 l.unfinished;
-  less : length l.cursor.0 ≤ length l.fn.cursor.0;
+invariant-loop g l = record {
+  wants : (whole : List (Lexeme HoaKind)) → WantsIn whole (g.S.TokenSource.left l.fn.source) l.fn.unfinished → WantsIn whole (g.S.TokenSource.left l.source) l.unfinished;
+  less : length (g.S.TokenSource.left l.source) ≤ length (g.S.TokenSource.left l.fn.source);
 }
 
 abbrev pub decreases-loop : goal.decreases-loop
-decreases-loop l = length l.cursor.0
+decreases-loop g l = length (g.S.TokenSource.left l.source)

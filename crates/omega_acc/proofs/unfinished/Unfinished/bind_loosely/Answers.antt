@@ -1,8 +1,9 @@
 -- `|` joins the part.
 use Rattle.std.proofs.Common.{◌∷◌, ◌+◌, ap, min, subst, sym, ◌∙◌}
-use Rattle.omega_acc.specs.Reading.{conjunctive}
+use Rattle.omega_acc.specs.Symbols.{conjunctive}
 use Rattle.omega_acc.specs.layout.Building.{Has}
-use Rattle.omega_acc.proofs.ReadingLemmas.{IsFree, IsLoose, free_others, has_disjoined, has_free, has_is_loose}
+use Rattle.omega_acc.proofs.PendingLemmas.{IsFree, IsLoose, free_others}
+use Rattle.omega_acc.proofs.ReadingLemmas.{has_disjoined, has_free, has_is_loose}
 use Rattle.omega_acc.proofs.unfinished.Unfinished.bind_loosely.Goals as goal
 
 pub returns-in_ok-push-in-Or-clause-ok : goal.returns-in_ok-push-in-Or-clause-ok

@@ -1,8 +1,9 @@
 -- Each `!` negates the part, and `&` joins it.
 use Rattle.std.proofs.Common.{◌∷◌, ◌+◌, ap, min, subst, sym, ◌∙◌}
-use Rattle.omega_acc.specs.Reading.{unary}
+use Rattle.omega_acc.specs.Symbols.{unary}
 use Rattle.omega_acc.specs.layout.Building.{Has}
-use Rattle.omega_acc.proofs.ReadingLemmas.{IsLoose, has_conjoined, has_loose, has_negated, loose_others}
+use Rattle.omega_acc.proofs.PendingLemmas.{IsLoose, loose_others}
+use Rattle.omega_acc.proofs.ReadingLemmas.{has_conjoined, has_loose, has_negated}
 use Rattle.omega_acc.proofs.unfinished.Unfinished.bind_tightly.Goals as goal
 
 pub loop-pending-preserved : goal.loop-pending-preserved

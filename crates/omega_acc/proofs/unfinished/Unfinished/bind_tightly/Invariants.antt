@@ -1,6 +1,6 @@
 -- The part stays one behind which each `!` is put.
 use Rattle.std.proofs.Common.{List, length}
-use Rattle.omega_acc.specs.Reading.{unary}
+use Rattle.omega_acc.specs.Symbols.{unary}
 use Rattle.omega_acc.specs.layout.Building.{HasIn}
 use Rattle.omega_text.specs.Lexeme.{Lexeme}
 use Rattle.omega_text.specs.declared.hoa.kind.HoaKind.{HoaKind}

@@ -1,0 +1,74 @@
+-- What a grammar of the Hanoi format sees of a token, and what the expressions of labels and of acceptance formulas have in common (HOA v1).
+use Rattle.std.specs.Prelude.{ℕ, Bool, true, false, List, [], ◌∷◌}
+use Rattle.omega_text.specs.Cases.{never, or_memory, or_text}
+use Rattle.omega_text.specs.Lexeme.{Lexeme}
+use Rattle.omega_text.specs.declared.hoa.kind.HoaKind.{HoaKind}
+use Rattle.omega_text.specs.declared.hoa.kind.HoaKind.TheVariants as kind
+use Rattle.omega_text.specs.declared.refusal.Refusal.{Refusal}
+use Rattle.omega_text.specs.declared.refusal.text.TextFault.{TextFault}
+use Rattle.omega_text.specs.declared.refusal.text.TextFault.TheVariants.{Syntax}
+
+-- what a grammar sees of a token: a number's value, the bytes of an alias name, an identifier, a header name or a string, and of the others the kind
+pub data Symbol : Type 0 where
+  number : ℕ → Symbol
+  name : List ℕ → Symbol
+  word : List ℕ → Symbol
+  header : List ℕ → Symbol
+  quoted : List ℕ → Symbol
+  sign : HoaKind → Symbol
+
+-- the symbol of a token of this kind, value and text
+abbrev pub seen_as : HoaKind → ℕ → List ℕ → Symbol
+seen_as kind.Int value text = number value
+seen_as kind.AliasName value text = name text
+seen_as kind.Identifier value text = word text
+seen_as kind.HeaderName value text = header text
+seen_as kind.String value text = quoted text
+seen_as other value text = sign other
+
+-- the symbol of a token
+abbrev pub symbol_of : Lexeme HoaKind → Symbol
+symbol_of lexeme = seen_as lexeme.kind lexeme.value lexeme.text
+
+-- the kind of a constant's token
+abbrev pub truth_kind : Bool → HoaKind
+truth_kind true = kind.True
+truth_kind false = kind.False
+
+-- the three nested cases of the grammar
+pub data Rank : Type 0 where
+  unary : Rank
+  conjunctive : Rank
+  disjunctive : Rank
+
+-- an `&` may stand outermost
+abbrev pub TakesAnd : Rank → Type 0
+TakesAnd unary = ⊥
+TakesAnd conjunctive = Unit {0}
+TakesAnd disjunctive = Unit {0}
+
+-- an `|` may stand outermost
+abbrev pub TakesOr : Rank → Type 0
+TakesOr unary = ⊥
+TakesOr conjunctive = ⊥
+TakesOr disjunctive = Unit {0}
+
+-- neither `&` nor `|`
+abbrev pub IsNoOperator : HoaKind → Type 0
+IsNoOperator kind.And = ⊥
+IsNoOperator kind.Or = ⊥
+IsNoOperator other = Unit {0}
+
+-- the tokens begin with neither `&` nor `|`
+abbrev pub EndsThere : List (Lexeme HoaKind) → Type 0
+EndsThere [] = Unit {0}
+EndsThere (lexeme ∷ rest) = IsNoOperator lexeme.kind
+
+-- the fault of a syntax, where this holds
+abbrev pub IsSyntax : Type 0 → TextFault → Type 0
+IsSyntax holds (Syntax at) = holds
+IsSyntax holds fault = ⊥
+
+-- the refusals of reading, where nothing is read
+abbrev pub IsUnread : Type 0 → Refusal → Type 0
+IsUnread none = or_text (IsSyntax none) (or_memory never)

@@ -1,0 +1,54 @@
+//! Tokens passed one by one.
+
+ghost use Rattle.std.specs.Prelude.{◌≡◌, IfErr, IfOk, MatchBool, OnOk};
+ghost use Rattle.omega_acc.specs.Symbols.{IsUnread};
+ghost use Rattle.omega_acc.specs.layout.Passing.{NextIsNot, PassesNumber, PassesOne};
+ghost use Rattle.omega_text.specs.declared.hoa.kind.HoaKind.TheVariants as kinds;
+
+use omega_text::{HoaKind, Refusal, TextFault, TokenSource};
+
+/// Passes the next token if it is of a kind, and says whether it is.
+pub(crate) fn is_passed<'a, S: TokenSource<'a, HoaKind>>(source: &mut S, kind: HoaKind) -> bool
+    ensures passed { MatchBool result (PassesOne kind (S.left source.old) (S.left source.new)) (S.left source.new ≡ S.left source.old) }
+    ensures other { MatchBool result (Unit {0}) (NextIsNot kind (S.left source.old)) }
+{
+    match source.look() {
+        Some(token) => {
+            if token.kind == kind {
+                source.take();
+                return true;
+            }
+            false
+        }
+        None => false,
+    }
+}
+
+/// Passes a token of a kind. Refusal 3 where the next is of another.
+pub(crate) fn pass<'a, S: TokenSource<'a, HoaKind>>(
+    source: &mut S,
+    kind: HoaKind,
+) -> Result<(), Refusal>
+    ensures ok { OnOk result (PassesOne kind (S.left source.old) (S.left source.new)) }
+    ensures err { IfErr result (IsUnread (NextIsNot kind (S.left source.old))) }
+{
+    if is_passed(source, kind) {
+        return Ok(());
+    }
+    let at = source.place();
+    Err(Refusal::Text(TextFault::Syntax { at }))
+}
+
+/// Passes a number. Refusal 3 where none is next.
+pub(crate) fn number<'a, S: TokenSource<'a, HoaKind>>(source: &mut S) -> Result<u32, Refusal>
+    ensures ok { IfOk result (λ value. PassesNumber value (S.left source.old) (S.left source.new)) }
+    ensures err { IfErr result (IsUnread (NextIsNot kinds.Int (S.left source.old))) }
+{
+    let at = source.place();
+    if let Some(token) = source.take()
+        && token.kind == HoaKind::Int
+    {
+        return Ok(token.value);
+    }
+    Err(Refusal::Text(TextFault::Syntax { at }))
+}
