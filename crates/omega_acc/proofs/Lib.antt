@@ -1,8 +1,10 @@
 pub mod AccLemmas
 pub mod AccReadingLemmas
+pub mod AccUniqueness
 pub mod AccUnread
 pub mod AliasLemmas
 pub mod AtomLemmas
+pub mod BelowLemmas
 pub mod BuchiLemmas
 pub mod ChainLemmas
 pub mod EmitLemmas
@@ -14,6 +16,7 @@ pub mod LabelLemmas
 pub mod Parities
 pub mod PassingLemmas
 pub mod PendingLemmas
+pub mod PlainLemmas
 pub mod PutLemmas
 pub mod RawAccLemmas
 pub mod RawLabelLemmas

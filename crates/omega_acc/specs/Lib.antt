@@ -1,3 +1,4 @@
+pub mod AccMeaning
 pub mod AccReading
 pub mod Acceptance
 pub mod Depth

@@ -11,6 +11,8 @@ pub mod Joins
 pub mod Label
 pub mod LabelFields
 pub mod Passing
+pub mod Plain
+pub mod Propositions
 pub mod RawAcc
 pub mod RawAccFields
 pub mod RawLabel

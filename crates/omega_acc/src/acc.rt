@@ -49,7 +49,7 @@ impl Model for Acc {
 }
 
 impl Acc {
-    ghost use Rattle.omega_acc.specs.layout.Acceptance.{acc_postfix};
+    ghost use Rattle.omega_acc.specs.layout.Acceptance.{IsAcc, acc_postfix, acc_tree_of};
 
     /// `t` or `f`.
     pub fn constant(alloc: Global, value: bool) -> Result<Acc, Refusal>
@@ -116,6 +116,17 @@ impl Acc {
         ensures limit { acc_depth self.now ≤ most_depth }
     {
         self.depth
+    }
+
+    /// The formula of nodes in postfix order and their depth.
+    pub(crate) fn of_nodes(nodes: Vec<AccNode>, depth: u32) -> Acc
+        requires { IsAcc nodes.items depth }
+        ensures { result ≡ acc_tree_of nodes.items }
+    {
+        Acc {
+            nodes: Seq::from_vec(nodes),
+            depth,
+        }
     }
 
     /// Its nodes, parts before their operators.

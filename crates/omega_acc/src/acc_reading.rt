@@ -1,6 +1,7 @@
 //! Acceptance formulas read from tokens.
 
 ghost use Rattle.std.specs.Prelude.{◌≡◌, ◌<◌, ◌≤◌, List, length, IfErr, IfOk, MatchBool, OnOk};
+ghost use Rattle.omega_acc.specs.AccMeaning.{IsUnreadAcc, ReadsFaulty, ReadsMeant};
 ghost use Rattle.omega_acc.specs.AccReading.{ReadsAcc, ReadsNoAcc};
 ghost use Rattle.omega_acc.specs.Symbols.{IsUnread, conjunctive, unary};
 ghost use Rattle.omega_acc.specs.layout.AccBuilding.{HasIn, IsWhole, WantsIn};
@@ -8,6 +9,7 @@ ghost use Rattle.omega_acc.specs.layout.AccStates.{IsStuck, PassesSet, named};
 ghost use Rattle.omega_text.specs.Lexeme.{Lexeme};
 ghost use Rattle.omega_text.specs.declared.hoa.kind.HoaKind.{HoaKind as Kind};
 
+use crate::acc::Acc;
 use crate::passing::{is_passed, number, pass};
 use crate::pending::Pending;
 use crate::raw_acc::{RawAcc, RawAccNode};
@@ -29,6 +31,19 @@ pub fn read_raw_acc<'a, S: TokenSource<'a, HoaKind>>(
     operand(&mut unfinished, source)?;
     while goes_on(&mut unfinished, source)? {}
     Ok(RawAcc::of_nodes(unfinished.nodes, unfinished.names, unfinished.depth))
+}
+
+/// Reads an acceptance formula as `read_raw_acc` does, and gives what it means. Refusal 3 where there is none, else 31 where an
+/// atom is neither `Fin` nor `Inf`, else 32 where it is over 256 deep; the tokens behind it are then left.
+pub fn read_acc<'a, S: TokenSource<'a, HoaKind>>(
+    alloc: Global,
+    source: &mut S,
+) -> Result<Acc, Refusal>
+    ensures ok { IfOk result (λ formula. ReadsMeant (S.left source.old) formula (S.left source.new)) }
+    ensures err { IfErr result (IsUnreadAcc (ReadsNoAcc (S.left source.old)) (λ fault. ReadsFaulty (S.left source.old) fault (S.left source.new))) }
+{
+    let raw = read_raw_acc(alloc, source)?;
+    raw.formula(alloc)
 }
 
 /// Reads a unary part, with what stands before it, and joins it to what waits for it before `&`.

@@ -1,5 +1,6 @@
 //! What holds of every kind and of all tokens: each call does nothing and states one law.
 
+ghost use Rattle.omega_acc.specs.AccReading.{FormulasAreOne};
 ghost use Rattle.omega_acc.specs.KindLaws.{BuchiIsEverySet, ParityIsPriority};
 ghost use Rattle.omega_acc.specs.Reading.{LabelsAreOne};
 
@@ -16,4 +17,9 @@ pub fn buchi_is_every_set()
 /// Of all tokens at most one label is read, and at most one rest is left.
 pub fn labels_are_one()
     ensures { LabelsAreOne }
+{}
+
+/// Of all tokens at most one acceptance formula is read, and at most one rest is left.
+pub fn formulas_are_one()
+    ensures { FormulasAreOne }
 {}

@@ -15,6 +15,7 @@ mod limits;
 mod mentioned;
 mod passing;
 mod pending;
+mod plain;
 mod postfix;
 mod priorities;
 mod raw_acc;
@@ -30,12 +31,12 @@ mod writing;
 
 pub use acc::Acc;
 pub use acc_name::{AccName, Parameter};
-pub use acc_reading::read_raw_acc;
+pub use acc_reading::{read_acc, read_raw_acc};
 pub use aliases::Aliases;
 pub use expansion::{expand, expanded_size};
 pub use kind::{AccKind, Order, Parity, ParityKind};
 pub use label::Label;
-pub use laws::{buchi_is_every_set, labels_are_one, parity_is_priority};
+pub use laws::{buchi_is_every_set, formulas_are_one, labels_are_one, parity_is_priority};
 pub use limits::{
     MOST_BUCHI_SETS, MOST_DEPTH, MOST_MENTIONED, MOST_SIZE, expression_limits_are_stated,
 };

@@ -1,12 +1,16 @@
-ghost use Rattle.std.specs.Prelude.{◌≡◌, ◌<◌, ◌≤◌, ◌↔◌, IsTrue, max, IfErr, IfOk};
+ghost use Rattle.std.specs.Prelude.{◌≡◌, ◌<◌, ◌≤◌, ◌↔◌, IsTrue, max, nat_lt, IfErr, IfOk};
+ghost use Rattle.std.specs.List.{list_all};
 ghost use Rattle.omega_acc.specs.RawAcc.{atom as atom_tree, conjunction, constant as constant_tree, disjunction, group as group_tree, raw_acc_depth};
 ghost use Rattle.omega_acc.specs.Depth.{IsDeeper, IsMemory, counted};
 ghost use Rattle.omega_acc.specs.Limits.{most_depth};
+ghost use Rattle.omega_acc.specs.layout.Plain.{set_below};
 
+use crate::acc::Acc;
 use crate::depth::deeper;
 use crate::limits::MOST_DEPTH;
+use crate::plain::{depth_of, nodes_of};
 use crate::postfix::{alone, with_all, with_one};
-use omega_text::{Refusal, Seq};
+use omega_text::{AutomatonFault, Refusal, Seq};
 use std::alloc::Global;
 use std::marker::Model;
 
@@ -53,6 +57,7 @@ impl Model for RawAcc {
 }
 
 impl RawAcc {
+    ghost use Rattle.omega_acc.specs.AccMeaning.{IsMeant, IsUnmeant, acc_sets};
     ghost use Rattle.omega_acc.specs.layout.RawAcc.{IsRawAcc, atom_names, raw_acc_postfix, raw_acc_tree_of};
 
     /// `t` or `f`.
@@ -139,6 +144,28 @@ impl RawAcc {
         self.depth > MOST_DEPTH
     }
 
+    /// Whether its sets are all below a count. Takes no memory.
+    pub fn sets_below(&self, count: u32) -> bool
+        ensures { result ≡ list_all (λ set. nat_lt set count) (acc_sets self.now) }
+    {
+        all_sets_below(self.nodes(), count)
+    }
+
+    /// What it means: the formula without parentheses.
+    ///
+    /// Refusal 31 where an atom is neither `Fin` nor `Inf` (HOA v1, acceptance), else 32 where it is over 256 deep.
+    pub fn formula(&self, alloc: Global) -> Result<Acc, Refusal>
+        ensures ok { IfOk result (λ formula. IsMeant self.now formula) }
+        ensures err { IfErr result (IsUnmeant self.now) }
+    {
+        let nodes = nodes_of(alloc, self)?;
+        if self.depth > MOST_DEPTH {
+            return Err(Refusal::Automaton(AutomatonFault::TooDeep));
+        }
+        let depth = depth_of(alloc, nodes.as_slice())?;
+        Ok(Acc::of_nodes(nodes, depth))
+    }
+
     /// The formula of nodes in postfix order, atoms' names and a depth.
     pub(crate) fn of_nodes(nodes: Vec<RawAccNode>, names: Vec<u8>, depth: u32) -> RawAcc
         requires { IsRawAcc nodes.items names.items depth }
@@ -163,5 +190,22 @@ impl RawAcc {
         ensures { result.now ≡ atom_names self.now }
     {
         self.names.as_slice()
+    }
+}
+
+/// Whether the sets of nodes are all below a count.
+fn all_sets_below(nodes: &[RawAccNode], count: u32) -> bool
+    ensures { result ≡ list_all (λ node. set_below count node) nodes.now }
+{
+    nodes.iter().all(|node| is_set_below(*node, count))
+}
+
+/// Whether the set of a node is below a count, if it has one.
+fn is_set_below(node: RawAccNode, count: u32) -> bool
+    ensures { result ≡ set_below count node }
+{
+    match node {
+        RawAccNode::Atom(_, _, set) => set < count,
+        _ => true,
     }
 }

@@ -1,7 +1,9 @@
-ghost use Rattle.std.specs.Prelude.{◌≡◌, ◌<◌, ◌≤◌, ◌↔◌, IsTrue, max, IfErr, IfOk};
-ghost use Rattle.omega_acc.specs.RawLabel.{alias as alias_tree, conjunction, constant as constant_tree, disjunction, group as group_tree, negation, proposition as proposition_tree, raw_depth};
+ghost use Rattle.std.specs.Prelude.{◌≡◌, ◌<◌, ◌≤◌, ◌↔◌, IsTrue, max, nat_lt, IfErr, IfOk};
+ghost use Rattle.std.specs.List.{list_all};
+ghost use Rattle.omega_acc.specs.RawLabel.{alias as alias_tree, conjunction, constant as constant_tree, disjunction, group as group_tree, negation, proposition as proposition_tree, raw_depth, raw_propositions};
 ghost use Rattle.omega_acc.specs.Depth.{IsDeeper, IsMemory, counted};
 ghost use Rattle.omega_acc.specs.Limits.{most_depth};
+ghost use Rattle.omega_acc.specs.layout.Propositions.{proposition_below};
 
 use crate::depth::deeper;
 use crate::limits::MOST_DEPTH;
@@ -165,6 +167,13 @@ impl RawLabel {
         self.depth > MOST_DEPTH
     }
 
+    /// Whether its propositions, those of its aliases' definitions left out, are all below a count. Takes no memory.
+    pub fn propositions_below(&self, count: u32) -> bool
+        ensures { result ≡ list_all (λ number. nat_lt number count) (raw_propositions self.now) }
+    {
+        all_propositions_below(self.nodes(), count)
+    }
+
     /// The label of nodes in postfix order, alias names and a depth.
     pub(crate) fn of_nodes(nodes: Vec<RawNode>, names: Vec<u8>, depth: u32) -> RawLabel
         requires { IsRawLabel nodes.items names.items depth }
@@ -189,5 +198,22 @@ impl RawLabel {
         ensures { result.now ≡ alias_names self.now }
     {
         self.names.as_slice()
+    }
+}
+
+/// Whether the propositions of nodes are all below a count.
+fn all_propositions_below(nodes: &[RawNode], count: u32) -> bool
+    ensures { result ≡ list_all (λ node. proposition_below count node) nodes.now }
+{
+    nodes.iter().all(|node| is_proposition_below(*node, count))
+}
+
+/// Whether the proposition of a node is below a count, if it has one.
+fn is_proposition_below(node: RawNode, count: u32) -> bool
+    ensures { result ≡ proposition_below count node }
+{
+    match node {
+        RawNode::Proposition(number) => number < count,
+        _ => true,
     }
 }
