@@ -1,5 +1,5 @@
 use crate::header_value::HeaderValue;
-use omega_acc::{Acc, AccName, RawLabel};
+use omega_acc::{AccName, RawAcc, RawLabel};
 use omega_text::Seq;
 
 /// An item of a header as it is written (HOA v1, *Header*). Numbers are at most 2,147,483,647; strings are the bytes between
@@ -23,7 +23,7 @@ pub enum RawItem {
     /// `Acceptance:`, the count of sets and the formula.
     Acceptance {
         count: u32,
-        formula: Acc,
+        formula: RawAcc,
     },
     /// `acc-name:`, an identifier and its parameters.
     AccName(AccName),
