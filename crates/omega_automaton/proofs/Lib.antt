@@ -1,4 +1,5 @@
 pub mod Greatest
+pub mod MarkLemmas
 pub mod Powers
 pub mod Repeats
 pub mod Said

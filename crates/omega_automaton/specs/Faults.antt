@@ -6,15 +6,17 @@ use Rattle.std.specs.Str.{bytes_eq}
 use Rattle.omega_text.specs.Limits.{most_number}
 use Rattle.omega_text.specs.declared.refusal.automaton.AutomatonFault.{AutomatonFault}
 use Rattle.omega_text.specs.declared.refusal.automaton.AutomatonFault.TheVariants.{AcceptanceAtom, Alias, Expansion, ImplicitCount, MissingAcceptance, MixedLabels, Proposition, RepeatedHeader, SetRange, StateRange, StateTwice, TooDeep, UnknownHeader, Version}
+use Rattle.omega_acc.specs.AccMeaning.{acc_meant, acc_sets}
 use Rattle.omega_acc.specs.Expanding.{Defined, Entry, Meaning, entries_of, expansion}
 use Rattle.omega_acc.specs.Label.{label_size}
 use Rattle.omega_acc.specs.Limits.{most_depth, most_size}
+use Rattle.omega_acc.specs.RawAcc.{raw_acc_depth}
 use Rattle.omega_acc.specs.RawLabel.{RawLabelTree, raw_propositions}
 use Rattle.omega_raw.specs.declared.raw_automaton.RawAutomaton.{RawAutomaton}
 use Rattle.omega_raw.specs.declared.raw_edge.RawEdge.{RawEdge}
 use Rattle.omega_raw.specs.declared.raw_item.RawItem.{RawItem}
 use Rattle.omega_raw.specs.declared.raw_state.RawState.{RawState}
-use Rattle.omega_automaton.specs.Automaton.{has_repeat, sets_of}
+use Rattle.omega_automaton.specs.Automaton.{has_repeat}
 use Rattle.omega_automaton.specs.Items.{Named, Accepted, acc_name_in, acceptance_in, alias_in, first_said, name_in, propositions_in, start_in, states_in, tool_in, unknown_in}
 use Rattle.omega_automaton.specs.Limits.{most_propositions, most_total_size}
 
@@ -93,10 +95,14 @@ is_marked test state = passes (list_any test) state.marks || list_any (λ edge. 
 abbrev pub set_count : RawAutomaton → ℕ
 set_count raw = unwrap_or (option_map (λ accepted. accepted.count) (first_said acceptance_in raw.items)) 0
 
+-- whether an acceptance has a set that is not below a count
+abbrev pub has_set_beyond : ℕ → Accepted → Bool
+has_set_beyond count accepted = not (list_all (λ set. nat_lt set count) (acc_sets accepted.formula))
+
 -- 25: whether a mark of a state or an edge, or a set of an acceptance, is not below the count of sets
 unfoldable pub has_set_out_of_range : RawAutomaton → Bool
 has_set_out_of_range raw =
-    list_any (λ item. passes (λ accepted. list_any (nat_le (set_count raw)) (sets_of accepted.formula)) (acceptance_in item)) raw.items
+    list_any (λ item. passes (has_set_beyond (set_count raw)) (acceptance_in item)) raw.items
     || list_any (is_marked (nat_le (set_count raw))) raw.states
 
 -- whether a label of a state of the body or of an edge of it passes a test
@@ -175,7 +181,7 @@ has_wrong_edge_count raw = list_any (is_miscounted (proposition_count raw)) raw.
 
 -- 31: whether an acceptance has an atom that is neither `Fin` nor `Inf`
 unfoldable pub has_wrong_atom : RawAutomaton → Bool
-has_wrong_atom raw = false
+has_wrong_atom raw = list_any (λ item. passes (λ accepted. is_none (acc_meant accepted.formula)) (acceptance_in item)) raw.items
 
 -- whether what a label means is too deep; what means nothing is not
 abbrev pub is_deep : Option Meaning → Bool
@@ -187,7 +193,9 @@ is_large meaning = passes (λ known. not (nat_lt most_depth known.depth) && nat_
 
 -- 32: whether an acceptance, an alias or a label is over 256 deep, its aliases replaced
 unfoldable pub has_deep_expression : RawAutomaton → Bool
-has_deep_expression raw = some_meaning is_deep raw
+has_deep_expression raw =
+    list_any (λ item. passes (λ accepted. nat_lt most_depth (raw_acc_depth accepted.formula)) (acceptance_in item)) raw.items
+    || some_meaning is_deep raw
 
 -- the tree nodes of what a label means, 0 where it means nothing
 abbrev pub size_of_meaning : Option Meaning → ℕ

@@ -1,8 +1,8 @@
 -- What the items of a header say, as they are written (HOA v1, header).
 use Rattle.std.specs.Prelude.{ℕ, List, [], ◌∷◌, Option, Some, None, slice_get, map}
 use Rattle.std.specs.List.{filter_map, flat_map}
-use Rattle.omega_acc.specs.Acceptance.{AccTree}
 use Rattle.omega_acc.specs.Expanding.{Defined}
+use Rattle.omega_acc.specs.RawAcc.{RawAccTree}
 use Rattle.omega_acc.specs.declared.acc_name.AccName.{AccName}
 use Rattle.omega_raw.specs.declared.raw_item.RawItem.{RawItem}
 use Rattle.omega_raw.specs.declared.raw_item.RawItem.TheVariants as item
@@ -14,10 +14,10 @@ pub record Named : Type 0 where
   pub count : ℕ
   pub names : List (List ℕ)
 
--- an acceptance: the count of sets, and the formula
+-- an acceptance: the count of sets, and the formula as it is written
 pub record Accepted : Type 0 where
   pub count : ℕ
-  pub formula : AccTree
+  pub formula : RawAccTree
 
 -- what an item says: the count of states
 abbrev pub states_in : RawItem → Option ℕ

@@ -1,9 +1,10 @@
 -- What an automaton text without a fault means: the value, part by part (docs/formats.md, meaning of an automaton text).
-use Rattle.std.specs.Prelude.{◌≡◌, ◌↔◌, ℕ, List, [], Option, Some, None, Contains, option_map, unwrap_or}
+use Rattle.std.specs.Prelude.{◌≡◌, ◌↔◌, ℕ, List, [], Option, Some, None, Contains, option_and_then, unwrap_or}
 use Rattle.std.specs.List.{AllZip, filter_map, flat_map}
 use Rattle.std.specs.List.Sorted.{IsStrictlyIncreasing}
 use Rattle.omega_text.specs.Cases.{never, or_automaton, or_memory}
 use Rattle.omega_text.specs.declared.refusal.Refusal.{Refusal}
+use Rattle.omega_acc.specs.AccMeaning.{acc_meant}
 use Rattle.omega_acc.specs.Expanding.{Defined, IsExpansion}
 use Rattle.omega_acc.specs.Label.{LabelTree}
 use Rattle.omega_acc.specs.RawLabel.{RawLabelTree}
@@ -56,7 +57,7 @@ pub record Means (raw : RawAutomaton) (a : Description) : Type 0 where
   pub propositions : a.propositions ≡ names_of raw
   pub acc_name : a.acc_name ≡ first_said acc_name_in raw.items
   pub sets : a.sets ≡ set_count raw
-  pub acceptance : Some a.acceptance ≡ option_map (λ accepted. accepted.formula) (first_said acceptance_in raw.items)
+  pub acceptance : option_and_then (λ accepted. acc_meant accepted.formula) (first_said acceptance_in raw.items) ≡ Some a.acceptance
   pub properties : a.properties ≡ flat_map properties_in raw.items
   pub unknown : a.unknown ≡ filter_map unknown_in raw.items
   pub defined : AllZip (IsStateOf (definitions_of raw)) raw.states a.defined

@@ -2,3 +2,4 @@
 pub mod Automaton
 pub mod Trials
 pub mod Gathered
+pub mod Order

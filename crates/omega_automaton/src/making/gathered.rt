@@ -5,7 +5,7 @@ ghost use Rattle.omega_automaton.specs.layout.Gathered.{HasTaken};
 
 use crate::header::Header;
 use crate::tool::Tool;
-use omega_acc::{Acc, AccName};
+use omega_acc::{AccName, RawAcc};
 use omega_raw::RawItem;
 use omega_text::{Refusal, Seq};
 use std::alloc::Global;
@@ -19,7 +19,7 @@ pub(crate) struct Gathered {
     pub starts: Vec<Seq<u32>>,
     pub propositions: Option<Seq<Seq<u8>>>,
     pub acc_name: Option<AccName>,
-    pub acceptance: Option<Acc>,
+    pub acceptance: Option<RawAcc>,
     pub properties: Vec<Seq<u8>>,
     pub unknown: Vec<Header>,
 }
