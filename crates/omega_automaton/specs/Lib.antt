@@ -6,4 +6,5 @@ pub mod Automaton
 pub mod Items
 pub mod Faults
 pub mod Meaning
+pub mod Laws
 pub mod layout
