@@ -1,0 +1,11 @@
+use Rattle.std.proofs.Common.{ap, ◌∙◌, arith}
+use Rattle.omega_automaton.specs.Faults.{bound_of, item_bound, state_bound}
+use Rattle.omega_automaton.proofs.Greatest.{greatest_step}
+use Rattle.omega_automaton.proofs.judging.states.items_bound.Goals as goal
+
+pub loop-item-preserved : goal.loop-item-preserved
+loop-item-preserved c = (
+  greatest_step item_bound c.args.items.now c.loop-item.item-index c.item-item.result c.loop-item.bound c.item_bound.result c.max-bound.result
+      (omega arith) c.item-item.is c.loop-item.invariant.0 c.item_bound.ensures.value c.max-bound.ensures,
+  omega (arith, c.item_bound.ensures.range),
+)

@@ -1,0 +1,6 @@
+use Rattle.std.proofs.Common.{◌≡◌, ℕ, ◌+◌, ◌^◌, ◌≤◌, take}
+use Rattle.omega_automaton.specs.Faults.{bound_of, greatest_of, item_bound, state_bound}
+use Rattle.omega_automaton.proofs.judging.states.states_bound.Given as goal
+
+abbrev pub invariant-loop-state : goal.invariant-loop-state
+invariant-loop-state l = (l.bound ≡ greatest_of state_bound (take l.state-index l.states)) × (l.bound ≤ 2 ^ 32)

@@ -1,0 +1,19 @@
+use Rattle.std.proofs.Common.{◌≡◌, map, refl, sym, ◌∙◌}
+use Rattle.std.proofs.lemmas.Iterator.Adapters.{YieldsList-from_vec}
+use Rattle.std.proofs.lemmas.Iterator.Consumers.{YieldsList-end}
+use Rattle.std.proofs.lemmas.List.Folds.{map_fixed}
+use Rattle.omega_automaton.specs.Meaning.{IsEdgeOf}
+use Rattle.omega_automaton.proofs.Zipped.{zipped_push}
+use Rattle.omega_automaton.proofs.making.states.edges_of.Goals as goal
+
+pub loop-edge-preserved : goal.loop-edge-preserved
+loop-edge-preserved c =
+    zipped_push (IsEdgeOf c.args.aliases.now) c.loop-edge.yielded c.loop-edge.made.items c.push.new.self.items c.in-Some.edge _ c.loop-edge.invariant c.in_ok-edge.ensures.ok c.in_ok-push.ensures.items
+
+pub returns-clause-ok : goal.returns-clause-ok
+returns-clause-ok c =
+    let taken = c.into_iter-edge-iterator.ensures.into_iter_gives in
+    let gives = YieldsList-from_vec {s = c.into_iter-edge-iterator.result} c.into_vec-edge-items.result.items taken.0 (taken.1 ∙ c.into_vec-edge-items.result.ok.0) in
+    let all = YieldsList-end gives c.loop-edge.yielded c.loop-edge.edge-iterator c.loop-edge.yielded_by c.next.result c.next.new.self c.in-None.is c.next.ensures.steps in
+    let same : c.loop-edge.yielded ≡ c.args.edges = sym (map_fixed (λ x. x) c.loop-edge.yielded (λ k d h. refl)) ∙ (all.0 ∙ c.into_vec-edge-items.ensures) in
+    rw (sym same) (rw c.from_vec.ensures c.loop-edge.invariant)

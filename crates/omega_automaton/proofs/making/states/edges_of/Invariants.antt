@@ -1,0 +1,6 @@
+use Rattle.std.specs.List.{AllZip}
+use Rattle.omega_automaton.specs.Meaning.{IsEdgeOf}
+use Rattle.omega_automaton.proofs.making.states.edges_of.Given as goal
+
+abbrev pub invariant-loop-edge : goal.invariant-loop-edge
+invariant-loop-edge l = AllZip (IsEdgeOf l.aliases) l.yielded l.made.items

@@ -1,0 +1,6 @@
+use Rattle.std.specs.List.{AllZip}
+use Rattle.omega_automaton.specs.Meaning.{IsStateOf}
+use Rattle.omega_automaton.proofs.making.states.states_of.Given as goal
+
+abbrev pub invariant-loop-state : goal.invariant-loop-state
+invariant-loop-state l = AllZip (IsStateOf l.aliases) l.yielded l.made.items

@@ -1,0 +1,5 @@
+-- How automata lie in memory: cited by private contracts alone.
+pub mod Automaton
+pub mod Trials
+pub mod Gathered
+pub mod Order

@@ -1,0 +1,146 @@
+ghost use Rattle.std.specs.Prelude.{◌≡◌, option_map};
+ghost use Rattle.std.specs.Option.{option_copied};
+
+use crate::header::Header;
+use crate::state::State;
+use crate::tool::Tool;
+use omega_acc::{Acc, AccName};
+use omega_text::Seq;
+use std::marker::Model;
+
+/// An omega-automaton of the Hanoi format (HOA v1).
+///
+/// States are numbers from 0 up to their count, and so are sets and propositions. A state that is not among the defined
+/// ones has no edges. Edges are numbered from 0 through all defined states, in the order written.
+#[derive(Drop)]
+pub struct Automaton {
+    tool: Option<Tool>,
+    name: Option<Seq<u8>>,
+    state_count: u32,
+    starts: Seq<Seq<u32>>,
+    propositions: Seq<Seq<u8>>,
+    acc_name: Option<AccName>,
+    set_count: u32,
+    acceptance: Acc,
+    properties: Seq<Seq<u8>>,
+    unknown: Seq<Header>,
+    defined: Seq<State>,
+    edge_count: u32,
+}
+
+impl Model for Automaton {
+    ghost use Rattle.std.specs.Coded.{codes};
+    ghost use Rattle.omega_acc.specs.contracts.acc.Acc as acc;
+    ghost use Rattle.omega_acc.specs.contracts.label.Label as label;
+    ghost use Rattle.omega_automaton.specs.Automaton.{Description};
+
+    ghost Value = { Description };
+
+    ghost coded = { Prim.hlevel (codes, label.the_row.coded, acc.the_row.coded) };
+
+    ghost use Rattle.omega_automaton.specs.layout.Automaton.{description_of, IsLaidOut};
+
+    ghost view = { description_of };
+
+    ghost invariant = { IsLaidOut };
+}
+
+impl Automaton {
+    ghost use Rattle.omega_automaton.specs.Automaton.{IsAutomaton, edge_count};
+
+    /// What each automaton keeps: numbers below their counts, each state defined at most once, and the limits. Does
+    /// nothing: it hands on what the type keeps.
+    pub fn keeps_limits(&self)
+        ensures { IsAutomaton self.now }
+    {
+        // A field is read, since only then a proof knows the invariant.
+        let _count = self.state_count;
+    }
+
+    /// The tool that wrote it, if it says so.
+    pub fn tool(&self) -> Option<&Tool>
+        ensures { option_copied result ≡ self.now.tool }
+    {
+        self.tool.as_ref()
+    }
+
+    /// Its name between the quotes, if it has one.
+    pub fn name(&self) -> Option<&[u8]>
+        ensures { option_map (λ name. name.now) result ≡ self.now.name }
+    {
+        match &self.name {
+            Some(name) => Some(name.as_slice()),
+            None => None,
+        }
+    }
+
+    /// The count of states, defined or not, at most 2,147,483,647 where it was read.
+    pub fn state_count(&self) -> u32
+        ensures { result ≡ self.now.states }
+    {
+        self.state_count
+    }
+
+    /// The initial choices in the order written, each with the states that it begins in at once.
+    pub fn starts(&self) -> &[Seq<u32>]
+        ensures { result.now ≡ self.now.starts }
+    {
+        self.starts.as_slice()
+    }
+
+    /// The names of the propositions between their quotes, at most 1,024, no two alike.
+    pub fn propositions(&self) -> &[Seq<u8>]
+        ensures { result.now ≡ self.now.propositions }
+    {
+        self.propositions.as_slice()
+    }
+
+    /// The name of its acceptance, if it has one.
+    pub fn acc_name(&self) -> Option<&AccName>
+        ensures { option_copied result ≡ self.now.acc_name }
+    {
+        self.acc_name.as_ref()
+    }
+
+    /// The count of sets.
+    pub fn set_count(&self) -> u32
+        ensures { result ≡ self.now.sets }
+    {
+        self.set_count
+    }
+
+    /// Its acceptance formula, whose sets are below their count.
+    pub fn acceptance(&self) -> &Acc
+        ensures { result.now ≡ self.now.acceptance }
+    {
+        &self.acceptance
+    }
+
+    /// The properties of all items in the order written. They are not judged.
+    pub fn properties(&self) -> &[Seq<u8>]
+        ensures { result.now ≡ self.now.properties }
+    {
+        self.properties.as_slice()
+    }
+
+    /// The headers that the format leaves open in the order written.
+    pub fn unknown(&self) -> &[Header]
+        ensures { result.now ≡ self.now.unknown }
+    {
+        self.unknown.as_slice()
+    }
+
+    /// The states that the body defines in the order written, each at most once.
+    pub fn defined(&self) -> &[State]
+        ensures { result.now ≡ self.now.defined }
+    {
+        self.defined.as_slice()
+    }
+
+    /// How many edges the defined states have.
+    pub fn edge_count(&self) -> u32
+        ensures { result ≡ edge_count self.now }
+    {
+        self.edge_count
+    }
+}

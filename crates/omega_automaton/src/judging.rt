@@ -1,0 +1,20 @@
+//! Which meaning faults of an automaton text apply (docs/formats.md, meaning of an automaton text): a file a subject.
+
+mod acceptance;
+mod header;
+mod implicit;
+mod labels;
+mod order;
+mod propositions;
+mod repeats;
+mod sets;
+mod states;
+mod trial;
+mod version;
+
+pub(crate) use acceptance::has_deep_acceptance;
+pub(crate) use order::{early_fault, late_fault};
+pub(crate) use propositions::proposition_count;
+pub(crate) use sets::set_count;
+pub(crate) use states::state_count;
+pub(crate) use trial::{Trial, any_fails, fails};

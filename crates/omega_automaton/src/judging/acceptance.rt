@@ -1,0 +1,76 @@
+ghost use Rattle.std.specs.Prelude.{◌≡◌, is_none, nat_lt, IfErr, IfOk};
+ghost use Rattle.std.specs.List.{list_any};
+ghost use Rattle.omega_acc.specs.AccMeaning.{acc_meant};
+ghost use Rattle.omega_acc.specs.Depth.{IsMemory};
+ghost use Rattle.omega_acc.specs.Limits.{most_depth};
+ghost use Rattle.omega_acc.specs.RawAcc.{raw_acc_depth};
+ghost use Rattle.omega_automaton.specs.Faults.{has_wrong_atom as wrong_atom, passes};
+ghost use Rattle.omega_automaton.specs.Items.{acceptance_in};
+
+use omega_acc::RawAcc;
+use omega_raw::{RawAutomaton, RawItem};
+use omega_text::{AutomatonFault, Refusal};
+use std::alloc::Global;
+
+/// Whether an acceptance has an atom that is neither `Fin` nor `Inf` (refusal 31).
+#[tactic(auto, unfolding(crate::specs::Faults::has_wrong_atom))]
+pub(crate) fn has_wrong_atom(alloc: Global, raw: &RawAutomaton) -> Result<bool, Refusal>
+    ensures ok { IfOk result (λ wrong. wrong ≡ wrong_atom raw.now) }
+    ensures err { IfErr result IsMemory }
+{
+    any_wrong(alloc, raw.items.as_slice())
+}
+
+/// Whether one of the items is an acceptance with an atom that is neither `Fin` nor `Inf`.
+fn any_wrong(alloc: Global, items: &[RawItem]) -> Result<bool, Refusal>
+    ensures ok { IfOk result (λ wrong. wrong ≡ list_any (λ item. passes (λ accepted. is_none (acc_meant accepted.formula)) (acceptance_in item)) items.now) }
+    ensures err { IfErr result IsMemory }
+{
+    for item in items {
+        if is_wrong(alloc, item)? {
+            return Ok(true);
+        }
+    }
+    Ok(false)
+}
+
+/// Whether an item is an acceptance with an atom that is neither `Fin` nor `Inf`.
+fn is_wrong(alloc: Global, item: &RawItem) -> Result<bool, Refusal>
+    ensures ok { IfOk result (λ wrong. wrong ≡ passes (λ accepted. is_none (acc_meant accepted.formula)) (acceptance_in item.now)) }
+    ensures err { IfErr result IsMemory }
+{
+    match item {
+        RawItem::Acceptance { formula, .. } => means_nothing(alloc, formula),
+        _ => Ok(false),
+    }
+}
+
+/// Whether a formula has an atom that is neither `Fin` nor `Inf`.
+fn means_nothing(alloc: Global, formula: &RawAcc) -> Result<bool, Refusal>
+    ensures ok { IfOk result (λ wrong. wrong ≡ is_none (acc_meant formula.now)) }
+    ensures err { IfErr result IsMemory }
+{
+    match formula.formula(alloc) {
+        Ok(_) => Ok(false),
+        Err(Refusal::Automaton(AutomatonFault::AcceptanceAtom)) => Ok(true),
+        Err(Refusal::Automaton(_)) => Ok(false),
+        Err(_) => Err(Refusal::Memory),
+    }
+}
+
+/// Whether one of the items is an acceptance that is too deep.
+pub(crate) fn has_deep_acceptance(items: &[RawItem]) -> bool
+    ensures { result ≡ list_any (λ item. passes (λ accepted. nat_lt most_depth (raw_acc_depth accepted.formula)) (acceptance_in item)) items.now }
+{
+    items.iter().any(|item| is_deep(item))
+}
+
+/// Whether an item is an acceptance that is too deep.
+fn is_deep(item: &RawItem) -> bool
+    ensures { result ≡ passes (λ accepted. nat_lt most_depth (raw_acc_depth accepted.formula)) (acceptance_in item.now) }
+{
+    match item {
+        RawItem::Acceptance { formula, .. } => formula.is_too_deep(),
+        _ => false,
+    }
+}

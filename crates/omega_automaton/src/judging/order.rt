@@ -1,0 +1,71 @@
+ghost use Rattle.std.specs.Prelude.{◌≡◌, IfErr, IfOk};
+ghost use Rattle.omega_acc.specs.Depth.{IsMemory};
+ghost use Rattle.omega_automaton.specs.layout.Order.{early_fault as earliest, late_fault as latest};
+
+use crate::judging::acceptance::has_wrong_atom;
+use crate::judging::header::{has_repeated_item, has_unknown_capital, lacks_acceptance};
+use crate::judging::implicit::has_wrong_edge_count;
+use crate::judging::labels::has_mixed_labels;
+use crate::judging::propositions::{has_wrong_proposition, proposition_count};
+use crate::judging::repeats::has_state_twice;
+use crate::judging::sets::has_set_out_of_range;
+use crate::judging::states::has_state_out_of_range;
+use crate::judging::version::has_other_version;
+use omega_raw::RawAutomaton;
+use omega_text::{AutomatonFault, Refusal};
+use std::alloc::Global;
+
+/// The least of the faults 20 to 26 that applies, none where none does.
+pub(crate) fn early_fault(
+    alloc: Global,
+    raw: &RawAutomaton,
+) -> Result<Option<AutomatonFault>, Refusal>
+    ensures ok { IfOk result (λ fault. fault ≡ earliest raw.now) }
+    ensures err { IfErr result IsMemory }
+{
+    if has_other_version(raw) {
+        return Ok(Some(AutomatonFault::Version));
+    }
+    if has_repeated_item(raw) {
+        return Ok(Some(AutomatonFault::RepeatedHeader));
+    }
+    if lacks_acceptance(raw) {
+        return Ok(Some(AutomatonFault::MissingAcceptance));
+    }
+    if has_unknown_capital(raw) {
+        return Ok(Some(AutomatonFault::UnknownHeader));
+    }
+    if has_state_out_of_range(raw) {
+        return Ok(Some(AutomatonFault::StateRange));
+    }
+    if has_set_out_of_range(raw) {
+        return Ok(Some(AutomatonFault::SetRange));
+    }
+    if has_wrong_proposition(alloc, raw)? {
+        return Ok(Some(AutomatonFault::Proposition));
+    }
+    Ok(None)
+}
+
+/// The least of the faults 28 to 31 that applies, none where none does.
+pub(crate) fn late_fault(
+    alloc: Global,
+    raw: &RawAutomaton,
+) -> Result<Option<AutomatonFault>, Refusal>
+    ensures ok { IfOk result (λ fault. fault ≡ latest raw.now) }
+    ensures err { IfErr result IsMemory }
+{
+    if has_state_twice(alloc, raw)? {
+        return Ok(Some(AutomatonFault::StateTwice));
+    }
+    if has_mixed_labels(raw) {
+        return Ok(Some(AutomatonFault::MixedLabels));
+    }
+    if has_wrong_edge_count(raw, proposition_count(raw)) {
+        return Ok(Some(AutomatonFault::ImplicitCount));
+    }
+    if has_wrong_atom(alloc, raw)? {
+        return Ok(Some(AutomatonFault::AcceptanceAtom));
+    }
+    Ok(None)
+}

@@ -1,0 +1,137 @@
+ghost use Rattle.std.specs.Prelude.{◌≡◌, option_map, unwrap_or, IfErr, IfOk};
+ghost use Rattle.std.specs.List.{list_any};
+ghost use Rattle.omega_acc.specs.Depth.{IsMemory};
+ghost use Rattle.omega_automaton.specs.Faults.{has_wrong_proposition as wrong_proposition, is_beyond as beyond, is_labelled, is_misnamed as misnamed, passes, proposition_count as count_of_propositions};
+ghost use Rattle.omega_automaton.specs.Items.{alias_in, first_said, propositions_in};
+
+use crate::judging::repeats::has_name_twice;
+use crate::limits::MOST_PROPOSITIONS;
+use omega_acc::RawLabel;
+use omega_raw::{RawAutomaton, RawEdge, RawItem, RawState};
+use omega_text::{Refusal, Seq};
+use std::alloc::Global;
+
+/// Whether propositions are miscounted, alike or too many, or a label or an alias mentions one out of range (refusal 26).
+#[tactic(auto, unfolding(crate::specs::Faults::has_wrong_proposition))]
+pub(crate) fn has_wrong_proposition(alloc: Global, raw: &RawAutomaton) -> Result<bool, Refusal>
+    ensures ok { IfOk result (λ wrong. wrong ≡ wrong_proposition raw.now) }
+    ensures err { IfErr result IsMemory }
+{
+    let count = proposition_count(raw);
+    if any_misnamed(alloc, raw.items.as_slice())? {
+        return Ok(true);
+    }
+    if any_alias_beyond(raw.items.as_slice(), count) {
+        return Ok(true);
+    }
+    Ok(any_label_beyond(raw.states.as_slice(), count))
+}
+
+/// The count of propositions, 0 where there is no `AP:`.
+pub(crate) fn proposition_count(raw: &RawAutomaton) -> u32
+    ensures { result ≡ count_of_propositions raw.now }
+{
+    stated_count(raw.items.as_slice())
+}
+
+/// The count that the first `AP:` gives, 0 where there is none.
+fn stated_count(items: &[RawItem]) -> u32
+    ensures { result ≡ unwrap_or (option_map (λ named. named.count) (first_said propositions_in items.now)) 0 }
+{
+    for item in items {
+        if let RawItem::Propositions { count, .. } = item {
+            return *count;
+        }
+    }
+    0
+}
+
+/// Whether the names of some propositions are not as many as stated, or too many, or alike.
+fn any_misnamed(alloc: Global, items: &[RawItem]) -> Result<bool, Refusal>
+    ensures ok { IfOk result (λ wrong. wrong ≡ list_any (λ item. passes misnamed (propositions_in item)) items.now) }
+    ensures err { IfErr result IsMemory }
+{
+    for item in items {
+        if misnames(alloc, item)? {
+            return Ok(true);
+        }
+    }
+    Ok(false)
+}
+
+/// Whether an item names propositions and not as many as stated, or too many, or alike.
+fn misnames(alloc: Global, item: &RawItem) -> Result<bool, Refusal>
+    ensures ok { IfOk result (λ wrong. wrong ≡ passes misnamed (propositions_in item.now)) }
+    ensures err { IfErr result IsMemory }
+{
+    match item {
+        RawItem::Propositions { count, names } => is_misnamed(alloc, *count, names),
+        _ => Ok(false),
+    }
+}
+
+/// Whether names are not as many as stated, or too many, or alike.
+fn is_misnamed(alloc: Global, count: u32, names: &Seq<Seq<u8>>) -> Result<bool, Refusal>
+    ensures ok { IfOk result (λ wrong. wrong ≡ misnamed (record { count = count; names = names.now })) }
+    ensures err { IfErr result IsMemory }
+{
+    if !(count as usize == names.len()) || MOST_PROPOSITIONS < names.len() {
+        return Ok(true);
+    }
+    has_name_twice(alloc, names.as_slice())
+}
+
+/// Whether the definition of an alias mentions a proposition that is not below a count.
+fn any_alias_beyond(items: &[RawItem], count: u32) -> bool
+    ensures { result ≡ list_any (λ item. passes (λ defined. beyond count defined.body) (alias_in item)) items.now }
+{
+    items.iter().any(|item| alias_beyond(item, count))
+}
+
+/// Whether an item is an alias whose definition mentions a proposition that is not below a count.
+fn alias_beyond(item: &RawItem, count: u32) -> bool
+    ensures { result ≡ passes (λ defined. beyond count defined.body) (alias_in item.now) }
+{
+    match item {
+        RawItem::Alias { definition, .. } => is_beyond(definition, count),
+        _ => false,
+    }
+}
+
+/// Whether a label of the body mentions a proposition that is not below a count.
+fn any_label_beyond(states: &[RawState], count: u32) -> bool
+    ensures { result ≡ list_any (is_labelled (beyond count)) states.now }
+{
+    states.iter().any(|state| labels_beyond(state, count))
+}
+
+/// Whether a label of a state or of an edge of it mentions a proposition that is not below a count.
+fn labels_beyond(state: &RawState, count: u32) -> bool
+    ensures { result ≡ is_labelled (beyond count) state.now }
+{
+    label_beyond(&state.label, count) || edges_beyond(state.edges.as_slice(), count)
+}
+
+/// Whether a label of one of the edges mentions a proposition that is not below a count.
+fn edges_beyond(edges: &[RawEdge], count: u32) -> bool
+    ensures { result ≡ list_any (λ edge. passes (beyond count) edge.label) edges.now }
+{
+    edges.iter().any(|edge| label_beyond(&edge.label, count))
+}
+
+/// Whether there is a label that mentions a proposition that is not below a count.
+fn label_beyond(label: &Option<RawLabel>, count: u32) -> bool
+    ensures { result ≡ passes (beyond count) label.now }
+{
+    match label {
+        Some(label) => is_beyond(label, count),
+        None => false,
+    }
+}
+
+/// Whether a label mentions a proposition that is not below a count.
+fn is_beyond(label: &RawLabel, count: u32) -> bool
+    ensures { result ≡ beyond count label.now }
+{
+    !label.propositions_below(count)
+}

@@ -1,0 +1,47 @@
+ghost use Rattle.std.specs.Prelude.{◌≡◌, map, nat_eq, IfErr, IfOk};
+ghost use Rattle.std.specs.Str.{bytes_eq};
+ghost use Rattle.omega_acc.specs.Depth.{IsMemory};
+ghost use Rattle.omega_automaton.specs.Automaton.{has_repeat};
+ghost use Rattle.omega_automaton.specs.Faults.{has_state_twice as state_twice};
+
+use indexmap::IndexSet;
+use omega_raw::{RawAutomaton, RawState};
+use omega_text::{Refusal, Seq};
+use std::alloc::Global;
+
+/// Whether two states of the body have one number (refusal 28).
+#[tactic(auto, unfolding(crate::specs::Faults::has_state_twice))]
+pub(crate) fn has_state_twice(alloc: Global, raw: &RawAutomaton) -> Result<bool, Refusal>
+    ensures ok { IfOk result (λ twice. twice ≡ state_twice raw.now) }
+    ensures err { IfErr result IsMemory }
+{
+    has_number_twice(alloc, raw.states.as_slice())
+}
+
+/// Whether two of the states have one number.
+fn has_number_twice(alloc: Global, states: &[RawState]) -> Result<bool, Refusal>
+    ensures ok { IfOk result (λ twice. twice ≡ has_repeat nat_eq (map (λ state. state.number) states.now)) }
+    ensures err { IfErr result IsMemory }
+{
+    let mut seen = IndexSet::new(alloc);
+    for state in states {
+        if !seen.insert(state.number)? {
+            return Ok(true);
+        }
+    }
+    Ok(false)
+}
+
+/// Whether two of the names have equal bytes.
+pub(crate) fn has_name_twice(alloc: Global, names: &[Seq<u8>]) -> Result<bool, Refusal>
+    ensures ok { IfOk result (λ twice. twice ≡ has_repeat bytes_eq names.now) }
+    ensures err { IfErr result IsMemory }
+{
+    let mut seen: IndexSet<&[u8]> = IndexSet::new(alloc);
+    for name in names {
+        if !seen.insert(name.as_slice())? {
+            return Ok(true);
+        }
+    }
+    Ok(false)
+}

@@ -1,0 +1,169 @@
+ghost use Rattle.std.specs.Prelude.{◌≡◌, ◌+◌, ◌≤◌, ◌^◌, max, min, unwrap_or, [], nat_le};
+ghost use Rattle.std.specs.List.{list_any};
+ghost use Rattle.omega_automaton.specs.Faults.{bound_of as bound_in, greatest_of, has_state_out_of_range as state_out_of_range, item_bound as bound_of_item, mentioned_count as count_mentioned, mentions, passes, state_bound as bound_of_state, state_count as count_of_states};
+ghost use Rattle.omega_automaton.specs.Items.{first_said, start_in, states_in};
+
+use omega_raw::{RawAutomaton, RawEdge, RawItem, RawState};
+use omega_text::MOST_NUMBER;
+
+/// Whether a state that is mentioned is not below the count of states (refusal 24).
+#[tactic(auto, unfolding(crate::specs::Faults::has_state_out_of_range))]
+pub(crate) fn has_state_out_of_range(raw: &RawAutomaton) -> bool
+    ensures { result ≡ state_out_of_range raw.now }
+{
+    let count = state_count(raw);
+    any_start_beyond(raw.items.as_slice(), count)
+        || any_mentioned_beyond(raw.states.as_slice(), count)
+}
+
+/// Whether one of the items is a start with a state that is not below a count.
+fn any_start_beyond(items: &[RawItem], count: u32) -> bool
+    ensures { result ≡ list_any (λ item. passes (list_any (nat_le count)) (start_in item)) items.now }
+{
+    items.iter().any(|item| starts_beyond(item, count))
+}
+
+/// Whether one of the states mentions a state that is not below a count.
+fn any_mentioned_beyond(states: &[RawState], count: u32) -> bool
+    ensures { result ≡ list_any (mentions (nat_le count)) states.now }
+{
+    states.iter().any(|state| mentions_beyond(state, count))
+}
+
+/// Whether one of the numbers is not below a count.
+pub(crate) fn any_beyond(numbers: &[u32], count: u32) -> bool
+    ensures { result ≡ list_any (nat_le count) numbers.now }
+{
+    numbers.iter().any(|number| count <= *number)
+}
+
+/// Whether an item is a start with a state that is not below a count.
+fn starts_beyond(item: &RawItem, count: u32) -> bool
+    ensures { result ≡ passes (list_any (nat_le count)) (start_in item.now) }
+{
+    match item {
+        RawItem::Start(states) => any_beyond(states.as_slice(), count),
+        _ => false,
+    }
+}
+
+/// Whether a state of the body mentions one that is not below a count.
+fn mentions_beyond(state: &RawState, count: u32) -> bool
+    ensures { result ≡ mentions (nat_le count) state.now }
+{
+    count <= state.number || lead_beyond(state.edges.as_slice(), count)
+}
+
+/// Whether one of the edges leads to a state that is not below a count.
+fn lead_beyond(edges: &[RawEdge], count: u32) -> bool
+    ensures { result ≡ list_any (λ edge. list_any (nat_le count) edge.targets) edges.now }
+{
+    edges
+        .iter()
+        .any(|edge| any_beyond(edge.targets.as_slice(), count))
+}
+
+/// The count of states: that of `States:`, or by the states mentioned, where a count over the greatest number of a text is
+/// that number.
+pub(crate) fn state_count(raw: &RawAutomaton) -> u32
+    ensures { result ≡ count_of_states raw.now }
+{
+    match stated_count(raw.items.as_slice()) {
+        Some(count) => count,
+        None => mentioned_count(raw),
+    }
+}
+
+/// The count that the first `States:` gives.
+fn stated_count(items: &[RawItem]) -> Option<u32>
+    ensures { result ≡ first_said states_in items.now }
+{
+    for item in items {
+        if let RawItem::States(count) = item {
+            return Some(*count);
+        }
+    }
+    None
+}
+
+/// One more than the greatest state that is mentioned, at most the greatest number of a text.
+#[tactic(auto, unfolding(crate::specs::Faults::mentioned_count))]
+fn mentioned_count(raw: &RawAutomaton) -> u32
+    ensures { result ≡ count_mentioned raw.now }
+{
+    let started = items_bound(raw.items.as_slice());
+    let named = states_bound(raw.states.as_slice());
+    started.max(named).min(u64::from(MOST_NUMBER)) as u32
+}
+
+/// One more than the greatest of some numbers, 0 where there are none.
+#[tactic(auto, using(crate::proofs::Greatest::greatest_more))]
+fn bound_of(numbers: &[u32]) -> u64
+    ensures value { result ≡ bound_in numbers.now }
+    ensures range { result ≤ 2 ^ 32 }
+{
+    let mut bound = 0u64;
+    for number in numbers {
+        bound = bound.max(u64::from(*number) + 1);
+    }
+    bound
+}
+
+/// One more than the greatest state that the starts mention.
+#[tactic(auto, using(crate::proofs::Greatest::greatest_more))]
+fn items_bound(items: &[RawItem]) -> u64
+    ensures value { result ≡ greatest_of bound_of_item items.now }
+    ensures range { result ≤ 2 ^ 32 }
+{
+    let mut bound = 0u64;
+    for item in items {
+        bound = bound.max(item_bound(item));
+    }
+    bound
+}
+
+/// One more than the greatest state of a start, 0 where an item is none.
+fn item_bound(item: &RawItem) -> u64
+    ensures value { result ≡ bound_of_item item.now }
+    ensures range { result ≤ 2 ^ 32 }
+{
+    match item {
+        RawItem::Start(states) => bound_of(states.as_slice()),
+        _ => 0,
+    }
+}
+
+/// One more than the greatest state that the body mentions.
+#[tactic(auto, using(crate::proofs::Greatest::greatest_more))]
+fn states_bound(states: &[RawState]) -> u64
+    ensures value { result ≡ greatest_of bound_of_state states.now }
+    ensures range { result ≤ 2 ^ 32 }
+{
+    let mut bound = 0u64;
+    for state in states {
+        bound = bound.max(state_bound(state));
+    }
+    bound
+}
+
+/// One more than the greatest state that a state of the body mentions.
+fn state_bound(state: &RawState) -> u64
+    ensures value { result ≡ bound_of_state state.now }
+    ensures range { result ≤ 2 ^ 32 }
+{
+    let targets = edges_bound(state.edges.as_slice());
+    targets.max(u64::from(state.number) + 1)
+}
+
+/// One more than the greatest state that edges lead to.
+#[tactic(auto, using(crate::proofs::Greatest::greatest_more))]
+fn edges_bound(edges: &[RawEdge]) -> u64
+    ensures value { result ≡ greatest_of (λ edge. bound_in edge.targets) edges.now }
+    ensures range { result ≤ 2 ^ 32 }
+{
+    let mut bound = 0u64;
+    for edge in edges {
+        bound = bound.max(bound_of(edge.targets.as_slice()));
+    }
+    bound
+}

@@ -1,0 +1,12 @@
+ghost use Rattle.std.specs.Prelude.{◌≡◌};
+ghost use Rattle.omega_automaton.specs.Faults.{has_other_version as other_version};
+
+use omega_raw::RawAutomaton;
+
+/// Whether the version is another than `v1` (refusal 20).
+#[tactic(auto, unfolding(crate::specs::Faults::has_other_version))]
+pub(crate) fn has_other_version(raw: &RawAutomaton) -> bool
+    ensures { result ≡ other_version raw.now }
+{
+    raw.version.as_slice() != b"v1".as_slice()
+}

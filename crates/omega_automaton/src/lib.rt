@@ -1,0 +1,23 @@
+//! Omega-automata of the Hanoi format as values, and what an automaton that is written means.
+#![tactic(auto)]
+
+mod automaton;
+mod edge;
+mod header;
+mod judging;
+mod laws;
+mod limits;
+mod making;
+mod state;
+mod tool;
+
+pub use automaton::Automaton;
+pub use edge::Edge;
+pub use header::Header;
+pub use laws::{faults_are_least, meanings_are_one, meanings_have_no_fault, no_fault_is_none};
+pub use limits::{MOST_PROPOSITIONS, MOST_TOTAL_SIZE, automaton_limits_are_stated};
+pub use omega_acc::{Acc, AccName, Label, Parameter};
+pub use omega_raw::HeaderValue;
+pub use omega_text::{AutomatonFault, Refusal, Seq};
+pub use state::State;
+pub use tool::Tool;

@@ -1,0 +1,105 @@
+ghost use Rattle.std.specs.Prelude.{◌≡◌, ◌++◌, [], None, Some, IfErr, OnOk};
+ghost use Rattle.std.specs.Option.{option_or};
+ghost use Rattle.omega_acc.specs.Depth.{IsMemory};
+ghost use Rattle.omega_automaton.specs.layout.Gathered.{HasTaken};
+
+use crate::header::Header;
+use crate::tool::Tool;
+use omega_acc::{AccName, RawAcc};
+use omega_raw::RawItem;
+use omega_text::{Refusal, Seq};
+use std::alloc::Global;
+
+/// What the items of a header say, but for the count of states and the aliases: of an item that may not repeat what the
+/// first says.
+#[derive(Drop)]
+pub(crate) struct Gathered {
+    pub tool: Option<Tool>,
+    pub name: Option<Seq<u8>>,
+    pub starts: Vec<Seq<u32>>,
+    pub propositions: Option<Seq<Seq<u8>>>,
+    pub acc_name: Option<AccName>,
+    pub acceptance: Option<RawAcc>,
+    pub properties: Vec<Seq<u8>>,
+    pub unknown: Vec<Header>,
+}
+
+impl Gathered {
+    /// Nothing, which takes no memory.
+    pub(crate) fn new(alloc: Global) -> Gathered
+        ensures tool { result.tool ≡ None }
+        ensures name { result.name ≡ None }
+        ensures starts { result.starts.items ≡ [] }
+        ensures propositions { result.propositions ≡ None }
+        ensures acc_name { result.acc_name ≡ None }
+        ensures acceptance { result.acceptance ≡ None }
+        ensures properties { result.properties.items ≡ [] }
+        ensures unknown { result.unknown.items ≡ [] }
+    {
+        Gathered {
+            tool: None,
+            name: None,
+            starts: Vec::new(alloc),
+            propositions: None,
+            acc_name: None,
+            acceptance: None,
+            properties: Vec::new(alloc),
+            unknown: Vec::new(alloc),
+        }
+    }
+
+    /// Takes what one more item says, but for a count of states and an alias.
+    pub(crate) fn take(&mut self, item: RawItem) -> Result<(), Refusal>
+        ensures ok { OnOk result (HasTaken self.old item self.new) }
+        ensures err { IfErr result IsMemory }
+    {
+        match item {
+            RawItem::States(_count) => {}
+            RawItem::Alias {
+                name: _name,
+                definition: _definition,
+            } => {}
+            RawItem::Start(states) => self.starts.push(states)?,
+            RawItem::Propositions {
+                count: _count,
+                names,
+            } => keep_first(&mut self.propositions, names),
+            RawItem::Acceptance {
+                count: _count,
+                formula,
+            } => keep_first(&mut self.acceptance, formula),
+            RawItem::AccName(name) => keep_first(&mut self.acc_name, name),
+            RawItem::Tool { first, second } => keep_first(
+                &mut self.tool,
+                Tool {
+                    name: first,
+                    version: second,
+                },
+            ),
+            RawItem::Name(name) => keep_first(&mut self.name, name),
+            RawItem::Properties(words) => put_all(&mut self.properties, words)?,
+            RawItem::Unknown { name, values } => self.unknown.push(Header { name, values })?,
+        }
+        Ok(())
+    }
+}
+
+/// Keeps a value where none is kept yet.
+fn keep_first<T: Drop>(kept: &mut Option<T>, value: T)
+    ensures { kept.new ≡ option_or kept.old (Some value) }
+{
+    if kept.is_none() {
+        *kept = Some(value);
+    }
+}
+
+/// Puts words behind others.
+fn put_all(words: &mut Vec<Seq<u8>>, more: Seq<Seq<u8>>) -> Result<(), Refusal>
+    ensures ok { OnOk result (words.new.items ≡ words.old.items ++ more) }
+    ensures err { IfErr result IsMemory }
+{
+    for word in more.into_vec() {
+        words.push(word)?;
+    }
+    Ok(())
+}

@@ -1,0 +1,101 @@
+ghost use Rattle.std.specs.Prelude.{IfErr, IfOk};
+ghost use Rattle.std.specs.List.{AllZip};
+ghost use Rattle.omega_acc.specs.Depth.{IsMemory};
+ghost use Rattle.omega_automaton.specs.Meaning.{IsEdgeOf, IsLabelOf, IsStateOf};
+
+use crate::edge::Edge;
+use crate::making::marks::marks_of;
+use crate::state::State;
+use omega_acc::{Aliases, Label, RawLabel, expand};
+use omega_raw::{RawEdge, RawState};
+use omega_text::{Refusal, Seq};
+use std::alloc::Global;
+
+/// The states of the body with their aliases replaced. Their labels have no fault, so that memory alone can be wanting.
+pub(crate) fn states_of(
+    alloc: Global,
+    aliases: &Aliases,
+    states: Seq<RawState>,
+) -> Result<Seq<State>, Refusal>
+    ensures ok { IfOk result (λ made. AllZip (IsStateOf aliases.now) states made) }
+    ensures err { IfErr result IsMemory }
+{
+    let mut made = Vec::new(alloc);
+    for state in states.into_vec() {
+        let state = state_of(alloc, aliases, state)?;
+        made.push(state)?;
+    }
+    Ok(Seq::from_vec(made))
+}
+
+/// A state of the body with its aliases replaced.
+fn state_of(alloc: Global, aliases: &Aliases, state: RawState) -> Result<State, Refusal>
+    ensures ok { IfOk result (λ made. IsStateOf aliases.now state made) }
+    ensures err { IfErr result IsMemory }
+{
+    let RawState {
+        label,
+        number,
+        name,
+        marks,
+        edges,
+    } = state;
+    let label = label_of(alloc, aliases, label)?;
+    let edges = edges_of(alloc, aliases, edges)?;
+    Ok(State {
+        label,
+        number,
+        name,
+        marks: marks_of(alloc, marks),
+        edges,
+    })
+}
+
+/// The edges of a state with their aliases replaced.
+fn edges_of(alloc: Global, aliases: &Aliases, edges: Seq<RawEdge>) -> Result<Seq<Edge>, Refusal>
+    ensures ok { IfOk result (λ made. AllZip (IsEdgeOf aliases.now) edges made) }
+    ensures err { IfErr result IsMemory }
+{
+    let mut made = Vec::new(alloc);
+    for edge in edges.into_vec() {
+        let edge = edge_of(alloc, aliases, edge)?;
+        made.push(edge)?;
+    }
+    Ok(Seq::from_vec(made))
+}
+
+/// An edge with its aliases replaced.
+fn edge_of(alloc: Global, aliases: &Aliases, edge: RawEdge) -> Result<Edge, Refusal>
+    ensures ok { IfOk result (λ made. IsEdgeOf aliases.now edge made) }
+    ensures err { IfErr result IsMemory }
+{
+    let RawEdge {
+        label,
+        targets,
+        marks,
+    } = edge;
+    let label = label_of(alloc, aliases, label)?;
+    Ok(Edge {
+        label,
+        targets,
+        marks: marks_of(alloc, marks),
+    })
+}
+
+/// A label with its aliases replaced, or none for none.
+fn label_of(
+    alloc: Global,
+    aliases: &Aliases,
+    label: Option<RawLabel>,
+) -> Result<Option<Label>, Refusal>
+    ensures ok { IfOk result (λ made. IsLabelOf aliases.now label made) }
+    ensures err { IfErr result IsMemory }
+{
+    match label {
+        Some(label) => match expand(alloc, &label, aliases) {
+            Ok(label) => Ok(Some(label)),
+            Err(_) => Err(Refusal::Memory),
+        },
+        None => Ok(None),
+    }
+}

@@ -1,0 +1,14 @@
+use omega_text::Seq;
+
+/// A value of a header that the format leaves open (HOA v1, *Header*).
+#[derive(Debug, Drop)]
+pub enum HeaderValue {
+    /// `t` or `f`.
+    Boolean(bool),
+    /// A number, at most 2,147,483,647.
+    Number(u32),
+    /// The bytes of a string between its quotes, as they are.
+    Text(Seq<u8>),
+    /// An identifier.
+    Word(Seq<u8>),
+}

@@ -1,0 +1,15 @@
+//! Omega-automata of the Hanoi format as they are written: each item, state and edge in its place. What they mean, and
+//! whether they mean anything, is not judged here.
+#![tactic(auto)]
+
+mod header_value;
+mod raw_automaton;
+mod raw_edge;
+mod raw_item;
+mod raw_state;
+
+pub use header_value::HeaderValue;
+pub use raw_automaton::RawAutomaton;
+pub use raw_edge::RawEdge;
+pub use raw_item::RawItem;
+pub use raw_state::RawState;

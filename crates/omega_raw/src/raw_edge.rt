@@ -1,0 +1,13 @@
+use omega_acc::RawLabel;
+use omega_text::Seq;
+
+/// An edge as it is written (HOA v1, *Body*).
+#[derive(Debug, Drop)]
+pub struct RawEdge {
+    /// The label between brackets, or none.
+    pub label: Option<RawLabel>,
+    /// The states that are joined by `&`, at least one.
+    pub targets: Seq<u32>,
+    /// The sets between braces in the order written, repeats kept, or none where no braces stand. `{}` differs from none.
+    pub marks: Option<Seq<u32>>,
+}

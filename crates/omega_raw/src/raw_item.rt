@@ -1,0 +1,44 @@
+use crate::header_value::HeaderValue;
+use omega_acc::{AccName, RawAcc, RawLabel};
+use omega_text::Seq;
+
+/// An item of a header as it is written (HOA v1, *Header*). Numbers are at most 2,147,483,647; strings are the bytes between
+/// their quotes, as they are.
+#[derive(Debug, Drop)]
+pub enum RawItem {
+    /// `States:` and the count.
+    States(u32),
+    /// `Start:` and the states that are joined by `&`, at least one.
+    Start(Seq<u32>),
+    /// `AP:`, the count and the names, which may be more or fewer.
+    Propositions {
+        count: u32,
+        names: Seq<Seq<u8>>,
+    },
+    /// `Alias:`, the name with its `@` and what it stands for.
+    Alias {
+        name: Seq<u8>,
+        definition: RawLabel,
+    },
+    /// `Acceptance:`, the count of sets and the formula.
+    Acceptance {
+        count: u32,
+        formula: RawAcc,
+    },
+    /// `acc-name:`, an identifier and its parameters.
+    AccName(AccName),
+    /// `tool:` and one or two strings.
+    Tool {
+        first: Seq<u8>,
+        second: Option<Seq<u8>>,
+    },
+    /// `name:` and a string.
+    Name(Seq<u8>),
+    /// `properties:` and identifiers.
+    Properties(Seq<Seq<u8>>),
+    /// Any other header, without its colon, and its values.
+    Unknown {
+        name: Seq<u8>,
+        values: Seq<HeaderValue>,
+    },
+}

@@ -1,0 +1,18 @@
+use crate::raw_edge::RawEdge;
+use omega_acc::RawLabel;
+use omega_text::Seq;
+
+/// A state of a body as it is written, with its edges (HOA v1, *Body*).
+#[derive(Debug, Drop)]
+pub struct RawState {
+    /// The label between brackets, or none.
+    pub label: Option<RawLabel>,
+    /// The number, at most 2,147,483,647.
+    pub number: u32,
+    /// The bytes of the name between its quotes, as they are, or none. An empty name differs from none.
+    pub name: Option<Seq<u8>>,
+    /// The sets between braces in the order written, repeats kept, or none where no braces stand. `{}` differs from none.
+    pub marks: Option<Seq<u32>>,
+    /// The edges in the order written.
+    pub edges: Seq<RawEdge>,
+}
