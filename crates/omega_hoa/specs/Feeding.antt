@@ -50,6 +50,10 @@ IsFed seen items kept = MatchOption kept.refused (IsTaken seen items kept) (IsRe
 abbrev pub IsFedSome : Kept → Type 0
 IsFedSome kept = (seen : List ℕ) × (items : List Item) × IsFed seen items kept
 
+-- some values were appended to a list
+abbrev pub Extends : {X : Type 0} → List X → List X → Type 0
+Extends {X} old new = (added : List X) × (new ≡ old ++ added)
+
 -- some values were appended to a list, and of others with these behind them a fact holds
 pub record Appends {X : Type 0} (old new values : List X) (Holds : List X → Type 0) : Type 0 where
   pub added : List X

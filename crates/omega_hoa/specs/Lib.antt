@@ -4,3 +4,5 @@ pub mod Feeding
 pub mod Kept
 pub mod Segment
 pub mod Stream
+pub mod dividing
+pub mod outlines

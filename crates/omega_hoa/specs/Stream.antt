@@ -1,5 +1,5 @@
 -- Streams: segments one behind the other, each from `HOA:` to the first mark of its end.
-use Rattle.std.specs.Prelude.{◌≡◌, ℕ, ◌<◌, ◌≤◌, ◌⊎◌, Bool, true, false, List, [], ◌∷◌, ◌++◌, length, map, codes, All}
+use Rattle.std.specs.Prelude.{◌≡◌, ℕ, ◌<◌, ◌≤◌, ◌⊎◌, Bool, true, false, List, [], ◌∷◌, ◌++◌, length, map, codes}
 use Rattle.omega_text.specs.Cases.{never, or_text}
 use Rattle.omega_text.specs.Cut.{Cuts, IsCut}
 use Rattle.omega_text.specs.Lexeme.{Lexeme}
@@ -28,13 +28,18 @@ is_end End = true
 is_end Abort = true
 is_end kind = false
 
+-- none of the tokens is such a mark
+abbrev pub NoneEnds : List (Lexeme HoaKind) → Type 0
+NoneEnds [] = Unit {0}
+NoneEnds (lexeme ∷ lexemes) = (is_end lexeme.kind ≡ false) × NoneEnds lexemes
+
 -- a segment so far: `HOA:`, and behind it no mark of its end
 pub record IsOpen (lexemes : List (Lexeme HoaKind)) : Type 0 where
   pub first : Lexeme HoaKind
   pub rest : List (Lexeme HoaKind)
   pub split : lexemes ≡ first ∷ rest
   pub opens : Opens first
-  pub unended : All (λ lexeme. is_end lexeme.kind ≡ false) rest
+  pub unended : NoneEnds rest
 
 -- a whole segment, which ends with this mark
 pub record IsSegment (mark : HoaKind) (lexemes : List (Lexeme HoaKind)) : Type 0 where

@@ -2,7 +2,10 @@
 #![tactic(auto)]
 
 mod automaton;
+mod division;
 mod item;
+mod outline;
+mod progress;
 mod segment;
 mod stream;
 

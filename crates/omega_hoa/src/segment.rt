@@ -14,11 +14,7 @@ use std::alloc::Global;
 /// fault, or memory. The place of 3 counts from the first byte of that text.
 ///
 /// The bytes are read once.
-pub(crate) fn read_segment(
-    alloc: Global,
-    bytes: &[u8],
-    begins: usize,
-) -> Result<Automaton, Refusal>
+pub(crate) fn read_segment(alloc: Global, bytes: &[u8], begins: usize) -> Result<Automaton, Refusal>
     requires { (lexemes : List (Lexeme HoaKind)) × IsCut hoa_format bytes.now lexemes }
     ensures automaton { IfOk result (λ automaton. (lexemes : List (Lexeme HoaKind)) → IsCut hoa_format bytes.now lexemes
         → IsAutomatonOf (map symbol_of lexemes) automaton) }
