@@ -11,7 +11,7 @@ use Rattle.omega_text.specs.hoa.Cut.{IsGap, IsLongest}
 use Rattle.omega_text.specs.hoa.Cut as cut
 use Rattle.omega_text.specs.hoa.Format.{hoa_format}
 use Rattle.omega_text.specs.hoa.Forms.{Spells}
-use Rattle.omega_text.specs.pg.Bytes.{is_digit, is_word_byte}
+use Rattle.omega_text.specs.Bytes.{is_digit, is_word_byte}
 use Rattle.omega_text.specs.hoa.Laws.{ClosedAreLongest, NumbersAreLongest, NumbersArePlain, WordsAreLongest}
 
 -- what is known of the tokens of every text

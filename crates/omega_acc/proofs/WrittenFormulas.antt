@@ -13,7 +13,7 @@ use Rattle.omega_acc.specs.WritingLaws.{AccMeansItself, AreThere, SetsFit, Stand
 use Rattle.omega_acc.proofs.TokenLemmas.{Tokens, there-then, there-token}
 use Rattle.omega_acc.proofs.WrittenLabels.{apart-and, apart-close, apart-or, apart-sign, there-number, there-truth}
 use Rattle.omega_text.specs.Limits.{most_number}
-use Rattle.omega_text.specs.pg.Bytes.{is_word_byte}
+use Rattle.omega_text.specs.Bytes.{is_word_byte}
 use Rattle.omega_text.specs.hoa.Forms.{IsForm}
 use Rattle.omega_text.specs.declared.hoa.kind.HoaKind.TheVariants as kind
 

@@ -12,7 +12,7 @@ use Rattle.omega_acc.specs.Writing.{bracketed, label_text, truth_text}
 use Rattle.omega_acc.specs.WritingLaws.{AreThere, MeansItself, NumbersFit, StandsApart, grouped, label_written}
 use Rattle.omega_acc.proofs.TokenLemmas.{Tokens, no-digit, there-then, there-token}
 use Rattle.omega_text.specs.Limits.{most_number}
-use Rattle.omega_text.specs.pg.Bytes.{is_word_byte}
+use Rattle.omega_text.specs.Bytes.{is_word_byte}
 use Rattle.omega_text.specs.declared.hoa.kind.HoaKind.TheVariants as kind
 
 -- the text of a label as it is written

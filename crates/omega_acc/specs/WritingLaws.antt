@@ -18,7 +18,7 @@ use Rattle.omega_text.specs.Lexeme.{Lexeme}
 use Rattle.omega_text.specs.Limits.{most_number}
 use Rattle.omega_text.specs.declared.hoa.kind.HoaKind.{HoaKind}
 use Rattle.omega_text.specs.hoa.Format.{hoa_format}
-use Rattle.omega_text.specs.pg.Bytes.{is_word_byte}
+use Rattle.omega_text.specs.Bytes.{is_word_byte}
 
 -- a label in parentheses or not
 abbrev pub grouped : Bool → RawLabelTree → RawLabelTree

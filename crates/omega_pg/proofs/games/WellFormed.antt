@@ -7,9 +7,8 @@ use Rattle.std.proofs.lemmas.Bool.{and_parts, eqb-false, leb-true, not-true}
 use Rattle.std.specs.Int.{is_in_range}
 use Rattle.std.specs.List.{AllByRecursion, flat_map}
 use Rattle.std.proofs.lemmas.List.Elements.{All-cons, All-head, All-nil, All-tail, All-weaker}
-use Rattle.omega_text.specs.pg.Bytes.{is_name_byte}
 use Rattle.omega_text.specs.Cut.{Cuts}
-use Rattle.omega_text.specs.pg.Forms.{Spells, quoted}
+use Rattle.omega_text.specs.pg.Forms.{Spells, is_name_byte, quoted}
 use Rattle.omega_text.specs.Lexeme.{Lexeme}
 use Rattle.omega_text.specs.pg.Format.{pg_format}
 use Rattle.omega_text.specs.declared.pg.kind.PgKind.{PgKind}

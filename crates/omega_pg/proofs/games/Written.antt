@@ -3,7 +3,7 @@ use Rattle.std.proofs.Common.{◌≡◌, ℕ, ◌<◌, ◌≤◌, true, Option, 
 use Rattle.std.specs.Prelude.{decimal}
 use Rattle.std.specs.List.{AllPass, flat_map}
 use Rattle.std.proofs.lemmas.List.Elements.{All-cons, All-head, All-nil, All-tail}
-use Rattle.omega_text.specs.pg.Bytes.{is_white}
+use Rattle.omega_text.specs.Bytes.{is_white}
 use Rattle.omega_text.specs.pg.Laws.{EndsAreGaps, NamesAreLongest, NumbersAreLongest, SignsAreLongest, TokensFollow, WordsAreLongest}
 use Rattle.omega_game.specs.Building.{IsWellFormed}
 use Rattle.omega_game.specs.Game.{IsNameByte}

@@ -8,10 +8,11 @@ use Rattle.std.proofs.lemmas.List.{drop-drop}
 use Rattle.std.proofs.Math.Seq.{drop-append_seam}
 use Rattle.std.proofs.lemmas.Bool.{and_from, le-leb, ne_eqb, not_from_false}
 use Rattle.std.proofs.lemmas.List.Elements.{All-cons, All-from_recursion, All-nil, All-weaker}
-use Rattle.omega_text.specs.pg.Bytes.{is_digit, is_name_byte, is_white, is_word_byte}
+use Rattle.omega_text.specs.Bytes.{is_digit, is_white, is_word_byte}
 use Rattle.omega_text.specs.Cut.{Cuts}
 use Rattle.omega_text.specs.pg.Cut.{IsGap}
-use Rattle.omega_text.specs.pg.Forms.{IsLongest, IsQuoted, IsWord, Spells, quoted}
+use Rattle.omega_text.specs.Forms.{IsWord}
+use Rattle.omega_text.specs.pg.Forms.{IsLongest, IsQuoted, Spells, is_name_byte, quoted}
 use Rattle.omega_text.specs.pg.Laws.{EndsAreGaps, NamesAreLongest, NumbersAreLongest, SignsAreLongest, TokensFollow, WordsAreLongest}
 use Rattle.omega_text.specs.Lexeme.{Lexeme, lexeme_at}
 use Rattle.omega_text.specs.pg.Format.{pg_format}
