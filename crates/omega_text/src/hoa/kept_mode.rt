@@ -1,7 +1,10 @@
 ghost use Rattle.std.specs.Prelude.{◌≡◌, ◌-◌, ◌^◌};
 
 use super::kind::HoaKind;
-use super::mode::Mode;
+use super::mode::{
+    Mode, alias_mode, comment_mode, dash_mode, dashes_mode, digits_mode, first_mode,
+    mark_byte_mode, quoted_mode, slash_mode, slashed_mode, star_mode, word_mode,
+};
 use std::marker::Model;
 
 /// A mode without what it counts.
@@ -104,12 +107,27 @@ impl KeptMode {
         }
     }
 
-    /// The mode that follows with one more byte, or none if no unit goes on so.
+    /// How far it has been read with one more byte, or none if no unit goes on so.
     #[inline(always)]
-    pub(crate) fn next(self, byte: u8) -> Option<Mode>
+    pub(crate) fn next(self, byte: u8) -> Option<KeptMode>
         requires { IsWithin (2 ^ 64 - 1) self }
         ensures { result ≡ next_mode self byte }
     {
-        self.get().next(byte)
+        match self.stage {
+            Stage::Start => first_mode(byte),
+            Stage::Word => word_mode(byte),
+            Stage::At | Stage::Alias => alias_mode(byte),
+            Stage::Digits => digits_mode(byte),
+            Stage::Quoted => Some(quoted_mode(byte)),
+            Stage::Escaped => Some(KeptMode::new(Mode::Quoted)),
+            Stage::Slash => slash_mode(byte),
+            Stage::Comment => Some(comment_mode(self.count, byte)),
+            Stage::Star => Some(star_mode(self.count, byte)),
+            Stage::Slashed => Some(slashed_mode(self.count, byte)),
+            Stage::Dash => dash_mode(byte),
+            Stage::Dashes => dashes_mode(byte),
+            Stage::Mark => mark_byte_mode(self.kind, self.count, byte),
+            Stage::Whole | Stage::Blank => None,
+        }
     }
 }

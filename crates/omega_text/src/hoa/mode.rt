@@ -2,6 +2,7 @@ ghost use Rattle.std.specs.Prelude.{◌≡◌, ◌^◌, ◌-◌, ◌<◌, length
 ghost use Rattle.omega_text.specs.hoa.Forms.{spelling};
 ghost use Rattle.omega_text.specs.hoa.scanning.Modes.{alias_mode, bracket_kind, closed_mode, comment_mode, dash_mode, dashes_mode, digits_mode, first_mode, letter_kind, mark_mode, marked, next_mode, quoted_mode, sign_kind, slash_mode, slashed_mode, star_mode, whole, word_mode};
 
+use super::kept_mode::KeptMode;
 use super::kind::{HoaKind, spelling};
 use crate::bytes::{is_letter, is_white, is_word_byte};
 
@@ -43,31 +44,7 @@ pub(crate) enum Mode {
 }
 
 impl Mode {
-    ghost use Rattle.omega_text.specs.hoa.scanning.Modes.{IsWithin, next_mode, unit_of};
-
-    /// How far it has been read with one more byte, or none if no unit goes on so.
-    #[inline(always)]
-    pub(crate) fn next(self, byte: u8) -> Option<Mode>
-        requires { IsWithin (2 ^ 64 - 1) self }
-        ensures { result ≡ next_mode self byte }
-    {
-        match self {
-            Mode::Start => first_mode(byte),
-            Mode::Word(_) => word_mode(byte),
-            Mode::At | Mode::Alias => alias_mode(byte),
-            Mode::Digits => digits_mode(byte),
-            Mode::Quoted => Some(quoted_mode(byte)),
-            Mode::Escaped => Some(Mode::Quoted),
-            Mode::Slash => slash_mode(byte),
-            Mode::Comment(around) => Some(comment_mode(around, byte)),
-            Mode::Star(around) => Some(star_mode(around, byte)),
-            Mode::Slashed(around) => Some(slashed_mode(around, byte)),
-            Mode::Dash => dash_mode(byte),
-            Mode::Dashes => dashes_mode(byte),
-            Mode::Mark(kind, count) => mark_byte_mode(kind, count, byte),
-            Mode::Whole(_) | Mode::Blank => None,
-        }
-    }
+    ghost use Rattle.omega_text.specs.hoa.scanning.Modes.{unit_of};
 
     /// The unit that has been read, if it may end here: a token of a kind, or a part of a gap.
     pub(crate) fn unit(self) -> Option<Option<HoaKind>>
@@ -85,15 +62,15 @@ impl Mode {
 
 /// What a byte begins.
 #[inline(always)]
-fn first_mode(byte: u8) -> Option<Mode>
+pub(super) fn first_mode(byte: u8) -> Option<KeptMode>
     ensures { result ≡ first_mode byte }
 {
     if is_white(byte) {
-        Some(Mode::Blank)
+        Some(KeptMode::new(Mode::Blank))
     } else if is_letter(byte) {
-        Some(Mode::Word(letter_kind(byte)))
+        Some(KeptMode::new(Mode::Word(letter_kind(byte))))
     } else if byte.is_ascii_digit() {
-        Some(Mode::Digits)
+        Some(KeptMode::new(Mode::Digits))
     } else {
         mark_mode(byte)
     }
@@ -115,28 +92,28 @@ pub(crate) fn letter_kind(byte: u8) -> HoaKind
 
 /// What a byte begins that is neither white, a letter nor a digit.
 #[inline(always)]
-fn mark_mode(byte: u8) -> Option<Mode>
+fn mark_mode(byte: u8) -> Option<KeptMode>
     ensures { result ≡ mark_mode byte }
 {
     if byte == b'"' {
-        Some(Mode::Quoted)
+        Some(KeptMode::new(Mode::Quoted))
     } else if byte == b'@' {
-        Some(Mode::At)
+        Some(KeptMode::new(Mode::At))
     } else if byte == b'-' {
-        Some(Mode::Dash)
+        Some(KeptMode::new(Mode::Dash))
     } else if byte == b'/' {
-        Some(Mode::Slash)
+        Some(KeptMode::new(Mode::Slash))
     } else {
         sign_mode(byte)
     }
 }
 
 #[inline(always)]
-fn sign_mode(byte: u8) -> Option<Mode>
+fn sign_mode(byte: u8) -> Option<KeptMode>
     ensures { result ≡ whole (sign_kind byte) }
 {
     match sign_kind(byte) {
-        Some(kind) => Some(Mode::Whole(kind)),
+        Some(kind) => Some(KeptMode::new(Mode::Whole(kind))),
         None => None,
     }
 }
@@ -180,13 +157,13 @@ fn bracket_kind(byte: u8) -> Option<HoaKind>
 
 /// Behind the beginning of a word.
 #[inline(always)]
-fn word_mode(byte: u8) -> Option<Mode>
+pub(super) fn word_mode(byte: u8) -> Option<KeptMode>
     ensures { result ≡ word_mode byte }
 {
     if is_word_byte(byte) {
-        Some(Mode::Word(HoaKind::Identifier))
+        Some(KeptMode::new(Mode::Word(HoaKind::Identifier)))
     } else if byte == b':' {
-        Some(Mode::Whole(HoaKind::HeaderName))
+        Some(KeptMode::new(Mode::Whole(HoaKind::HeaderName)))
     } else {
         None
     }
@@ -194,11 +171,11 @@ fn word_mode(byte: u8) -> Option<Mode>
 
 /// Behind `@`, and behind the beginning of a name that follows it.
 #[inline(always)]
-fn alias_mode(byte: u8) -> Option<Mode>
+pub(super) fn alias_mode(byte: u8) -> Option<KeptMode>
     ensures { result ≡ alias_mode byte }
 {
     if is_word_byte(byte) {
-        Some(Mode::Alias)
+        Some(KeptMode::new(Mode::Alias))
     } else {
         None
     }
@@ -206,11 +183,11 @@ fn alias_mode(byte: u8) -> Option<Mode>
 
 /// Behind digits.
 #[inline(always)]
-fn digits_mode(byte: u8) -> Option<Mode>
+pub(super) fn digits_mode(byte: u8) -> Option<KeptMode>
     ensures { result ≡ digits_mode byte }
 {
     if byte.is_ascii_digit() {
-        Some(Mode::Digits)
+        Some(KeptMode::new(Mode::Digits))
     } else {
         None
     }
@@ -218,108 +195,108 @@ fn digits_mode(byte: u8) -> Option<Mode>
 
 /// Between the quotes of a string.
 #[inline(always)]
-fn quoted_mode(byte: u8) -> Mode
+pub(super) fn quoted_mode(byte: u8) -> KeptMode
     ensures { result ≡ quoted_mode byte }
 {
     if byte == b'"' {
-        Mode::Whole(HoaKind::String)
+        KeptMode::new(Mode::Whole(HoaKind::String))
     } else if byte == b'\\' {
-        Mode::Escaped
+        KeptMode::new(Mode::Escaped)
     } else {
-        Mode::Quoted
+        KeptMode::new(Mode::Quoted)
     }
 }
 
 /// Behind `/`.
-fn slash_mode(byte: u8) -> Option<Mode>
+pub(super) fn slash_mode(byte: u8) -> Option<KeptMode>
     ensures { result ≡ slash_mode byte }
 {
     if byte == b'*' {
-        Some(Mode::Comment(0))
+        Some(KeptMode::new(Mode::Comment(0)))
     } else {
         None
     }
 }
 
 /// In a comment.
-fn comment_mode(around: usize, byte: u8) -> Mode
+pub(super) fn comment_mode(around: usize, byte: u8) -> KeptMode
     ensures { result ≡ comment_mode around byte }
 {
     if byte == b'*' {
-        Mode::Star(around)
+        KeptMode::new(Mode::Star(around))
     } else if byte == b'/' {
-        Mode::Slashed(around)
+        KeptMode::new(Mode::Slashed(around))
     } else {
-        Mode::Comment(around)
+        KeptMode::new(Mode::Comment(around))
     }
 }
 
 /// In a comment, behind `*`.
-fn star_mode(around: usize, byte: u8) -> Mode
+pub(super) fn star_mode(around: usize, byte: u8) -> KeptMode
     ensures { result ≡ star_mode around byte }
 {
     if byte == b'/' {
         closed_mode(around)
     } else if byte == b'*' {
-        Mode::Star(around)
+        KeptMode::new(Mode::Star(around))
     } else {
-        Mode::Comment(around)
+        KeptMode::new(Mode::Comment(around))
     }
 }
 
 /// Behind the end of a comment that stands inside so many others.
-fn closed_mode(around: usize) -> Mode
+fn closed_mode(around: usize) -> KeptMode
     ensures { result ≡ closed_mode around }
 {
     if around == 0 {
-        Mode::Blank
+        KeptMode::new(Mode::Blank)
     } else {
-        Mode::Comment(around - 1)
+        KeptMode::new(Mode::Comment(around - 1))
     }
 }
 
 /// In a comment, behind `/`.
-fn slashed_mode(around: usize, byte: u8) -> Mode
+pub(super) fn slashed_mode(around: usize, byte: u8) -> KeptMode
     requires { around < 2 ^ 64 - 1 }
     ensures { result ≡ slashed_mode around byte }
 {
     if byte == b'*' {
-        Mode::Comment(around + 1)
+        KeptMode::new(Mode::Comment(around + 1))
     } else if byte == b'/' {
-        Mode::Slashed(around)
+        KeptMode::new(Mode::Slashed(around))
     } else {
-        Mode::Comment(around)
+        KeptMode::new(Mode::Comment(around))
     }
 }
 
 /// Behind `-`.
-fn dash_mode(byte: u8) -> Option<Mode>
+pub(super) fn dash_mode(byte: u8) -> Option<KeptMode>
     ensures { result ≡ dash_mode byte }
 {
     if byte == b'-' {
-        Some(Mode::Dashes)
+        Some(KeptMode::new(Mode::Dashes))
     } else {
         None
     }
 }
 
 /// Behind `--`.
-fn dashes_mode(byte: u8) -> Option<Mode>
+pub(super) fn dashes_mode(byte: u8) -> Option<KeptMode>
     ensures { result ≡ dashes_mode byte }
 {
     if byte == b'B' {
-        Some(Mode::Mark(HoaKind::Body, 3))
+        Some(KeptMode::new(Mode::Mark(HoaKind::Body, 3)))
     } else if byte == b'E' {
-        Some(Mode::Mark(HoaKind::End, 3))
+        Some(KeptMode::new(Mode::Mark(HoaKind::End, 3)))
     } else if byte == b'A' {
-        Some(Mode::Mark(HoaKind::Abort, 3))
+        Some(KeptMode::new(Mode::Mark(HoaKind::Abort, 3)))
     } else {
         None
     }
 }
 
 /// Behind so many bytes of a mark.
-fn mark_byte_mode(kind: HoaKind, count: usize, byte: u8) -> Option<Mode>
+pub(super) fn mark_byte_mode(kind: HoaKind, count: usize, byte: u8) -> Option<KeptMode>
     requires { count < length (spelling kind) }
     ensures { result ≡ next_mode (Mode.Mark kind count) byte }
 {
@@ -332,12 +309,12 @@ fn mark_byte_mode(kind: HoaKind, count: usize, byte: u8) -> Option<Mode>
 }
 
 /// A mark of which so many bytes were read.
-fn marked(kind: HoaKind, count: usize) -> Mode
+fn marked(kind: HoaKind, count: usize) -> KeptMode
     ensures { result ≡ marked kind count }
 {
     if count == spelling(kind).len() {
-        Mode::Whole(kind)
+        KeptMode::new(Mode::Whole(kind))
     } else {
-        Mode::Mark(kind, count)
+        KeptMode::new(Mode::Mark(kind, count))
     }
 }

@@ -38,12 +38,12 @@ impl Pending {
 
     /// With one byte more, which ends at this place and by which the unit has come so far; and the token that is whole then.
     #[inline(always)]
-    pub(crate) fn grow(self, next: Mode, byte: u8, end: usize) -> (Pending, Option<PlacedToken>)
+    pub(crate) fn grow(self, next: KeptMode, byte: u8, end: usize) -> (Pending, Option<PlacedToken>)
         requires { self.start < end }
         ensures { IsGrown self byte end next result.0 result.1 }
     {
         let start = self.start;
-        match next {
+        match next.get() {
             Mode::Whole(kind) => {
                 let token = placed_token(kind, 0, start, end);
                 (Pending::new(end), Some(token))
@@ -56,7 +56,7 @@ impl Pending {
                     more_value(self.value, byte)
                 };
                 let pending = Pending {
-                    mode: KeptMode::new(next),
+                    mode: next,
                     start,
                     value,
                 };
@@ -64,7 +64,7 @@ impl Pending {
             }
             _ => {
                 let pending = Pending {
-                    mode: KeptMode::new(next),
+                    mode: next,
                     start,
                     value: 0,
                 };

@@ -5,7 +5,7 @@ ghost use Rattle.omega_text.specs.hoa.scanning.Modes.{next_mode};
 ghost use Rattle.omega_text.specs.hoa.Pieces.{IsFinished, IsSettled, settled_lexemes};
 ghost use Rattle.omega_text.specs.hoa.scanning.Reading.{Any, IsAt, IsKept, IsOnWay};
 
-use super::mode::Mode;
+use super::mode::{Mode, first_mode};
 use super::pending::Pending;
 use super::placed::{PlacedToken, Settled};
 use crate::refusal::TextFault;
@@ -115,7 +115,7 @@ fn end_unit(pending: Pending, place: usize, byte: u8) -> (Pending, Settled)
     let fresh = Pending::new(place);
     match pending.judge(place) {
         Err(fault) => (fresh, settled(None, None, Some(fault))),
-        Ok(token) => match Mode::Start.next(byte) {
+        Ok(token) => match first_mode(byte) {
             None => {
                 let fault = TextFault::Lex { at: place };
                 (fresh, settled(Some(token), None, Some(fault)))

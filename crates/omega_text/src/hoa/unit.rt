@@ -3,6 +3,7 @@ ghost use Rattle.omega_text.specs.hoa.Fault.{IsFaultOf};
 ghost use Rattle.omega_text.specs.hoa.scanning.Modes.{IsFirstUnit, IsScanned, sign_kind};
 ghost use Rattle.omega_text.specs.Bytes.{is_digit, is_letter, is_white};
 
+use super::kept_mode::KeptMode;
 use super::kind::HoaKind;
 use super::mode::{Mode, letter_kind, sign_kind};
 use crate::bytes::{is_letter, is_white, word_count};
@@ -124,12 +125,12 @@ fn scan(bytes: &[u8]) -> (usize, Mode)
     requires { length bytes.now < 2 ^ 64 }
     ensures { IsScanned bytes.now result.0 result.1 }
 {
-    let mut mode = Mode::Start;
+    let mut mode = KeptMode::new(Mode::Start);
     for (count, byte) in bytes.iter().enumerate() {
         match mode.next(*byte) {
             Some(next) => mode = next,
-            None => return (count, mode),
+            None => return (count, mode.get()),
         }
     }
-    (bytes.len(), mode)
+    (bytes.len(), mode.get())
 }
