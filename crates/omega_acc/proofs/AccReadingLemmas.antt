@@ -1,5 +1,5 @@
 -- Acceptance formulas built from their tokens.
-use Rattle.std.proofs.Common.{◌≡◌, ℕ, ◌+◌, Bool, true, false, List, [], ◌∷◌, ◌++◌, map, max, min, ap, append_assoc, refl, sym, ◌∙◌, subst, arith}
+use Rattle.std.proofs.Common.{◌≡◌, ℕ, ◌+◌, List, [], ◌∷◌, ◌++◌, max, min, ap, append_assoc, refl, sym, ◌∙◌, subst, arith}
 use Rattle.omega_acc.specs.AccReading.{IsAccOf, ReadsAcc, acc_spelled}
 use Rattle.omega_acc.specs.RawAcc.{RawAccTree, atom, conjunction, constant, disjunction, group}
 use Rattle.omega_acc.specs.Symbols.{EndsThere, Rank, Symbol, conjunctive, disjunctive, seen_as, sign, symbol_of, unary}

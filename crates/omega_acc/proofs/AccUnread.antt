@@ -1,7 +1,7 @@
 -- Where no acceptance formula is read.
-use Rattle.std.proofs.Common.{◌≡◌, ℕ, zero, suc, true, false, List, [], ◌∷◌, ◌++◌, map, ap, refl, sym, ◌∙◌, subst}
+use Rattle.std.proofs.Common.{◌≡◌, ℕ, suc, true, false, List, [], ◌∷◌, ◌++◌, map, ap, refl, sym, ◌∙◌, subst}
 use Rattle.std.proofs.lemmas.List.{map-append}
-use Rattle.omega_acc.specs.AccReading.{ReadsAcc, ReadsNoAcc, acc_spelled, set_spelled}
+use Rattle.omega_acc.specs.AccReading.{ReadsAcc, ReadsNoAcc, acc_spelled}
 use Rattle.omega_acc.specs.RawAcc.{RawAccTree, atom, conjunction, constant, disjunction, group}
 use Rattle.omega_acc.specs.Symbols.{EndsThere, IsNoOperator, Symbol, disjunctive, seen_as, sign, symbol_of, word}
 use Rattle.omega_acc.specs.declared.pending.Pending.{Pending}
@@ -9,7 +9,7 @@ use Rattle.omega_acc.specs.declared.pending.Pending.TheVariants.{Open}
 use Rattle.omega_acc.specs.declared.raw_acc.RawAccNode.{RawAccNode}
 use Rattle.omega_acc.specs.layout.AccBuilding.{Before, Has, Wants, anded, before_pending, before_symbols, opened, ored, start}
 use Rattle.omega_acc.specs.layout.AccStates.{IsStuck, IsThrough, State, barred, ended, entered, failed, go, had, named, numbered, run, wanted}
-use Rattle.omega_acc.specs.layout.Passing.{NextIsNot, Passed, PassesNumber, PassesOne}
+use Rattle.omega_acc.specs.layout.Passing.{NextIsNot, Passed}
 use Rattle.omega_acc.proofs.AccReadingLemmas.{has_is_free}
 use Rattle.omega_acc.proofs.PassingLemmas.{GoOnNone, GoesOnNone, go_on_others}
 use Rattle.omega_acc.proofs.PendingLemmas.{IsFree, IsParenthesis, free_open, top}

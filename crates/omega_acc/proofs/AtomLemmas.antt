@@ -1,5 +1,5 @@
 -- The set of an atom, with its parentheses.
-use Rattle.std.proofs.Common.{◌≡◌, ℕ, ◌+◌, ◌<◌, Bool, true, false, List, [], ◌∷◌, ◌++◌, MatchBool, length, ap, refl, sym, ◌∙◌, subst, arith}
+use Rattle.std.proofs.Common.{◌≡◌, ℕ, ◌<◌, Bool, true, false, List, [], ◌∷◌, MatchBool, length, ap, refl, sym, ◌∙◌, subst, arith}
 use Rattle.std.proofs.lemmas.List.{length-append, length-map}
 use Rattle.omega_acc.specs.Symbols.{Symbol, number, seen_as, sign, symbol_of}
 use Rattle.omega_acc.specs.layout.AccStates.{IsStuck, PassesSet, barred, entered, named, numbered}

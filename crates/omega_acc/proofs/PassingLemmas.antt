@@ -1,5 +1,5 @@
 -- Tokens passed one after another, and what follows them.
-use Rattle.std.proofs.Common.{◌≡◌, ℕ, List, [], ◌∷◌, ◌++◌, map, ap, append_assoc, refl, sym, ◌∙◌, subst, Result, Ok, Err, IfErr, IsErrAnd}
+use Rattle.std.proofs.Common.{◌≡◌, List, [], ◌∷◌, ◌++◌, map, ap, append_assoc, refl, sym, ◌∙◌, subst, Result, Ok, Err, IfErr, IsErrAnd}
 use Rattle.std.proofs.lemmas.List.{map-append}
 use Rattle.omega_acc.specs.Symbols.{EndsThere, IsNoOperator, IsUnread, Symbol, symbol_of}
 use Rattle.omega_acc.specs.layout.Passing.{NextIsNot, Passed}

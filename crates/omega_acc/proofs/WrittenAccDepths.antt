@@ -1,5 +1,5 @@
 -- An acceptance formula as it is written is no deeper than any expression that means it.
-use Rattle.std.proofs.Common.{◌≡◌, ℕ, ◌+◌, ◌≤◌, Bool, true, false, cond, List, [], ◌∷◌, Option, Some, None, codes, max, nat_le, nat_lt, ap, refl, subst, ◌∙◌, arith}
+use Rattle.std.proofs.Common.{◌≡◌, ℕ, ◌+◌, ◌≤◌, Bool, true, false, cond, Option, Some, None, codes, max, nat_le, nat_lt, ap, refl, subst, ◌∙◌, arith}
 use Rattle.std.specs.Str.{bytes_eq}
 use Rattle.omega_acc.specs.AccMeaning.{acc_meant, both_meant}
 use Rattle.omega_acc.specs.AccReading.{IsAccOf}

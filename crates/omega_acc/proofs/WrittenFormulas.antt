@@ -1,5 +1,5 @@
 -- The canonical text of an acceptance formula is that of the formula as it is written, and its tokens are that formula's.
-use Rattle.std.proofs.Common.{◌≡◌, ◌≢◌, ℕ, ◌+◌, ◌≤◌, Bool, true, false, List, [], ◌∷◌, ◌++◌, Option, Some, codes, decimal, drop, length, nat_le, nat_lt, ap, refl, sym, ◌∙◌, subst, arith, lit<}
+use Rattle.std.proofs.Common.{◌≡◌, ◌≢◌, ℕ, ◌+◌, ◌≤◌, Bool, true, false, List, [], ◌∷◌, ◌++◌, Some, codes, decimal, drop, length, nat_le, nat_lt, ap, refl, sym, ◌∙◌, subst, arith, lit<}
 use Rattle.std.proofs.lemmas.List.Sums.{AllPass-from_list_all}
 use Rattle.omega_acc.specs.AccMeaning.{acc_meant, both_meant}
 use Rattle.omega_acc.specs.AccReading.{IsAccOf, acc_spelled, set_spelled}
@@ -7,7 +7,7 @@ use Rattle.omega_acc.specs.Acceptance.{AccTree, conjunction, constant, disjuncti
 use Rattle.omega_acc.specs.Acceptance as acc
 use Rattle.omega_acc.specs.RawAcc.{RawAccTree}
 use Rattle.omega_acc.specs.RawAcc as raw
-use Rattle.omega_acc.specs.Symbols.{Symbol, conjunctive, disjunctive, number, sign, truth_kind, unary, word}
+use Rattle.omega_acc.specs.Symbols.{conjunctive, disjunctive, number, sign, unary, word}
 use Rattle.omega_acc.specs.Writing.{acc_text, bracketed, set_text, truth_text}
 use Rattle.omega_acc.specs.WritingLaws.{AccMeansItself, AreThere, SetsFit, StandsApart, acc_grouped, acc_written}
 use Rattle.omega_acc.proofs.TokenLemmas.{Tokens, there-then, there-token}

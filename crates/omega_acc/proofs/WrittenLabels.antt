@@ -1,5 +1,5 @@
 -- The canonical text of a label is that of the label as it is written, and its tokens are that label's.
-use Rattle.std.proofs.Common.{◌≡◌, ◌≢◌, ℕ, ◌+◌, ◌≤◌, Bool, true, false, List, [], ◌∷◌, ◌++◌, Option, Some, option_map, codes, decimal, drop, length, nat_le, nat_lt, slice_index, ap, refl, sym, ◌∙◌, subst, arith, lit<}
+use Rattle.std.proofs.Common.{◌≡◌, ℕ, ◌+◌, ◌≤◌, Bool, true, false, List, [], ◌∷◌, ◌++◌, Option, Some, option_map, codes, decimal, drop, length, nat_le, nat_lt, slice_index, ap, refl, sym, ◌∙◌, subst, arith, lit<}
 use Rattle.std.proofs.lemmas.List.Sums.{AllPass-from_list_all}
 use Rattle.omega_acc.specs.Expanding.{Entry, Meaning, both, in_parentheses, negated, replaced}
 use Rattle.omega_acc.specs.Label.{LabelTree, conjunction, constant, disjunction, negation, proposition}

@@ -1,5 +1,5 @@
 -- How written expressions are read back (docs/formats.md, labels and acceptance formulas): the canonical text of a tree is the tokens of one expression as it is written, which means that tree.
-use Rattle.std.specs.Prelude.{◌≡◌, ◌≢◌, ℕ, ◌+◌, ◌≤◌, Bool, false, nat_le, nat_lt, if◌then◌else◌, List, [], ◌∷◌, ◌++◌, Option, Some, codes, drop, length, map, slice_index}
+use Rattle.std.specs.Prelude.{◌≡◌, ◌≢◌, ℕ, ◌+◌, ◌≤◌, Bool, false, nat_le, nat_lt, if◌then◌else◌, List, [], ◌∷◌, ◌++◌, Some, codes, drop, length, map, slice_index}
 use Rattle.omega_acc.specs.AccMeaning.{acc_meant}
 use Rattle.omega_acc.specs.AccReading.{IsAccOf, acc_spelled}
 use Rattle.omega_acc.specs.Acceptance.{AccTree}

@@ -1,3 +1,5 @@
+mod formulas;
+mod hostile;
 mod reading;
 
 use omega_acc::{
@@ -117,6 +119,8 @@ fn definitions_are_judged_before_they_are_copied(rt: HostRuntime) -> Result<(), 
     assert_eq!(rt; size_of(rt.alloc(), &DOUBLED, "P")?, 65_535);
     assert_eq!(rt; number_of(size_of(rt.alloc(), &DOUBLED, "Q")), 33);
     assert_eq!(rt; number_of(size_of(rt.alloc(), &DOUBLED, "T")), 33);
+    assert_eq!(rt; size_of(rt.alloc(), &DOUBLED, "P!")?, 65_536);
+    assert_eq!(rt; number_of(size_of(rt.alloc(), &DOUBLED, "P0&")), 33);
     Ok(())
 }
 

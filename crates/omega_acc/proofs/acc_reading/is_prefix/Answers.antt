@@ -1,5 +1,5 @@
 -- What begins a part is passed, and where nothing does nothing is read.
-use Rattle.std.proofs.Common.{true, false, [], ◌∷◌, ap, append-nil, refl, subst, sym, ◌∙◌}
+use Rattle.std.proofs.Common.{true, false, [], ◌∷◌, ap, append-nil, subst, sym, ◌∙◌}
 use Rattle.omega_acc.specs.AccReading.{ReadsNoAcc}
 use Rattle.omega_acc.specs.RawAcc.{atom, constant}
 use Rattle.omega_acc.specs.Symbols.{IsUnread, seen_as}
