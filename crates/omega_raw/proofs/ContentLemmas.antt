@@ -1,16 +1,15 @@
 -- Items by their headers.
-use Rattle.std.proofs.Common.{◌≡◌, ℕ, Bool, true, false, List, [], ◌∷◌, Option, refl, sym, ap, ◌∙◌, subst, codes, if◌then◌else◌, Result, Ok, Err}
-use Rattle.std.specs.Prelude.{IfOk}
+use Rattle.std.proofs.Common.{◌≡◌, ℕ, Bool, true, false, List, Option, refl, sym, ap, ◌∙◌, subst, codes, if◌then◌else◌, Result, Ok, Err}
 use Rattle.std.proofs.lemmas.Slice.Eq.{bytes_eq-Decides}
 use Rattle.std.specs.Str.{bytes_eq}
 use Rattle.omega_acc.specs.RawAcc.{RawAccTree}
 use Rattle.omega_acc.specs.RawLabel.{RawLabelTree}
 use Rattle.omega_acc.specs.declared.acc_name.AccName.{AccName}
 use Rattle.omega_acc.specs.declared.acc_name.Parameter.{Parameter}
-use Rattle.omega_raw.specs.Contents.{FindsContent, FindsNamed, FindsUnknown, FindsWhere, GivesContent, GivesNamed, GivesUnknown, IsUnknown}
+use Rattle.omega_raw.specs.Contents.{FindsContent, FindsNamed, FindsUnknown, GivesContent, GivesNamed, GivesUnknown}
 use Rattle.omega_raw.specs.Grammar.{IsItem, content_row, header_named, item_header, item_name}
 use Rattle.omega_raw.specs.Parts.{EndsItem}
-use Rattle.omega_raw.specs.Reading.{FirstIs, Found, Given}
+use Rattle.omega_raw.specs.Reading.{FirstIs, Found}
 use Rattle.omega_raw.specs.Symbols.{Spells, Symbol, Tokens}
 use Rattle.omega_raw.specs.declared.header.name.Header.{Header}
 use Rattle.omega_raw.specs.declared.header.name.Header.TheVariants as named

@@ -1,12 +1,11 @@
 -- What follows a part in a text does not go on with it.
-use Rattle.std.proofs.Common.{◌≡◌, ℕ, Bool, true, false, List, [], ◌∷◌, Option, Some, None, refl, arith}
+use Rattle.std.proofs.Common.{◌≡◌, ℕ, true, List, [], ◌∷◌, Option, Some, None, refl, arith}
 use Rattle.std.specs.Prelude.{IfSome}
 use Rattle.std.specs.List.{AllByRecursion}
-use Rattle.omega_raw.proofs.PartLemmas.{IsPart, follows_part}
 use Rattle.omega_raw.proofs.SpellingLemmas.{first_then}
 use Rattle.omega_raw.specs.Beginnings.{edge_begun}
-use Rattle.omega_raw.specs.Grammar.{IsConj, IsEdge, conj_row, each, edge_row, optional, sig_row, string_row}
-use Rattle.omega_raw.specs.Parts.{EndsConj, EndsEdge, EndsItem, EndsState, is_and, is_brace, is_bracket, is_edge, is_header, is_identifier, is_parameter, is_string, is_value}
+use Rattle.omega_raw.specs.Grammar.{IsConj, IsEdge, conj_row, each, edge_row, optional, sig_row}
+use Rattle.omega_raw.specs.Parts.{EndsConj, EndsEdge, EndsItem, EndsState, is_and, is_brace, is_bracket, is_edge, is_identifier, is_parameter, is_string, is_value}
 use Rattle.omega_raw.specs.Reading.{EndsList, FirstIs, IsAny, IsKind}
 use Rattle.omega_raw.specs.Symbols.{Symbol}
 use Rattle.omega_raw.specs.declared.raw_edge.RawEdge.{RawEdge}

@@ -1,13 +1,13 @@
 -- Rows of several parts.
-use Rattle.std.proofs.Common.{◌≡◌, ℕ, ◌<◌, List, [], ◌∷◌, Option, refl, sym, ap, ◌∙◌, subst, arith, Result, Ok, Err}
+use Rattle.std.proofs.Common.{◌≡◌, ℕ, List, [], ◌∷◌, Option, sym, ap, ◌∙◌, subst, arith, Result, Ok, Err}
 use Rattle.omega_acc.specs.RawLabel.{RawLabelTree}
 use Rattle.std.specs.Prelude.{IfErr, IsErrAnd}
 use Rattle.omega_acc.specs.Depth.{IsMemory}
 use Rattle.omega_acc.specs.Symbols.{IsUnread}
-use Rattle.omega_raw.specs.Grammar.{IsConj, ReadsAutomaton, ReadsNone, conj_row, each, joined_row}
+use Rattle.omega_raw.specs.Grammar.{IsConj, ReadsAutomaton, ReadsNone, conj_row}
 use Rattle.omega_raw.specs.Parts.{EndsConj}
 use Rattle.omega_raw.specs.Reading.{Finds, FirstIs, Found, Given, IsRefusal}
-use Rattle.omega_raw.specs.Symbols.{Spells, Symbol, Tokens, number}
+use Rattle.omega_raw.specs.Symbols.{Spells, Symbol, Tokens}
 use Rattle.omega_raw.specs.declared.raw_automaton.RawAutomaton.{RawAutomaton}
 use Rattle.omega_raw.specs.declared.raw_edge.RawEdge.{RawEdge}
 use Rattle.omega_raw.specs.declared.raw_state.RawState.{RawState}

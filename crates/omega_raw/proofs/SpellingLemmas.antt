@@ -1,5 +1,5 @@
 -- What symbols say of the tokens that they spell.
-use Rattle.std.proofs.Common.{◌≡◌, ℕ, ◌<◌, ◌≤◌, ◌+◌, Bool, true, false, List, [], ◌∷◌, ◌++◌, length, length-append, refl, sym, ap, ◌∙◌, subst, arith, Result, Ok, Err}
+use Rattle.std.proofs.Common.{◌≡◌, ◌<◌, ◌≤◌, Bool, true, false, List, [], ◌∷◌, length, length-append, sym, ◌∙◌, subst, arith, Result, Ok, Err}
 use Rattle.std.specs.Prelude.{IfErr, IfOk, IsErrAnd}
 use Rattle.omega_acc.specs.Depth.{IsMemory}
 use Rattle.omega_acc.specs.Symbols.{IsUnread}
@@ -7,7 +7,7 @@ use Rattle.omega_acc.specs.AccReading.{ReadsAcc}
 use Rattle.omega_acc.specs.RawAcc.{RawAccTree}
 use Rattle.omega_acc.specs.Reading.{Reads}
 use Rattle.omega_acc.specs.RawLabel.{RawLabelTree}
-use Rattle.omega_raw.specs.Reading.{FirstIs, Found, FoundThere, NextIs, NextIsNot, NextMayBe}
+use Rattle.omega_raw.specs.Reading.{FirstIs, Found, NextIs, NextIsNot, NextMayBe}
 use Rattle.omega_raw.specs.Symbols.{IsNext, Shows, Spells, Splits, Symbol, Tokens, alias, formula, header, label, number, sign, text, word}
 use Rattle.omega_text.specs.Lexeme.{Lexeme}
 use Rattle.omega_text.specs.declared.hoa.kind.HoaKind.{HoaKind}

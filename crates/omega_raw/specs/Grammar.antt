@@ -6,7 +6,6 @@ use Rattle.omega_acc.specs.RawAcc.{RawAccTree}
 use Rattle.omega_acc.specs.RawLabel.{RawLabelTree}
 use Rattle.omega_acc.specs.declared.acc_name.Parameter.{Parameter}
 use Rattle.omega_acc.specs.declared.acc_name.Parameter.TheVariants as parameter
-use Rattle.omega_text.specs.declared.hoa.kind.HoaKind.{HoaKind}
 use Rattle.omega_text.specs.declared.hoa.kind.HoaKind.TheVariants as kind
 use Rattle.omega_raw.specs.Symbols.{Spells, Symbol, Tokens, alias, formula, header, label, number, sign, text, word}
 use Rattle.omega_raw.specs.declared.header.name.Header.{Header}

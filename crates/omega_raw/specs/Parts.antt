@@ -1,7 +1,5 @@
 -- By which tokens the parts of a text begin, and which tokens may follow them.
-use Rattle.std.specs.Prelude.{◌≡◌, Bool, true, false, List, []}
-use Rattle.omega_raw.specs.Reading.{FirstIs}
-use Rattle.omega_raw.specs.Symbols.{Symbol}
+use Rattle.std.specs.Prelude.{Bool, true, false}
 use Rattle.omega_text.specs.declared.hoa.kind.HoaKind.{HoaKind}
 use Rattle.omega_text.specs.declared.hoa.kind.HoaKind.TheVariants as kind
 

@@ -1,6 +1,6 @@
 -- One part more is read, or none stands there any more.
 use Rattle.std.proofs.Common.{rules, true, []}
-use Rattle.std.proofs.Common.{◌≡◌, ◌∷◌, ◌++◌, refl, sym, subst, ap, ◌∙◌}
+use Rattle.std.proofs.Common.{◌≡◌, refl, sym, subst, ◌∙◌}
 use Rattle.std.specs.List.{AllByRecursion}
 use Rattle.omega_acc.specs.Depth.{IsMemory}
 use Rattle.omega_raw.proofs.PartLemmas.{IsPart, IsReadTo, read_all, read_failed, read_more, read_none}

@@ -1,5 +1,5 @@
 -- Parts were read up to where the next is looked for.
-use Rattle.std.proofs.Common.{ℕ, length}
+use Rattle.std.proofs.Common.{length}
 use Rattle.omega_raw.proofs.PartLemmas.{IsReadTo}
 use Rattle.omega_raw.specs.Reading.{EndsList}
 use Rattle.omega_raw.proofs.part.read_each.Given as goal

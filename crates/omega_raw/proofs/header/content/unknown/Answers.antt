@@ -1,16 +1,10 @@
 -- The values of an unknown header are those that were written.
-use Rattle.std.proofs.Common.{Ok, refl, sym, ap, subst, ◌∙◌, ◌∷◌, [], codes, arith}
+use Rattle.std.proofs.Common.{Ok, refl, sym, ap, subst, ◌∙◌}
 use Rattle.omega_acc.specs.Depth.{IsMemory}
-use Rattle.omega_raw.proofs.ContentLemmas.{acc_name_found, acceptance_found, alias_found, properties_found, propositions_found, start_found, tool_found, unknown_finds, content_given, content_found, unknown_given, unknown_found, none_found, no_format, no_state}
-use Rattle.omega_raw.proofs.FollowLemmas.{all_any, some_any, strings_end, words_end, parameters_end, values_end, start_ends, joined_end, guard_ends, targets_end, sig_ends, edges_end, edges_begin, name_ends}
-use Rattle.omega_raw.proofs.PartLemmas.{given_then}
-use Rattle.omega_raw.proofs.RowLemmas.{conj_found, conj_given, edge_same, state_same}
-use Rattle.omega_raw.proofs.SpellingLemmas.{error_found, missing_memory, token_taken}
-use Rattle.omega_raw.specs.Grammar.{conj_row, content_row, each, edge_row, item_name, item_row, joined_row, optional, parameter_row, sig_row, state_row, string_row, value_row, word_row}
-use Rattle.omega_raw.specs.Symbols.{alias, formula, header, label, number, sign, text, word}
-use Rattle.omega_raw.specs.declared.header.name.Header.TheVariants as named
+use Rattle.omega_raw.proofs.ContentLemmas.{unknown_finds}
+use Rattle.omega_raw.proofs.FollowLemmas.{all_any, values_end}
+use Rattle.omega_raw.proofs.SpellingLemmas.{error_found}
 use Rattle.omega_raw.specs.declared.raw_item.RawItem.TheVariants as item
-use Rattle.omega_text.specs.declared.hoa.kind.HoaKind.TheVariants as kind
 use Rattle.omega_raw.proofs.header.content.unknown.Goals as goal
 use Rattle.omega_raw.specs.Grammar.{header_named}
 
