@@ -2,14 +2,23 @@
 //! whether they mean anything, is not judged here.
 #![tactic(auto)]
 
+mod body;
+mod conj;
+mod expressions;
+mod header;
 mod header_value;
+mod part;
 mod raw_automaton;
 mod raw_edge;
 mod raw_item;
 mod raw_state;
+mod reading;
+mod single;
+mod taking;
 
 pub use header_value::HeaderValue;
 pub use raw_automaton::RawAutomaton;
 pub use raw_edge::RawEdge;
 pub use raw_item::RawItem;
 pub use raw_state::RawState;
+pub use reading::read_raw;

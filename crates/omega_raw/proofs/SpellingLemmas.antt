@@ -1,0 +1,138 @@
+-- What symbols say of the tokens that they spell.
+use Rattle.std.proofs.Common.{◌≡◌, ◌<◌, ◌≤◌, Bool, true, false, List, [], ◌∷◌, length, length-append, sym, ◌∙◌, subst, arith, Result, Ok, Err}
+use Rattle.std.specs.Prelude.{IfErr, IfOk, IsErrAnd}
+use Rattle.omega_acc.specs.Depth.{IsMemory}
+use Rattle.omega_acc.specs.Symbols.{IsUnread}
+use Rattle.omega_acc.specs.AccReading.{ReadsAcc}
+use Rattle.omega_acc.specs.RawAcc.{RawAccTree}
+use Rattle.omega_acc.specs.Reading.{Reads}
+use Rattle.omega_acc.specs.RawLabel.{RawLabelTree}
+use Rattle.omega_raw.specs.Reading.{FirstIs, Found, NextIs, NextIsNot, NextMayBe}
+use Rattle.omega_raw.specs.Symbols.{IsNext, Shows, Spells, Splits, Symbol, Tokens, alias, formula, header, label, number, sign, text, word}
+use Rattle.omega_text.specs.Lexeme.{Lexeme}
+use Rattle.omega_text.specs.declared.hoa.kind.HoaKind.{HoaKind}
+use Rattle.omega_text.specs.declared.hoa.kind.HoaKind.TheVariants as kind
+use Rattle.omega_text.specs.declared.refusal.Refusal.{Refusal}
+use Rattle.omega_text.specs.declared.refusal.Refusal.TheVariants.{Memory, Text}
+use Rattle.omega_text.specs.declared.refusal.text.TextFault.TheVariants.{Syntax}
+
+-- the token that is taken shows the symbol, and those that are left spell the others
+pub token_taken : (symbol : Symbol) (others : List Symbol) (rest old new : Tokens) (lexeme : Lexeme HoaKind) → old ≡ lexeme ∷ new
+    → Splits (λ middle. IsNext symbol old middle) (λ middle. Spells middle others rest) → Shows symbol lexeme × Spells new others rest
+token_taken symbol others rest old new lexeme took splits =
+    let e : splits.front.lexeme ∷ splits.middle ≡ lexeme ∷ new = sym splits.front.next ∙ took in
+    let one : splits.front.lexeme ≡ lexeme = cc in
+    let left : splits.middle ≡ new = cc in
+    (subst (Shows symbol) one splits.front.shows, subst (λ tokens. Spells tokens others rest) left splits.back)
+
+-- a token of a kind that is not there shows nothing
+pub token_missing : (symbol : Symbol) (old middle : Tokens) (kind : HoaKind) → NextIsNot kind old → IsNext symbol old middle
+    → ((lexeme : Lexeme HoaKind) → Shows symbol lexeme → lexeme.kind ≡ kind) → ⊥
+token_missing symbol [] middle kind missing next shown = let e : [] ≡ next.lexeme ∷ middle = next.next in cc
+token_missing symbol (lexeme ∷ tokens) middle kind missing next shown =
+    let e : lexeme ∷ tokens ≡ next.lexeme ∷ middle = next.next in
+    let one : next.lexeme ≡ lexeme = cc in
+    missing (shown lexeme (subst (Shows symbol) one next.shows))
+
+-- what holds of the kind of a token holds of the next one
+next_of : (Holds : HoaKind → Type 0) (symbol : Symbol) (tokens middle : Tokens) (kind : HoaKind) → Holds kind → IsNext symbol tokens middle
+    → ((lexeme : Lexeme HoaKind) → Shows symbol lexeme → lexeme.kind ≡ kind) → NextIs Holds tokens
+next_of Holds symbol tokens middle kind holds next shown =
+    subst (NextIs Holds) (sym next.next) (subst Holds (sym (shown next.lexeme next.shows)) holds)
+
+-- the first symbol says of which kind the next token is
+pub next_is : (Holds : HoaKind → Type 0) (symbols : List Symbol) (tokens rest : Tokens) → FirstIs Holds symbols → Spells tokens symbols rest → NextIs Holds tokens
+next_is Holds [] tokens rest first spells = absurd first
+next_is Holds (number n ∷ others) tokens rest first spells = next_of Holds (number n) tokens spells.middle kind.Int first spells.front (λ lexeme shows. shows.0)
+next_is Holds (word bytes ∷ others) tokens rest first spells = next_of Holds (word bytes) tokens spells.middle kind.Identifier first spells.front (λ lexeme shows. shows.0)
+next_is Holds (header bytes ∷ others) tokens rest first spells = next_of Holds (header bytes) tokens spells.middle kind.HeaderName first spells.front (λ lexeme shows. shows.0)
+next_is Holds (alias bytes ∷ others) tokens rest first spells = next_of Holds (alias bytes) tokens spells.middle kind.AliasName first spells.front (λ lexeme shows. shows.0)
+next_is Holds (text bytes ∷ others) tokens rest first spells = next_of Holds (text bytes) tokens spells.middle kind.String first spells.front (λ lexeme shows. shows.0)
+next_is Holds (sign kind ∷ others) tokens rest first spells = next_of Holds (sign kind) tokens spells.middle kind first spells.front (λ lexeme shows. shows)
+next_is Holds (label tree ∷ others) tokens rest first spells = absurd first
+next_is Holds (formula tree ∷ others) tokens rest first spells = absurd first
+
+-- what is said of the first symbol's kind may be weakened
+pub first_then : (Holds More : HoaKind → Type 0) (symbols : List Symbol) → ((kind : HoaKind) → Holds kind → More kind) → FirstIs Holds symbols → FirstIs More symbols
+first_then Holds More [] then first = absurd first
+first_then Holds More (number n ∷ others) then first = then kind.Int first
+first_then Holds More (word bytes ∷ others) then first = then kind.Identifier first
+first_then Holds More (header bytes ∷ others) then first = then kind.HeaderName first
+first_then Holds More (alias bytes ∷ others) then first = then kind.AliasName first
+first_then Holds More (text bytes ∷ others) then first = then kind.String first
+first_then Holds More (sign kind ∷ others) then first = then kind first
+first_then Holds More (label tree ∷ others) then first = absurd first
+first_then Holds More (formula tree ∷ others) then first = absurd first
+
+-- the next token is of a kind and of no such kind
+pub next_clash : (begins : HoaKind → Bool) (tokens : Tokens) → NextIs (λ kind. begins kind ≡ true) tokens → NextMayBe (λ kind. begins kind ≡ false) tokens → ⊥
+next_clash begins [] is may = absurd is
+next_clash begins (lexeme ∷ tokens) is may = let e : true ≡ false = sym is ∙ may in cc
+
+-- a next token of a kind may be of it
+pub next_may : (Holds : HoaKind → Type 0) (tokens : Tokens) → NextIs Holds tokens → NextMayBe Holds tokens
+next_may Holds [] is = absurd is
+next_may Holds (lexeme ∷ tokens) is = is
+
+-- no more tokens are left than there were
+shorter_next : (symbol : Symbol) (tokens rest : Tokens) → IsNext symbol tokens rest → length rest < length tokens
+shorter_next symbol tokens rest next = subst (λ all. length rest < length all) (sym next.next) (omega arith)
+
+shorter_label : (tree : RawLabelTree) (tokens rest : Tokens) → Reads tokens tree rest → length rest ≤ length tokens
+shorter_label tree tokens rest reads = subst (λ all. length rest ≤ length all) (sym reads.split) (omega (arith, length-append reads.front rest))
+
+shorter_formula : (tree : RawAccTree) (tokens rest : Tokens) → ReadsAcc tokens tree rest → length rest ≤ length tokens
+shorter_formula tree tokens rest reads = subst (λ all. length rest ≤ length all) (sym reads.split) (omega (arith, length-append reads.front rest))
+
+pub no_longer : (symbols : List Symbol) (tokens rest : Tokens) → Spells tokens symbols rest → length rest ≤ length tokens
+no_longer [] tokens rest spells = subst (λ all. length rest ≤ length all) (sym spells) (omega arith)
+no_longer (number n ∷ others) tokens rest spells = let a = shorter_next _ tokens spells.middle spells.front in let b = no_longer others spells.middle rest spells.back in omega (arith, a, b)
+no_longer (word bytes ∷ others) tokens rest spells = let a = shorter_next _ tokens spells.middle spells.front in let b = no_longer others spells.middle rest spells.back in omega (arith, a, b)
+no_longer (header bytes ∷ others) tokens rest spells = let a = shorter_next _ tokens spells.middle spells.front in let b = no_longer others spells.middle rest spells.back in omega (arith, a, b)
+no_longer (alias bytes ∷ others) tokens rest spells = let a = shorter_next _ tokens spells.middle spells.front in let b = no_longer others spells.middle rest spells.back in omega (arith, a, b)
+no_longer (text bytes ∷ others) tokens rest spells = let a = shorter_next _ tokens spells.middle spells.front in let b = no_longer others spells.middle rest spells.back in omega (arith, a, b)
+no_longer (sign kind ∷ others) tokens rest spells = let a = shorter_next _ tokens spells.middle spells.front in let b = no_longer others spells.middle rest spells.back in omega (arith, a, b)
+no_longer (label tree ∷ others) tokens rest spells = let a = shorter_label tree tokens spells.middle spells.front in let b = no_longer others spells.middle rest spells.back in omega (arith, a, b)
+no_longer (formula tree ∷ others) tokens rest spells = let a = shorter_formula tree tokens spells.middle spells.front in let b = no_longer others spells.middle rest spells.back in omega (arith, a, b)
+
+-- where the first symbol is a token, fewer are left
+pub shorter : (Holds : HoaKind → Type 0) (symbols : List Symbol) (tokens rest : Tokens) → FirstIs Holds symbols → Spells tokens symbols rest → length rest < length tokens
+shorter Holds [] tokens rest first spells = absurd first
+shorter Holds (number n ∷ others) tokens rest first spells = let a = shorter_next _ tokens spells.middle spells.front in let b = no_longer others spells.middle rest spells.back in omega (arith, a, b)
+shorter Holds (word bytes ∷ others) tokens rest first spells = let a = shorter_next _ tokens spells.middle spells.front in let b = no_longer others spells.middle rest spells.back in omega (arith, a, b)
+shorter Holds (header bytes ∷ others) tokens rest first spells = let a = shorter_next _ tokens spells.middle spells.front in let b = no_longer others spells.middle rest spells.back in omega (arith, a, b)
+shorter Holds (alias bytes ∷ others) tokens rest first spells = let a = shorter_next _ tokens spells.middle spells.front in let b = no_longer others spells.middle rest spells.back in omega (arith, a, b)
+shorter Holds (text bytes ∷ others) tokens rest first spells = let a = shorter_next _ tokens spells.middle spells.front in let b = no_longer others spells.middle rest spells.back in omega (arith, a, b)
+shorter Holds (sign kind ∷ others) tokens rest first spells = let a = shorter_next _ tokens spells.middle spells.front in let b = no_longer others spells.middle rest spells.back in omega (arith, a, b)
+shorter Holds (label tree ∷ others) tokens rest first spells = absurd first
+shorter Holds (formula tree ∷ others) tokens rest first spells = absurd first
+
+-- an error that is known to be want of memory finds what was to be found
+pub error_found : {X : Type 0} (result : Result X Refusal) (said : Refusal → Type 0) (it : X) (left : Type 0)
+    → IsErrAnd result said → ((refusal : Refusal) → said refusal → IsMemory refusal) → Found result it left
+error_found (Ok value) said it left is follows = absurd is
+error_found (Err refusal) said it left is follows = follows refusal is
+
+-- a refusal where nothing was missing is want of memory
+pub unread_memory : (None : Type 0) → (None → ⊥) → (refusal : Refusal) → IsUnread None refusal → IsMemory refusal
+unread_memory None never_none (Text (Syntax at)) is = never_none is
+unread_memory None never_none (Text fault) is = absurd is
+unread_memory None never_none Memory is = tt
+unread_memory None never_none refusal is = absurd is
+
+-- where a token of a kind is refused and a symbol of that kind was written, memory is wanting
+pub missing_memory : (symbol : Symbol) (kind : HoaKind) (old : Tokens) (Back : Tokens → Type 0) → ((lexeme : Lexeme HoaKind) → Shows symbol lexeme → lexeme.kind ≡ kind)
+    → (refusal : Refusal) → IsUnread (NextIsNot kind old) refusal → Splits (λ middle. IsNext symbol old middle) Back → IsMemory refusal
+missing_memory symbol kind old Back shown refusal unread splits =
+    unread_memory (NextIsNot kind old) (λ missing. token_missing symbol old splits.middle kind missing splits.front shown) refusal unread
+
+-- what is read of an expression is what was written, as only one can be read
+pub expression_found : {X : Type 0} (R : Tokens → X → Tokens → Type 0)
+    → ((tokens : Tokens) (one other : X) (rest left : Tokens) → R tokens one rest → R tokens other left → (one ≡ other) × (rest ≡ left))
+    → (result : Result X Refusal) (old new : Tokens) → IfOk result (λ it. R old it new) → IfErr result (IsUnread ((it : X) (rest : Tokens) → R old it rest → ⊥))
+    → (wanted : X) (others : List Symbol) (rest : Tokens) → Splits (λ middle. R old wanted middle) (λ middle. Spells middle others rest) → Found result wanted (Spells new others rest)
+expression_found R one (Ok it) old new reads none wanted others rest splits =
+    let same = one old it wanted new splits.middle reads splits.front in
+    (same.0, subst (λ tokens. Spells tokens others rest) (sym same.1) splits.back)
+expression_found R one (Err refusal) old new reads none wanted others rest splits =
+    unread_memory _ (λ none_read. none_read wanted splits.middle splits.front) refusal none

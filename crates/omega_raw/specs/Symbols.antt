@@ -1,0 +1,67 @@
+-- What the grammar of automata is written in: tokens with what they say, and the expressions of labels and of acceptance.
+use Rattle.std.specs.Prelude.{◌≡◌, ℕ, ◌-◌, List, [], ◌∷◌, length, take, drop}
+use Rattle.omega_acc.specs.RawAcc.{RawAccTree}
+use Rattle.omega_acc.specs.RawLabel.{RawLabelTree}
+use Rattle.omega_text.specs.Lexeme.{Lexeme}
+use Rattle.omega_text.specs.declared.hoa.kind.HoaKind.{HoaKind}
+use Rattle.omega_text.specs.declared.hoa.kind.HoaKind.TheVariants as kind
+use Rattle.omega_acc.specs.AccReading.{ReadsAcc}
+use Rattle.omega_acc.specs.Reading.{Reads}
+
+-- the tokens of a text
+abbrev pub Tokens : Type 0
+Tokens = List (Lexeme HoaKind)
+
+-- a symbol of the grammar: an INT, an IDENTIFIER, a HEADERNAME without its colon, an ANAME with its `@`, a STRING without its
+-- quotes, any other token, a label-expr or an acc-expr
+pub data Symbol : Type 0 where
+  number : ℕ → Symbol
+  word : List ℕ → Symbol
+  header : List ℕ → Symbol
+  alias : List ℕ → Symbol
+  text : List ℕ → Symbol
+  sign : HoaKind → Symbol
+  label : RawLabelTree → Symbol
+  formula : RawAccTree → Symbol
+
+-- bytes without the last
+abbrev pub without_last : List ℕ → List ℕ
+without_last bytes = take (length bytes - 1) bytes
+
+-- bytes without the quote at either end
+abbrev pub between_quotes : List ℕ → List ℕ
+between_quotes bytes = take (length bytes - 2) (drop 1 bytes)
+
+-- the token is written as the symbol
+abbrev pub Shows : Symbol → Lexeme HoaKind → Type 0
+Shows (number n) lexeme = (lexeme.kind ≡ kind.Int) × (lexeme.value ≡ n)
+Shows (word bytes) lexeme = (lexeme.kind ≡ kind.Identifier) × (lexeme.text ≡ bytes)
+Shows (header bytes) lexeme = (lexeme.kind ≡ kind.HeaderName) × (without_last lexeme.text ≡ bytes)
+Shows (alias bytes) lexeme = (lexeme.kind ≡ kind.AliasName) × (lexeme.text ≡ bytes)
+Shows (text bytes) lexeme = (lexeme.kind ≡ kind.String) × (between_quotes lexeme.text ≡ bytes)
+Shows (sign kind) lexeme = lexeme.kind ≡ kind
+Shows (label tree) lexeme = ⊥
+Shows (formula tree) lexeme = ⊥
+
+-- the first of the tokens is written as the symbol, and the rest is left
+pub record IsNext (symbol : Symbol) (tokens rest : Tokens) : Type 0 where
+  pub lexeme : Lexeme HoaKind
+  pub next : tokens ≡ lexeme ∷ rest
+  pub shows : Shows symbol lexeme
+
+-- the tokens are the symbol's, and then the rest
+abbrev pub Begins : Symbol → Tokens → Tokens → Type 0
+Begins (label tree) tokens rest = Reads tokens tree rest
+Begins (formula tree) tokens rest = ReadsAcc tokens tree rest
+Begins symbol tokens rest = IsNext symbol tokens rest
+
+-- some tokens stand between a front and a back
+pub record Splits (Front Back : Tokens → Type 0) : Type 0 where
+  pub middle : Tokens
+  pub front : Front middle
+  pub back : Back middle
+
+-- the tokens are those of the symbols, and then the rest
+abbrev pub Spells : Tokens → List Symbol → Tokens → Type 0
+Spells tokens [] rest = tokens ≡ rest
+Spells tokens (symbol ∷ others) rest = Splits (Begins symbol tokens) (λ middle. Spells middle others rest)

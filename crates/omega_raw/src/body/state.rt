@@ -1,0 +1,52 @@
+ghost use Rattle.omega_raw.specs.Beginnings.{state_begun, state_follows};
+ghost use Rattle.omega_raw.specs.Grammar.{IsState, state_row};
+ghost use Rattle.omega_raw.specs.Parts.{EndsState, is_header};
+
+use crate::body::edge::Edge;
+use crate::body::guard::Guard;
+use crate::body::sig::Sig;
+use crate::part::{Part, read_each, read_if};
+use crate::raw_state::RawState;
+use crate::single::Quoted;
+use crate::taking::{take_header, take_int};
+use omega_text::{HoaKind, Refusal, TokenSource};
+use std::alloc::Global;
+
+/// A state with its edges.
+pub(crate) struct State;
+
+impl<'a, S: TokenSource<'a, HoaKind>> Part<'a, S> for State {
+    type Value = RawState;
+
+    ghost valid = { IsState };
+
+    ghost written = { state_row };
+
+    ghost first = { is_header };
+
+    ghost next = { EndsState };
+
+    fn begins(kind: HoaKind) -> bool {
+        kind == HoaKind::HeaderName
+    }
+
+    fn read(alloc: Global, source: &mut S) -> Result<RawState, Refusal> {
+        take_header(source, b"State")?;
+        let label = read_if::<Guard, S>(alloc, source)?;
+        let number = take_int(source)?;
+        let name = read_if::<Quoted, S>(alloc, source)?;
+        let marks = read_if::<Sig, S>(alloc, source)?;
+        let edges = read_each::<Edge, S>(alloc, source)?;
+        Ok(RawState {
+            label,
+            number,
+            name,
+            marks,
+            edges,
+        })
+    }
+
+    ghost begun = { state_begun };
+
+    ghost follows = { state_follows };
+}

@@ -1,0 +1,64 @@
+ghost use Rattle.std.specs.Prelude.{◌≡◌, ◌∷◌, IfErr, IfOk, refl};
+ghost use Rattle.omega_acc.specs.Depth.{IsMemory};
+ghost use Rattle.omega_raw.specs.Grammar.{IsConj, conj_row, joined_row};
+ghost use Rattle.omega_raw.specs.Parts.{EndsConj, is_and};
+ghost use Rattle.omega_raw.specs.Reading.{Finds, FirstIs, Gives, IsAny, IsKind, IsRefusal};
+
+use crate::part::{Part, read_each};
+use crate::taking::{take_int, take_sign};
+use omega_text::{HoaKind, Refusal, Seq, TokenSource};
+use std::alloc::Global;
+
+/// A further state of a conj, behind `&`.
+struct Joined;
+
+impl<'a, S: TokenSource<'a, HoaKind>> Part<'a, S> for Joined {
+    type Value = u32;
+
+    ghost valid = { IsAny };
+
+    ghost written = { joined_row };
+
+    ghost first = { is_and };
+
+    ghost next = { IsKind };
+
+    fn begins(kind: HoaKind) -> bool {
+        kind == HoaKind::And
+    }
+
+    fn read(_alloc: Global, source: &mut S) -> Result<u32, Refusal> {
+        take_sign(source, HoaKind::And)?;
+        take_int(source)
+    }
+
+    ghost begun = { λ it others valid. refl };
+
+    ghost follows = { λ kind is. tt };
+}
+
+/// Reads a conj: states that are joined by `&`, at least one.
+pub(crate) fn conj<'a, S: TokenSource<'a, HoaKind>>(
+    alloc: Global,
+    source: &mut S,
+) -> Result<Seq<u32>, Refusal>
+    ensures gives { Gives IsConj conj_row (S.left source.old) (S.left source.new) result }
+    ensures finds { Finds IsConj conj_row (FirstIs EndsConj) (S.left source.old) (S.left source.new) result }
+    ensures err { IfErr result IsRefusal }
+{
+    let first = take_int(source)?;
+    let others = read_each::<Joined, S>(alloc, source)?;
+    let states = with_first(alloc, first, others)?;
+    Ok(states)
+}
+
+/// A number and others behind it.
+fn with_first(alloc: Global, first: u32, others: Seq<u32>) -> Result<Seq<u32>, Refusal>
+    ensures ok { IfOk result (λ numbers. numbers ≡ first ∷ others) }
+    ensures err { IfErr result IsMemory }
+{
+    let mut numbers = Vec::new(alloc);
+    numbers.push(first)?;
+    numbers.extend_from_slice(others.as_slice())?;
+    Ok(Seq::from_vec(numbers))
+}

@@ -1,0 +1,35 @@
+//! The expressions that a text of an automaton holds.
+
+ghost use Rattle.std.specs.Prelude.{IfErr};
+ghost use Rattle.omega_raw.specs.Grammar.{formula_row, expression_row};
+ghost use Rattle.omega_raw.specs.Reading.{Anything, Finds, Gives, IsAny, IsRefusal};
+
+use omega_acc::{RawAcc, RawLabel, formulas_are_one, labels_are_one, read_raw_acc, read_raw_label};
+use omega_text::{HoaKind, Refusal, TokenSource};
+use std::alloc::Global;
+
+/// A label-expr.
+pub(crate) fn label_expression<'a, S: TokenSource<'a, HoaKind>>(
+    alloc: Global,
+    source: &mut S,
+) -> Result<RawLabel, Refusal>
+    ensures gives { Gives IsAny expression_row (S.left source.old) (S.left source.new) result }
+    ensures finds { Finds IsAny expression_row Anything (S.left source.old) (S.left source.new) result }
+    ensures err { IfErr result IsRefusal }
+{
+    labels_are_one();
+    read_raw_label(alloc, source)
+}
+
+/// An acc-expr.
+pub(crate) fn acceptance_expression<'a, S: TokenSource<'a, HoaKind>>(
+    alloc: Global,
+    source: &mut S,
+) -> Result<RawAcc, Refusal>
+    ensures gives { Gives IsAny formula_row (S.left source.old) (S.left source.new) result }
+    ensures finds { Finds IsAny formula_row Anything (S.left source.old) (S.left source.new) result }
+    ensures err { IfErr result IsRefusal }
+{
+    formulas_are_one();
+    read_raw_acc(alloc, source)
+}

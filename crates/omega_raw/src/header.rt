@@ -1,0 +1,8 @@
+//! The items of a header.
+
+mod content;
+mod item;
+mod known;
+mod name;
+
+pub(crate) use item::Item;

@@ -1,0 +1,39 @@
+ghost use Rattle.omega_raw.specs.Beginnings.{item_begun, item_follows};
+ghost use Rattle.omega_raw.specs.Grammar.{IsItem, item_row};
+ghost use Rattle.omega_raw.specs.Parts.{EndsItem, is_header};
+
+use crate::header::content::content;
+use crate::part::Part;
+use crate::raw_item::RawItem;
+use crate::taking::{take_kind, without_colon};
+use omega_text::{HoaKind, Refusal, TokenSource};
+use std::alloc::Global;
+
+/// An item of a header.
+pub(crate) struct Item;
+
+impl<'a, S: TokenSource<'a, HoaKind>> Part<'a, S> for Item {
+    type Value = RawItem;
+
+    ghost valid = { IsItem };
+
+    ghost written = { item_row };
+
+    ghost first = { is_header };
+
+    ghost next = { EndsItem };
+
+    fn begins(kind: HoaKind) -> bool {
+        kind == HoaKind::HeaderName
+    }
+
+    fn read(alloc: Global, source: &mut S) -> Result<RawItem, Refusal> {
+        let at = source.place();
+        let token = take_kind(source, HoaKind::HeaderName)?;
+        content(alloc, without_colon(token.text), at, source)
+    }
+
+    ghost begun = { item_begun };
+
+    ghost follows = { item_follows };
+}

@@ -1,0 +1,136 @@
+//! What stands behind the header of an item.
+
+ghost use Rattle.std.specs.Prelude.{IfErr};
+ghost use Rattle.omega_raw.specs.Contents.{FindsContent, GivesContent};
+ghost use Rattle.omega_raw.specs.Reading.{IsRefusal};
+ghost use Rattle.omega_raw.specs.declared.header.name.Header.TheVariants as header;
+
+use crate::conj::conj;
+use crate::expressions::{acceptance_expression, label_expression};
+use crate::part::{read_each, read_if};
+use crate::raw_item::RawItem;
+use crate::single::{NameParameter, Quoted, Word};
+use crate::taking::{copied, take_int, take_kind, take_string, take_word};
+use omega_acc::AccName;
+use omega_text::{HoaKind, Refusal, TokenSource};
+use std::alloc::Global;
+
+/// The count of states behind `States:`.
+pub(crate) fn state_count<'a, S: TokenSource<'a, HoaKind>>(
+    source: &mut S,
+) -> Result<RawItem, Refusal>
+    ensures gives { GivesContent header.States (S.left source.old) (S.left source.new) result }
+    ensures finds { FindsContent header.States (S.left source.old) (S.left source.new) result }
+    ensures err { IfErr result IsRefusal }
+{
+    Ok(RawItem::States(take_int(source)?))
+}
+
+/// A conj behind `Start:`.
+pub(crate) fn start<'a, S: TokenSource<'a, HoaKind>>(
+    alloc: Global,
+    source: &mut S,
+) -> Result<RawItem, Refusal>
+    ensures gives { GivesContent header.Start (S.left source.old) (S.left source.new) result }
+    ensures finds { FindsContent header.Start (S.left source.old) (S.left source.new) result }
+    ensures err { IfErr result IsRefusal }
+{
+    let states = conj(alloc, source)?;
+    Ok(RawItem::Start(states))
+}
+
+/// The count and the names behind `AP:`.
+pub(crate) fn propositions<'a, S: TokenSource<'a, HoaKind>>(
+    alloc: Global,
+    source: &mut S,
+) -> Result<RawItem, Refusal>
+    ensures gives { GivesContent header.Propositions (S.left source.old) (S.left source.new) result }
+    ensures finds { FindsContent header.Propositions (S.left source.old) (S.left source.new) result }
+    ensures err { IfErr result IsRefusal }
+{
+    let count = take_int(source)?;
+    let names = read_each::<Quoted, S>(alloc, source)?;
+    Ok(RawItem::Propositions { count, names })
+}
+
+/// The name and the definition behind `Alias:`.
+pub(crate) fn alias<'a, S: TokenSource<'a, HoaKind>>(
+    alloc: Global,
+    source: &mut S,
+) -> Result<RawItem, Refusal>
+    ensures gives { GivesContent header.Alias (S.left source.old) (S.left source.new) result }
+    ensures finds { FindsContent header.Alias (S.left source.old) (S.left source.new) result }
+    ensures err { IfErr result IsRefusal }
+{
+    let token = take_kind(source, HoaKind::AliasName)?;
+    let name = copied(alloc, token.text)?;
+    let definition = label_expression(alloc, source)?;
+    Ok(RawItem::Alias { name, definition })
+}
+
+/// The count of sets and the formula behind `Acceptance:`.
+pub(crate) fn acceptance<'a, S: TokenSource<'a, HoaKind>>(
+    alloc: Global,
+    source: &mut S,
+) -> Result<RawItem, Refusal>
+    ensures gives { GivesContent header.Acceptance (S.left source.old) (S.left source.new) result }
+    ensures finds { FindsContent header.Acceptance (S.left source.old) (S.left source.new) result }
+    ensures err { IfErr result IsRefusal }
+{
+    let count = take_int(source)?;
+    let formula = acceptance_expression(alloc, source)?;
+    Ok(RawItem::Acceptance { count, formula })
+}
+
+/// The identifier and the parameters behind `acc-name:`.
+pub(crate) fn acc_name<'a, S: TokenSource<'a, HoaKind>>(
+    alloc: Global,
+    source: &mut S,
+) -> Result<RawItem, Refusal>
+    ensures gives { GivesContent header.AccName (S.left source.old) (S.left source.new) result }
+    ensures finds { FindsContent header.AccName (S.left source.old) (S.left source.new) result }
+    ensures err { IfErr result IsRefusal }
+{
+    let name = take_word(alloc, source)?;
+    let parameters = read_each::<NameParameter, S>(alloc, source)?;
+    Ok(RawItem::AccName(AccName { name, parameters }))
+}
+
+/// One or two strings behind `tool:`.
+pub(crate) fn tool<'a, S: TokenSource<'a, HoaKind>>(
+    alloc: Global,
+    source: &mut S,
+) -> Result<RawItem, Refusal>
+    ensures gives { GivesContent header.Tool (S.left source.old) (S.left source.new) result }
+    ensures finds { FindsContent header.Tool (S.left source.old) (S.left source.new) result }
+    ensures err { IfErr result IsRefusal }
+{
+    let first = take_string(alloc, source)?;
+    let second = read_if::<Quoted, S>(alloc, source)?;
+    Ok(RawItem::Tool { first, second })
+}
+
+/// The string behind `name:`.
+pub(crate) fn title<'a, S: TokenSource<'a, HoaKind>>(
+    alloc: Global,
+    source: &mut S,
+) -> Result<RawItem, Refusal>
+    ensures gives { GivesContent header.Name (S.left source.old) (S.left source.new) result }
+    ensures finds { FindsContent header.Name (S.left source.old) (S.left source.new) result }
+    ensures err { IfErr result IsRefusal }
+{
+    Ok(RawItem::Name(take_string(alloc, source)?))
+}
+
+/// The identifiers behind `properties:`.
+pub(crate) fn properties<'a, S: TokenSource<'a, HoaKind>>(
+    alloc: Global,
+    source: &mut S,
+) -> Result<RawItem, Refusal>
+    ensures gives { GivesContent header.Properties (S.left source.old) (S.left source.new) result }
+    ensures finds { FindsContent header.Properties (S.left source.old) (S.left source.new) result }
+    ensures err { IfErr result IsRefusal }
+{
+    let words = read_each::<Word, S>(alloc, source)?;
+    Ok(RawItem::Properties(words))
+}

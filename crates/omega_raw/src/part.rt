@@ -1,0 +1,88 @@
+ghost use Rattle.std.specs.Prelude.{◌≡◌, All, IfErr, IfSome, MatchBool, true, false};
+ghost use Rattle.std.specs.List.{AllByRecursion};
+ghost use Rattle.omega_raw.specs.Grammar.{each, optional};
+ghost use Rattle.omega_raw.specs.Reading.{EndsList, Finds, FirstIs, Gives, IsRefusal, NextIs, NextMayBe};
+
+use omega_text::{HoaKind, Refusal, Seq, TokenSource};
+use std::alloc::Global;
+
+/// A part of a text, which is known by the kind of its first token.
+pub(crate) trait Part<'a, S: TokenSource<'a, HoaKind>> {
+    ghost use Rattle.std.specs.Prelude.{Bool, List};
+    ghost use Rattle.omega_raw.specs.Symbols.{Symbol};
+    ghost use Rattle.omega_text.specs.declared.hoa.kind.HoaKind.{HoaKind as Kind};
+
+    /// What is read.
+    type Value: Drop;
+
+    /// It can be written.
+    ghost valid: { Self.Value → Type 0 };
+
+    /// How it is written, and then others.
+    ghost written: { Self.Value → List Symbol → List Symbol };
+
+    /// The kinds by which it begins.
+    ghost first: { Kind → Bool };
+
+    /// The kinds that may follow it.
+    ghost next: { Kind → Type 0 };
+
+    /// Whether it begins by this kind.
+    fn begins(kind: HoaKind) -> bool
+        ensures { result ≡ first kind };
+
+    /// Reads it, where 3 is answered if it does not stand there.
+    fn read(alloc: Global, source: &mut S) -> Result<Self::Value, Refusal>
+        ensures gives { Gives valid written (S.left source.old) (S.left source.new) result }
+        ensures finds { Finds valid written (FirstIs next) (S.left source.old) (S.left source.new) result }
+        ensures err { IfErr result IsRefusal };
+
+    /// It begins so.
+    ghost begun: { (it : Self.Value) (others : List Symbol) → valid it → FirstIs (λ kind. first kind ≡ true) (written it others) };
+
+    /// One may follow another.
+    ghost follows: { (kind : Kind) → first kind ≡ true → next kind };
+}
+
+/// Whether the next token begins a part.
+fn is_next<'a, P: Part<'a, S>, S: TokenSource<'a, HoaKind>>(source: &S) -> bool
+    ensures { MatchBool result (NextIs (λ kind. P.first kind ≡ true) (S.left source.now)) (NextMayBe (λ kind. P.first kind ≡ false) (S.left source.now)) }
+{
+    match source.look() {
+        Some(token) => P::begins(token.kind),
+        None => false,
+    }
+}
+
+/// Reads a part if it stands there.
+pub(crate) fn read_if<'a, P: Part<'a, S>, S: TokenSource<'a, HoaKind>>(
+    alloc: Global,
+    source: &mut S,
+) -> Result<Option<P::Value>, Refusal>
+    ensures gives { Gives (λ it. IfSome it P.valid) (optional P.written) (S.left source.old) (S.left source.new) result }
+    ensures finds { Finds (λ it. IfSome it P.valid) (optional P.written) (FirstIs (EndsList P.first P.next)) (S.left source.old) (S.left source.new) result }
+    ensures err { IfErr result IsRefusal }
+{
+    if !is_next::<P, S>(source) {
+        return Ok(None);
+    }
+    let value = P::read(alloc, source)?;
+    Ok(Some(value))
+}
+
+/// Reads as many parts as stand there.
+pub(crate) fn read_each<'a, P: Part<'a, S>, S: TokenSource<'a, HoaKind>>(
+    alloc: Global,
+    source: &mut S,
+) -> Result<Seq<P::Value>, Refusal>
+    ensures gives { Gives (AllByRecursion P.valid) (each P.written) (S.left source.old) (S.left source.new) result }
+    ensures finds { Finds (AllByRecursion P.valid) (each P.written) (FirstIs (EndsList P.first P.next)) (S.left source.old) (S.left source.new) result }
+    ensures err { IfErr result IsRefusal }
+{
+    let mut values = Vec::new(alloc);
+    while is_next::<P, S>(source) {
+        let value = P::read(alloc, source)?;
+        values.push(value)?;
+    }
+    Ok(Seq::from_vec(values))
+}

@@ -1,0 +1,38 @@
+//! Automata read from tokens.
+
+ghost use Rattle.std.specs.Prelude.{IfErr, IfOk};
+ghost use Rattle.omega_raw.specs.Grammar.{ReadsAutomaton, ReadsNone};
+ghost use Rattle.omega_acc.specs.Symbols.{IsUnread};
+
+use crate::body::State;
+use crate::header::Item;
+use crate::part::read_each;
+use crate::raw_automaton::RawAutomaton;
+use crate::taking::{take_header, take_sign, take_word};
+use omega_text::{HoaKind, Refusal, TokenSource};
+use std::alloc::Global;
+
+/// Reads the automaton that the tokens begin with, from `HOA:` to `--END--`, as it is written (HOA v1). Tokens behind it are
+/// left.
+///
+/// Refusal 3 where there is none, at the first token with which no automaton goes on, else at the length of the text. One
+/// pass, linear time, and nothing recurs.
+pub fn read_raw<'a, S: TokenSource<'a, HoaKind>>(
+    alloc: Global,
+    source: &mut S,
+) -> Result<RawAutomaton, Refusal>
+    ensures ok { IfOk result (λ raw. ReadsAutomaton (S.left source.old) raw (S.left source.new)) }
+    ensures err { IfErr result (IsUnread (ReadsNone (S.left source.old))) }
+{
+    take_header(source, b"HOA")?;
+    let version = take_word(alloc, source)?;
+    let items = read_each::<Item, S>(alloc, source)?;
+    take_sign(source, HoaKind::Body)?;
+    let states = read_each::<State, S>(alloc, source)?;
+    take_sign(source, HoaKind::End)?;
+    Ok(RawAutomaton {
+        version,
+        items,
+        states,
+    })
+}

@@ -1,0 +1,135 @@
+//! Single tokens of a source.
+
+ghost use Rattle.std.specs.Prelude.{◌≡◌, ◌∷◌, List, IfErr, IfNone, IfOk, IfSome, OnOk};
+ghost use Rattle.omega_acc.specs.Depth.{IsMemory};
+ghost use Rattle.omega_acc.specs.Symbols.{IsUnread};
+ghost use Rattle.omega_raw.specs.Grammar.{int_row, string_row, word_row};
+ghost use Rattle.omega_raw.specs.Reading.{Anything, Finds, FoundThere, Gives, IsAny, IsRefusal, NextIsNot};
+ghost use Rattle.omega_raw.specs.Symbols.{Spells, Symbol, Tokens, between_quotes, header, sign, without_last};
+ghost use Rattle.omega_text.specs.Lexeme.{lexeme_of};
+
+use omega_text::{HoaKind, Refusal, Seq, TextFault, Token, TokenSource};
+use std::alloc::Global;
+
+/// The next token, which is taken, if it is of a kind.
+pub(crate) fn take_if<'a, S: TokenSource<'a, HoaKind>>(
+    source: &mut S,
+    kind: HoaKind,
+) -> Option<Token<'a, HoaKind>>
+    ensures some { IfSome result (λ token. (S.left source.old ≡ lexeme_of token ∷ S.left source.new) × (token.kind ≡ kind)) }
+    ensures none { IfNone result ((S.left source.new ≡ S.left source.old) × NextIsNot kind (S.left source.old)) }
+{
+    let token = source.look()?;
+    if token.kind != kind {
+        return None;
+    }
+    source.take()
+}
+
+/// The next token, which is taken and must be of a kind, else 3 at its place.
+pub(crate) fn take_kind<'a, S: TokenSource<'a, HoaKind>>(
+    source: &mut S,
+    kind: HoaKind,
+) -> Result<Token<'a, HoaKind>, Refusal>
+    ensures ok { IfOk result (λ token. (S.left source.old ≡ lexeme_of token ∷ S.left source.new) × (token.kind ≡ kind)) }
+    ensures err { IfErr result (IsUnread (NextIsNot kind (S.left source.old))) }
+{
+    let at = source.place();
+    match take_if(source, kind) {
+        Some(token) => Ok(token),
+        None => Err(Refusal::Text(TextFault::Syntax { at })),
+    }
+}
+
+/// A copy of bytes.
+pub(crate) fn copied(alloc: Global, bytes: &[u8]) -> Result<Seq<u8>, Refusal>
+    ensures ok { IfOk result (λ copy. copy ≡ bytes.now) }
+    ensures err { IfErr result IsMemory }
+{
+    let mut copy = Vec::new(alloc);
+    copy.extend_from_slice(bytes)?;
+    Ok(Seq::from_vec(copy))
+}
+
+/// A copy of the bytes of a string between its quotes.
+pub(crate) fn string_of(alloc: Global, quoted: &[u8]) -> Result<Seq<u8>, Refusal>
+    ensures ok { IfOk result (λ copy. copy ≡ between_quotes quoted.now) }
+    ensures err { IfErr result IsMemory }
+{
+    if quoted.len() < 2 {
+        return Ok(Seq::new(alloc));
+    }
+    copied(alloc, &quoted[1..quoted.len() - 1])
+}
+
+/// The bytes of a header name before its colon.
+pub(crate) fn without_colon(name: &[u8]) -> &[u8]
+    ensures { result.now ≡ without_last name.now }
+{
+    &name[..name.len().saturating_sub(1)]
+}
+
+/// Takes the next token, which must be of a kind, else 3 at its place.
+pub(crate) fn take_sign<'a, S: TokenSource<'a, HoaKind>>(
+    source: &mut S,
+    kind: HoaKind,
+) -> Result<(), Refusal>
+    ensures gives { OnOk result ((others : List Symbol) (rest : Tokens) → Spells (S.left source.new) others rest → Spells (S.left source.old) (sign kind ∷ others) rest) }
+    ensures finds { (others : List Symbol) (rest : Tokens) → Spells (S.left source.old) (sign kind ∷ others) rest → FoundThere result (Spells (S.left source.new) others rest) }
+    ensures err { IfErr result IsRefusal }
+{
+    take_kind(source, kind)?;
+    Ok(())
+}
+
+/// Takes a header, which must have this name, else 3 at its place.
+pub(crate) fn take_header<'a, S: TokenSource<'a, HoaKind>>(
+    source: &mut S,
+    name: &[u8],
+) -> Result<(), Refusal>
+    ensures gives { OnOk result ((others : List Symbol) (rest : Tokens) → Spells (S.left source.new) others rest → Spells (S.left source.old) (header name.now ∷ others) rest) }
+    ensures finds { (others : List Symbol) (rest : Tokens) → Spells (S.left source.old) (header name.now ∷ others) rest → FoundThere result (Spells (S.left source.new) others rest) }
+    ensures err { IfErr result IsRefusal }
+{
+    let at = source.place();
+    let token = take_kind(source, HoaKind::HeaderName)?;
+    if without_colon(token.text) != name {
+        return Err(Refusal::Text(TextFault::Syntax { at }));
+    }
+    Ok(())
+}
+
+/// Takes an INT.
+pub(crate) fn take_int<'a, S: TokenSource<'a, HoaKind>>(source: &mut S) -> Result<u32, Refusal>
+    ensures gives { Gives IsAny int_row (S.left source.old) (S.left source.new) result }
+    ensures finds { Finds IsAny int_row Anything (S.left source.old) (S.left source.new) result }
+    ensures err { IfErr result IsRefusal }
+{
+    Ok(take_kind(source, HoaKind::Int)?.value)
+}
+
+/// Takes an IDENTIFIER.
+pub(crate) fn take_word<'a, S: TokenSource<'a, HoaKind>>(
+    alloc: Global,
+    source: &mut S,
+) -> Result<Seq<u8>, Refusal>
+    ensures gives { Gives IsAny word_row (S.left source.old) (S.left source.new) result }
+    ensures finds { Finds IsAny word_row Anything (S.left source.old) (S.left source.new) result }
+    ensures err { IfErr result IsRefusal }
+{
+    let token = take_kind(source, HoaKind::Identifier)?;
+    copied(alloc, token.text)
+}
+
+/// Takes a STRING.
+pub(crate) fn take_string<'a, S: TokenSource<'a, HoaKind>>(
+    alloc: Global,
+    source: &mut S,
+) -> Result<Seq<u8>, Refusal>
+    ensures gives { Gives IsAny string_row (S.left source.old) (S.left source.new) result }
+    ensures finds { Finds IsAny string_row Anything (S.left source.old) (S.left source.new) result }
+    ensures err { IfErr result IsRefusal }
+{
+    let token = take_kind(source, HoaKind::String)?;
+    string_of(alloc, token.text)
+}
