@@ -1,3 +1,4 @@
+pub mod AliasNames
 pub mod FaultLemmas
 pub mod Greatest
 pub mod MarkLemmas

@@ -1,5 +1,5 @@
 -- An automaton that is written means at most one automaton.
-use Rattle.std.proofs.Common.{◌≡◌, ◌↔◌, ℕ, List, [], ◌∷◌, Option, Some, None, refl, ap, sym, ◌∙◌}
+use Rattle.std.proofs.Common.{◌≡◌, ℕ, List, [], ◌∷◌, Option, Some, None, refl, ap, sym, ◌∙◌}
 use Rattle.std.specs.List.{AllZip}
 use Rattle.omega_acc.specs.Acceptance.{AccTree}
 use Rattle.omega_acc.specs.Expanding.{Defined}

@@ -1,6 +1,6 @@
 -- When each meaning fault of an automaton text applies, each by itself, and which one the text has (docs/formats.md,
 -- meaning of an automaton text).
-use Rattle.std.specs.Prelude.{ℕ, zero, suc, ◌+◌, ◌^◌, Bool, true, false, not, ◌&&◌, ◌||◌, ◌==◌, nat_lt, nat_le, nat_eq, if◌then◌else◌, List, [], ◌∷◌, length, map, sum_by, count_by, find, max, min, Option, Some, None, is_some, is_none, option_map, option_and_then, unwrap_or, codes}
+use Rattle.std.specs.Prelude.{ℕ, ◌+◌, ◌^◌, Bool, false, not, ◌&&◌, ◌||◌, ◌==◌, nat_lt, nat_le, nat_eq, List, [], ◌∷◌, length, map, sum_by, count_by, find, max, min, Option, Some, None, is_some, is_none, option_map, option_and_then, unwrap_or, codes}
 use Rattle.std.specs.List.{filter_map, list_all, list_any}
 use Rattle.std.specs.Str.{bytes_eq}
 use Rattle.omega_text.specs.Limits.{most_number}

@@ -1,6 +1,6 @@
 -- What the items of a header say, as they are written (HOA v1, header).
-use Rattle.std.specs.Prelude.{ℕ, List, [], ◌∷◌, Option, Some, None, slice_get, map}
-use Rattle.std.specs.List.{filter_map, flat_map}
+use Rattle.std.specs.Prelude.{ℕ, List, [], Option, Some, None, slice_get}
+use Rattle.std.specs.List.{filter_map}
 use Rattle.omega_acc.specs.Expanding.{Defined}
 use Rattle.omega_acc.specs.RawAcc.{RawAccTree}
 use Rattle.omega_acc.specs.declared.acc_name.AccName.{AccName}

@@ -3,3 +3,4 @@ pub mod Automaton
 pub mod Trials
 pub mod Gathered
 pub mod Order
+pub mod Definitions

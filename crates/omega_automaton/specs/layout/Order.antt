@@ -1,5 +1,5 @@
 -- The faults in the order in which they are asked for: those before aliases, and those between aliases and deep expressions.
-use Rattle.std.specs.Prelude.{List, [], ◌∷◌, Option, find}
+use Rattle.std.specs.Prelude.{[], ◌∷◌, Option, find}
 use Rattle.omega_text.specs.declared.refusal.automaton.AutomatonFault.{AutomatonFault}
 use Rattle.omega_text.specs.declared.refusal.automaton.AutomatonFault.TheVariants.{AcceptanceAtom, ImplicitCount, MissingAcceptance, MixedLabels, Proposition, RepeatedHeader, SetRange, StateRange, StateTwice, UnknownHeader, Version}
 use Rattle.omega_raw.specs.declared.raw_automaton.RawAutomaton.{RawAutomaton}

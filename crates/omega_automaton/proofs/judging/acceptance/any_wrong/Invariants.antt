@@ -1,3 +1,4 @@
+-- What holds in the loop of `any_wrong`: no acceptance so far has a wrong atom.
 use Rattle.std.proofs.Common.{◌≡◌, false, is_none, take}
 use Rattle.std.specs.List.{list_any}
 use Rattle.omega_acc.specs.AccMeaning.{acc_meant}

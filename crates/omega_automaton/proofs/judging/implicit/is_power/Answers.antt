@@ -1,3 +1,4 @@
+-- `is_power`: an exponent of 64 or more is over the machine's numbers.
 use Rattle.std.proofs.Common.{arith}
 use Rattle.std.proofs.lemmas.Bool.Decides.{nat_tests}
 use Rattle.omega_automaton.proofs.Powers.{no_power}

@@ -1,3 +1,4 @@
+-- What holds in the loop of `any_misnamed`: no item so far names propositions wrongly.
 use Rattle.std.proofs.Common.{◌≡◌, false, take}
 use Rattle.std.specs.List.{list_any}
 use Rattle.omega_raw.specs.declared.raw_item.RawItem.{RawItem}

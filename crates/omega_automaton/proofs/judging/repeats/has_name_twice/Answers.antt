@@ -1,5 +1,5 @@
-use Rattle.std.proofs.Common.{◌≡◌, ◌<◌, ℕ, List, [], true, false, Bor, map, length, get_or, ap, sym, ◌∙◌, arith, rules}
-use Rattle.std.proofs.lemmas.List.{get_or_read}
+-- `has_name_twice`: a name that is seen already stands twice.
+use Rattle.std.proofs.Common.{◌≡◌, ℕ, List, true, false, Bor, ◌∙◌, rules}
 use Rattle.std.specs.Str.{bytes_eq}
 use Rattle.omega_automaton.proofs.Repeats.{seen_once, seen_twice}
 use Rattle.omega_automaton.proofs.judging.repeats.has_name_twice.Goals as goal

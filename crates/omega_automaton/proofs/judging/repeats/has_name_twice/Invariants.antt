@@ -1,3 +1,4 @@
+-- What holds in the loop of `has_name_twice`: the names so far are seen, and no two are alike.
 use Rattle.std.proofs.Common.{◌≡◌, List, ℕ, false, map, take, Bor}
 use Rattle.std.specs.Str.{bytes_eq}
 use Rattle.omega_automaton.specs.Automaton.{has_repeat}

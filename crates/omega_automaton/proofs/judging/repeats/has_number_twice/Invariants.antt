@@ -1,3 +1,4 @@
+-- What holds in the loop of `has_number_twice`: the numbers so far are seen, and no two are alike.
 use Rattle.std.proofs.Common.{◌≡◌, ℕ, false, nat_eq, map, take}
 use Rattle.omega_raw.specs.declared.raw_state.RawState.{RawState}
 use Rattle.omega_automaton.specs.Automaton.{has_repeat}

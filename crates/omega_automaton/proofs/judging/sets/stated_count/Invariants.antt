@@ -1,3 +1,4 @@
+-- What holds in the loop of `stated_count`: no item so far is an `Acceptance:`.
 use Rattle.std.proofs.Common.{◌≡◌, drop}
 use Rattle.omega_automaton.specs.Items.{first_said, acceptance_in}
 use Rattle.omega_automaton.proofs.judging.sets.stated_count.Given as goal

@@ -1,3 +1,4 @@
+-- `bound_of`: one more number.
 use Rattle.std.proofs.Common.{ℕ, ◌+◌, arith}
 use Rattle.omega_automaton.proofs.Greatest.{greatest_more}
 use Rattle.omega_automaton.proofs.judging.states.bound_of.Goals as goal

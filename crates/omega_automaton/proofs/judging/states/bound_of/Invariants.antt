@@ -1,5 +1,6 @@
-use Rattle.std.proofs.Common.{◌≡◌, ℕ, ◌+◌, ◌^◌, ◌≤◌, take}
-use Rattle.omega_automaton.specs.Faults.{bound_of, greatest_of, item_bound, state_bound}
+-- What holds in the loop of `bound_of`: the bound is that of the numbers so far.
+use Rattle.std.proofs.Common.{◌≡◌, ◌+◌, ◌^◌, ◌≤◌, take}
+use Rattle.omega_automaton.specs.Faults.{greatest_of}
 use Rattle.omega_automaton.proofs.judging.states.bound_of.Given as goal
 
 abbrev pub invariant-loop-number : goal.invariant-loop-number

@@ -1,5 +1,6 @@
+-- `edges_bound`: one more edge.
 use Rattle.std.proofs.Common.{ap, ◌∙◌, arith}
-use Rattle.omega_automaton.specs.Faults.{bound_of, item_bound, state_bound}
+use Rattle.omega_automaton.specs.Faults.{bound_of}
 use Rattle.omega_automaton.proofs.Greatest.{greatest_step}
 use Rattle.omega_automaton.proofs.judging.states.edges_bound.Goals as goal
 

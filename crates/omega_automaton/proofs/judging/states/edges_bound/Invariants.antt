@@ -1,5 +1,6 @@
-use Rattle.std.proofs.Common.{◌≡◌, ℕ, ◌+◌, ◌^◌, ◌≤◌, take}
-use Rattle.omega_automaton.specs.Faults.{bound_of, greatest_of, item_bound, state_bound}
+-- What holds in the loop of `edges_bound`: the bound is that of the edges so far.
+use Rattle.std.proofs.Common.{◌≡◌, ◌^◌, ◌≤◌, take}
+use Rattle.omega_automaton.specs.Faults.{bound_of, greatest_of}
 use Rattle.omega_automaton.proofs.judging.states.edges_bound.Given as goal
 
 abbrev pub invariant-loop-edge : goal.invariant-loop-edge

@@ -1,5 +1,6 @@
-use Rattle.std.proofs.Common.{ap, ◌∙◌, arith}
-use Rattle.omega_automaton.specs.Faults.{bound_of, item_bound, state_bound}
+-- `items_bound`: one more item.
+use Rattle.std.proofs.Common.{arith}
+use Rattle.omega_automaton.specs.Faults.{item_bound}
 use Rattle.omega_automaton.proofs.Greatest.{greatest_step}
 use Rattle.omega_automaton.proofs.judging.states.items_bound.Goals as goal
 

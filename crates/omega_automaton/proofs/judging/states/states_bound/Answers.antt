@@ -1,5 +1,6 @@
-use Rattle.std.proofs.Common.{ap, ◌∙◌, arith}
-use Rattle.omega_automaton.specs.Faults.{bound_of, item_bound, state_bound}
+-- `states_bound`: one more state.
+use Rattle.std.proofs.Common.{arith}
+use Rattle.omega_automaton.specs.Faults.{state_bound}
 use Rattle.omega_automaton.proofs.Greatest.{greatest_step}
 use Rattle.omega_automaton.proofs.judging.states.states_bound.Goals as goal
 

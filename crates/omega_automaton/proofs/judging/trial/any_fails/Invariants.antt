@@ -1,8 +1,8 @@
+-- What holds in the loop of `any_fails`: no state so far fails.
 use Rattle.std.proofs.Common.{◌≡◌, false, take}
 use Rattle.std.specs.List.{list_any}
 use Rattle.omega_acc.specs.Expanding.{expansion}
-use Rattle.omega_raw.specs.declared.raw_edge.RawEdge.{RawEdge}
-use Rattle.omega_automaton.specs.Faults.{is_labelled, passes}
+use Rattle.omega_automaton.specs.Faults.{is_labelled}
 use Rattle.omega_automaton.specs.layout.Trials.{fails}
 use Rattle.omega_automaton.proofs.judging.trial.any_fails.Given as goal
 

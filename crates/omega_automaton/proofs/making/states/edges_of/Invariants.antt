@@ -1,3 +1,4 @@
+-- What holds in the loop of `edges_of`: the edges so far are made.
 use Rattle.std.specs.List.{AllZip}
 use Rattle.omega_automaton.specs.Meaning.{IsEdgeOf}
 use Rattle.omega_automaton.proofs.making.states.edges_of.Given as goal

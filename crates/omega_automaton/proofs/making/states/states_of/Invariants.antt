@@ -1,3 +1,4 @@
+-- What holds in the loop of `states_of`: the states so far are made.
 use Rattle.std.specs.List.{AllZip}
 use Rattle.omega_automaton.specs.Meaning.{IsStateOf}
 use Rattle.omega_automaton.proofs.making.states.states_of.Given as goal

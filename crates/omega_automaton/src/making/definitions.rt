@@ -1,0 +1,51 @@
+ghost use Rattle.std.specs.Prelude.{◌≡◌, [], false, IfErr, OnOk};
+ghost use Rattle.omega_automaton.specs.layout.Definitions.{HasDefined, IsUndefinable};
+
+use crate::judging::{Trial, fails};
+use omega_acc::{Aliases, RawLabel};
+use omega_text::{AutomatonFault, Refusal, Seq};
+use std::alloc::Global;
+
+/// The aliases of a header so far, and whether the definition of one of them is too deep, or too large and not too deep.
+#[derive(Drop)]
+pub(crate) struct Definitions {
+    pub aliases: Aliases,
+    pub deep: bool,
+    pub large: bool,
+}
+
+impl Definitions {
+    /// No aliases, which takes no memory.
+    pub(crate) fn new(alloc: Global) -> Definitions
+        ensures aliases { result.aliases ≡ [] }
+        ensures deep { result.deep ≡ false }
+        ensures large { result.large ≡ false }
+    {
+        Definitions {
+            aliases: Aliases::new(alloc),
+            deep: false,
+            large: false,
+        }
+    }
+}
+
+/// Puts an alias last. Refusal 27 where its name is there already or its definition reaches an undefined alias.
+pub(crate) fn define(
+    alloc: Global,
+    definitions: &mut Definitions,
+    name: &[u8],
+    body: RawLabel,
+) -> Result<(), Refusal>
+    ensures ok { OnOk result (HasDefined definitions.old name.now body definitions.new) }
+    ensures err { IfErr result (IsUndefinable definitions.old name.now body) }
+{
+    if fails(alloc, Trial::Undefined, &body, &definitions.aliases)? {
+        return Err(Refusal::Automaton(AutomatonFault::Alias));
+    }
+    let deep = fails(alloc, Trial::Deep, &body, &definitions.aliases)?;
+    let large = fails(alloc, Trial::Large, &body, &definitions.aliases)?;
+    definitions.aliases.add(name, body)?;
+    definitions.deep = definitions.deep || deep;
+    definitions.large = definitions.large || large;
+    Ok(())
+}
