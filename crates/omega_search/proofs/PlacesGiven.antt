@@ -1,5 +1,5 @@
 -- Lists of the places given to a player, one more place looked at in each step.
-use Rattle.std.proofs.Common.{◌≡◌, ℕ, ◌+◌, ◌<◌, ◌++◌, ◌∷◌, [], All, List, Contains, length, below_more, refl, arith}
+use Rattle.std.proofs.Common.{◌≡◌, ℕ, ◌+◌, ◌<◌, ◌++◌, ◌∷◌, [], All, List, Contains, below_more, refl, arith}
 use Rattle.std.proofs.lemmas.List.Elements.{All-append, All-cons, All-nil, Contains-append_left, Contains-append_right}
 use Rattle.omega_game.specs.declared.player.Player.{Player}
 use Rattle.omega_search.specs.judging.Judging.{HasPlaces, given_to}

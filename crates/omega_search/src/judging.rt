@@ -1,8 +1,7 @@
 //! Whether what a search suggests is right. Each player's choices are judged by the checker of strategies; since no node
 //! is in the regions of both players, winners that are accepted are exact.
-ghost use Rattle.std.specs.Prelude.{◌≡◌, ◌↔◌, ℕ, ◌<◌, ◌^◌, vec_len, length, All, Contains, IfOk, IfSome, IsOkUnless, IsSome, IsTrue};
-ghost use Rattle.omega_game.specs.Game.{owner_at};
-ghost use Rattle.omega_game.specs.Winning.{IsStrategy, Wins, choice_at};
+ghost use Rattle.std.specs.Prelude.{◌≡◌, ◌↔◌, ◌<◌, ◌^◌, length, All, IfOk, IfSome, IsOkUnless, IsTrue};
+ghost use Rattle.omega_game.specs.Winning.{IsStrategy};
 ghost use Rattle.omega_search.specs.Regions.{AreRegions};
 ghost use Rattle.omega_search.specs.judging.Judging.{ChoosesWhereWon, HasPlaces, IsAccepted, WinsGiven};
 

@@ -41,3 +41,30 @@ fn solve_with(alloc: Global, game: &Game, fuel: u64) -> Result<Option<Regions>, 
         Some(suggestion) => judged(alloc, game, suggestion),
     }
 }
+
+#[cfg(test)]
+mod tests {
+    use super::*;
+    use omega_game::{GameBuilder, Player};
+    use std::test::Fail;
+
+    /// One node that leads to itself.
+    fn one_node(alloc: Global) -> Result<Game, Refusal> {
+        let mut builder = GameBuilder::new(alloc);
+        builder.add_node(0, 0, Player::Zero, 0)?;
+        if builder.len() == 0 {
+            return Err(Refusal::Io);
+        }
+        builder.finish()
+    }
+
+    #[test]
+    fn the_search_gives_up_without_fuel(rt: HostRuntime) -> Result<(), Fail> {
+        let game = one_node(rt.alloc())?;
+        let found = solve_with(rt.alloc(), &game, 0)?;
+        assert!(rt; found.is_none());
+        let found = solve_with(rt.alloc(), &game, 64)?;
+        assert!(rt; found.is_some());
+        Ok(())
+    }
+}

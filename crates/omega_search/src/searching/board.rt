@@ -1,6 +1,4 @@
 //! Which places are in play, and the attractors: the places from which a player forces a visit.
-ghost use Rattle.std.specs.Prelude.{◌<◌};
-
 use crate::searching::numbers::{NONE, Numbers, number_of};
 use omega_game::{Game, Player};
 use std::alloc::{AllocError, Global};
@@ -75,6 +73,12 @@ impl Board {
     #[inline(always)]
     pub(crate) fn is_in(&self, place: u32, depth: u32) -> bool {
         self.depth.at(place) >= depth
+    }
+
+    /// Whether a place is in play.
+    #[inline(always)]
+    pub(crate) fn is_in_play(&self, place: u32) -> bool {
+        self.depth.at(place) == NONE
     }
 
     /// Notes the depth of a place.

@@ -1,5 +1,5 @@
 -- `places_of`: a place that is looked at is listed, or is not given to the player.
-use Rattle.std.proofs.Common.{rules, ◌≡◌, ℕ, ◌+◌, ◌<◌, ◌++◌, ◌∷◌, [], All, List, length, sym, subst, ap, ◌∙◌}
+use Rattle.std.proofs.Common.{rules, ◌≡◌, ℕ, ◌+◌, ◌<◌, ◌++◌, ◌∷◌, [], All, List, length, sym, subst, ◌∙◌}
 use Rattle.std.proofs.lemmas.Bool.{false≢true}
 use Rattle.omega_search.specs.judging.Judging.{HasPlaces}
 use Rattle.omega_search.proofs.PlacesGiven.{All-listed, HasPlaces-listed, HasPlaces-passed}
