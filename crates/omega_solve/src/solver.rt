@@ -81,7 +81,9 @@ impl<'g, T: MeasureTable, S: Schedule> Solver<'g, T, S> {
         })
     }
 
-    /// Makes lifts until none is due, at most the budget. A later run goes on from there; one that is done stays so.
+    /// Makes lifts until none is due, at most the budget. A later run goes on from there; one that is done stays so. A run
+    /// that ends while a place is lifted again and again wakes its predecessors early, so that with `Nested` the lifts that
+    /// are needed may depend on how the budget is dealt out.
     pub fn run(&mut self, budget: u64) -> Outcome
         requires { self.old.lifts + budget ≤ most_lifts }
         ensures ran { Runs self.old budget self.new }

@@ -1,2 +1,3 @@
+mod families;
 mod schedules;
 mod solving;

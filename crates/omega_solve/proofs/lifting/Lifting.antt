@@ -12,7 +12,7 @@ use Rattle.omega_game.specs.declared.player.Player.TheVariants.{One, Zero}
 use Rattle.omega_game.specs.Game.{Node, HasEdge, owner_at, predecessors_of, priorities, priority_at, successors_at}
 use Rattle.omega_lift.specs.Measure.{Measure, IsAbove}
 use Rattle.omega_lift.specs.Allowance.{IsAllowance, IsAllowanceOf, IsLiftValue, measure_at}
-use Rattle.omega_lift.specs.Run.{IsDue, IsRun, IsTable, Lifts, zero_table}
+use Rattle.omega_lift.specs.Run.{IsDue, IsRun, IsTable, Lifts}
 use Rattle.omega_lift.specs.Laws.{AllowancesAreUnique, RunsKeepTables}
 use Rattle.omega_measure.specs.Table.{Content, Exceeds, Raises, with_measure}
 use Rattle.omega_solve.specs.Limits.{most_lifts}

@@ -1,5 +1,5 @@
 -- Lifts of one place in a row.
-use Rattle.std.proofs.Common.{inl, inr, ◌≡◌, ℕ, ◌+◌, ◌<◌, List, length, arith, refl, ap, ◌∙◌, replicate, subst}
+use Rattle.std.proofs.Common.{inl, inr, ◌≡◌, ℕ, ◌+◌, List, arith, refl, ap, ◌∙◌, replicate, subst}
 use Rattle.std.proofs.lemmas.Bool.{cases_lt}
 use Rattle.std.proofs.lemmas.List.{replicate-append-replicate}
 use Rattle.omega_game.specs.declared.player.Player.{Player}

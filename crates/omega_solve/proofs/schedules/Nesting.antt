@@ -1,5 +1,5 @@
 -- What a nested schedule keeps, at its start and after takes and adds: the flags of places follow the bits of their ranks.
-use Rattle.std.proofs.Common.{inl, inr, ◌≡◌, ◌≢◌, ℕ, ◌+◌, ◌-◌, ◌*◌, ◌/◌, ◌%◌, ◌<◌, ◌≤◌, ◌^◌, zero, suc, Bool, true, false, List, [], ◌∷◌, Option, Some, None, length, arith, refl, sym, ap, ◌∙◌, get_or, map, set, replicate, slice_index, subst}
+use Rattle.std.proofs.Common.{◌≡◌, ◌≢◌, ℕ, ◌+◌, ◌-◌, ◌/◌, ◌%◌, ◌<◌, ◌^◌, zero, suc, Bool, true, false, List, [], ◌∷◌, Option, Some, None, length, arith, refl, sym, ap, ◌∙◌, get_or, map, set, replicate, slice_index, subst}
 use Rattle.std.specs.List.{range_with_len, slice_get}
 use Rattle.std.specs.Int.{bit_at}
 use Rattle.std.specs.Option.{MatchOption}
@@ -7,8 +7,8 @@ use Rattle.std.proofs.lemmas.List.{get_or-map, get_or-replicate, length-map, len
 use Rattle.std.proofs.lemmas.List.FromFn.{get_or-range_with_len, length-range_with_len}
 use Rattle.std.proofs.lemmas.Nat.Bits.{bit_at_ones}
 use Rattle.std.proofs.lemmas.Option.{slice_get-get_or, slice_get_within}
-use Rattle.omega_solve.specs.Schedule.{IsIdle, IsPending, Pending, all_pending}
-use Rattle.omega_solve.specs.schedules.Nested.{AreInverse, HasBits, IsEmpty, IsNested, IsSomeRank, LeadsBack, flags_of, is_set}
+use Rattle.omega_solve.specs.Schedule.{IsIdle, IsPending}
+use Rattle.omega_solve.specs.schedules.Nested.{AreInverse, IsEmpty, IsNested, IsSomeRank, LeadsBack, flags_of, is_set}
 
 -- functions that agree on a list's elements map it to the same list
 map_same : (f g : ℕ → Bool) (xs : List ℕ) → ((k : ℕ) → k < length xs → f (get_or xs k 0) ≡ g (get_or xs k 0)) → map f xs ≡ map g xs

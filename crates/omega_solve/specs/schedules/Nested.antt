@@ -1,5 +1,5 @@
 -- Places and their ranks, ranks in words of bits, and what a nested schedule keeps.
-use Rattle.std.specs.Prelude.{◌≡◌, ◌==◌, ℕ, ◌+◌, ◌*◌, ◌/◌, ◌%◌, ◌<◌, ◌≤◌, ◌^◌, Bool, true, false, List, length, map, slice_index}
+use Rattle.std.specs.Prelude.{◌≡◌, ◌==◌, ℕ, ◌*◌, ◌/◌, ◌%◌, ◌<◌, ◌≤◌, ◌^◌, Bool, true, false, List, length, map, slice_index}
 use Rattle.std.specs.Int.{bit_at}
 
 -- the number that a list has at an index is an index of another, where that one has the index

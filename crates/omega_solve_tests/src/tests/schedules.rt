@@ -1,7 +1,7 @@
 ghost use Rattle.std.specs.Prelude.{◌≡◌, length};
 ghost use Rattle.omega_solve.specs.Schedule.{all_pending};
 
-use omega_solve::{Schedule, Sweep, Worklist};
+use omega_solve::{Nested, Schedule, Sweep, Worklist};
 use std::process::Abort;
 use std::test::Fail;
 
@@ -33,12 +33,12 @@ fn follow<S: Schedule, R: Abort>(rt: &R, schedule: &mut S, places: u32, steps: &
 }
 
 /// Takes out a place that is not the one to look at, and then the others in turn.
-fn take_behind<S: Schedule, R: Abort>(rt: &R, schedule: &mut S)
+fn take_behind<S: Schedule, R: Abort>(rt: &R, schedule: &mut S, others: &[u8])
     requires { S.waiting schedule.old ≡ all_pending 4 }
 {
     schedule.take(2);
     assert_eq!(rt; schedule.takes(), 1);
-    follow(rt, schedule, 4, b"013");
+    follow(rt, schedule, 4, others);
     assert_eq!(rt; schedule.takes(), 4);
 }
 
@@ -70,11 +70,24 @@ fn a_worklist_is_first_in_first_out(rt: HostRuntime) -> Result<(), Fail> {
     Ok(())
 }
 
+/// A sweep, in which an added place waits, costs four takes; then focus has fuel for sixteen, in which an added place is the
+/// next one; and then a sweep again.
+const NESTED: &[u8] = b"01+0+1230+21+002+00+00+00+00+00+00+00+00+00+00+00+00+3+00+030";
+
+#[test]
+fn a_nested_schedule_sweeps_and_stays_with_the_least(rt: HostRuntime) -> Result<(), Fail> {
+    let mut nested = Nested::prepare(rt.alloc(), 4)?;
+    follow(&rt, &mut nested, 4, NESTED);
+    Ok(())
+}
+
 #[test]
 fn a_place_behind_the_front_is_taken(rt: HostRuntime) -> Result<(), Fail> {
     let mut sweep = Sweep::prepare(rt.alloc(), 4)?;
-    take_behind(&rt, &mut sweep);
+    take_behind(&rt, &mut sweep, b"013");
     let mut worklist = Worklist::prepare(rt.alloc(), 4)?;
-    take_behind(&rt, &mut worklist);
+    take_behind(&rt, &mut worklist, b"013");
+    let mut nested = Nested::prepare(rt.alloc(), 4)?;
+    take_behind(&rt, &mut nested, b"301");
     Ok(())
 }
