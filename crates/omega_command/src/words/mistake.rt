@@ -6,7 +6,7 @@ use std::alloc::{AllocError, AllocFailed, Global};
 use std::fmt;
 
 /// What is wrong with a subcommand, or with the texts of its options.
-#[derive(Clone, Copy, Debug)]
+#[derive(Clone, Copy)]
 pub enum Mistake<'a> {
     /// No subcommand has the name.
     Unknown,
@@ -19,7 +19,7 @@ pub enum Mistake<'a> {
 }
 
 /// Why a text stands for no value.
-#[derive(Clone, Copy, Debug)]
+#[derive(Clone, Copy)]
 pub enum Reason {
     /// It is empty.
     Empty,

@@ -6,7 +6,7 @@ use clap::ArgMatches;
 use std::fmt;
 
 /// The options of all subcommands.
-#[derive(Clone, Copy, Debug, PartialEq, Eq)]
+#[derive(Clone, Copy)]
 pub enum OptionName {
     Format,
     Player,
@@ -28,7 +28,7 @@ impl fmt::Display for OptionName {
 }
 
 /// The texts of the options that are given.
-#[derive(Clone, Copy, Debug)]
+#[derive(Clone, Copy)]
 pub struct Options<'a> {
     pub format: Option<&'a str>,
     pub player: Option<&'a str>,
