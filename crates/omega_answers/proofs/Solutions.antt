@@ -106,6 +106,7 @@ right_of : (nodes : List Node) (budget : ℕ) (solution : Solution) → length s
     → ((player : Player) → is_too_wide player (priorities nodes) ≡ false) → GivesRegions nodes solution
     → ((player : Player) → IsFoundFor nodes budget solution player) → IsRight nodes budget solution
 right_of nodes budget solution entries narrow regions found = record {
+  exact = record {
   fits = record {
     winners = entries;
     strategies = λ player. (found player).2.strategy;
@@ -115,6 +116,7 @@ right_of nodes budget solution entries narrow regions found = record {
   };
   regions = regions;
   wins = λ player v h winner. (found player).2.wins v ((regions player v h).0 winner);
+  };
   narrow = narrow;
   ended = λ player. ((found player).1, (found player).3);
 }

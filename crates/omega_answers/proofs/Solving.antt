@@ -13,6 +13,7 @@ use Rattle.omega_solve.specs.Headline.{IsExact}
 use Rattle.omega_solve.specs.Within.{IsBudgetRefusal, IsFound}
 use Rattle.omega_solve.specs.declared.found.Found.{Found}
 use Rattle.omega_answers.specs.solve.AnswerText.{IsAnswerOf, WinsExactly, answer_text}
+use Rattle.omega_answers.specs.declared.solve.asked.Asked.{Asked}
 use Rattle.omega_answers.specs.solve.Refusing.{IsSolvedFor}
 use Rattle.omega_answers.specs.solve.Solving.{HasIdentifier}
 use Rattle.omega_answers.specs.steps.GameRefusal.{IsGameRefusal}
@@ -68,7 +69,7 @@ right_answer nodes player budget found output narrow is_found written = record {
 -- ---- refusals
 
 -- what is refused for a player's budget is refused of the game, which is too wide for no player for whom it is solved
-pub refused-budget : (nodes : List Node) (asked : Option Player) (player : Player) (budget : ℕ) (refusal : Refusal)
+pub refused-budget : (nodes : List Node) (asked : Asked) (player : Player) (budget : ℕ) (refusal : Refusal)
     → ((other : Player) → IsSolvedFor asked other → is_too_wide other (priorities nodes) ≡ false) → IsSolvedFor asked player
     → IsBudgetRefusal nodes player budget refusal → IsGameRefusal nodes asked None budget refusal
 refused-budget nodes asked player budget (Task fault) narrow solved_for (e, unfinished) =
@@ -80,7 +81,7 @@ refused-budget nodes asked player budget (Automaton fault) narrow solved_for h =
 refused-budget nodes asked player budget Io narrow solved_for h = h
 
 -- what refuses the part of a node refuses the solving from it
-pub refused-part : (game : List Node) (asked : Option Player) (identifier budget place : ℕ) (part : List Node) (refusal : Refusal)
+pub refused-part : (game : List Node) (asked : Asked) (identifier budget place : ℕ) (part : List Node) (refusal : Refusal)
     → HasIdentifier game identifier place → IsPart game place part → IsGameRefusal part asked None budget refusal
     → IsGameRefusal game asked (Some identifier) budget refusal
 refused-part game asked identifier budget place part (Task UnknownNode) identified reached h = absurd h

@@ -14,5 +14,6 @@ pub use check::pg::check_game;
 pub use omega_io::Exit;
 pub use omega_solve::{MeasureTable, PackedTable, Player, Refusal, Schedule, Worklist};
 pub use show::pg::show_game;
+pub use solve::asked::Asked;
 pub use solve::solve_game;
 pub use verify::verify_solution;

@@ -6,23 +6,27 @@ ghost use Rattle.omega_answers.specs.solve.Solving.{IsSolveAnswer, SolvesPart, S
 ghost use Rattle.omega_answers.specs.steps.GameRefusal.{IsGameRefusal};
 
 mod answer_text;
+pub mod asked;
 mod both;
 mod one;
+mod searched;
 
 use crate::game_text::game_of;
+use asked::Asked;
 use both::solve_both;
-use omega_game::{Game, Player, Refusal, TaskFault};
+use omega_game::{Game, Refusal, TaskFault};
 use omega_region::regions_of_parts;
 use omega_solve::{MeasureTable, Schedule};
 use one::solve_one;
+use searched::solve_by_judged_search;
 use std::alloc::Global;
 
-/// The answer text of a player for the game that a text stands for, or the solution text where none is asked for. Where
+/// The answer text of a player for the game that a text stands for, or its solution text. Where
 /// an identifier is given, that of the part that its node reaches. 1 to 4, 10 to 14, 54, 50, 51 or 60.
 pub fn solve_game<T: MeasureTable, S: Schedule>(
     alloc: Global,
     text: Vec<u8>,
-    asked: Option<Player>,
+    asked: Asked,
     from: Option<u32>,
     budget: u64,
 ) -> Result<Vec<u8>, Refusal>
@@ -41,7 +45,7 @@ pub fn solve_game<T: MeasureTable, S: Schedule>(
 fn solve_part<T: MeasureTable, S: Schedule>(
     alloc: Global,
     game: Game,
-    asked: Option<Player>,
+    asked: Asked,
     identifier: u32,
     budget: u64,
 ) -> Result<Vec<u8>, Refusal>
@@ -64,7 +68,7 @@ fn solve_part<T: MeasureTable, S: Schedule>(
 fn solve_whole<T: MeasureTable, S: Schedule>(
     alloc: Global,
     game: &Game,
-    asked: Option<Player>,
+    asked: Asked,
     budget: u64,
 ) -> Result<Vec<u8>, Refusal>
     requires { budget ≤ most_lifts }
@@ -72,7 +76,8 @@ fn solve_whole<T: MeasureTable, S: Schedule>(
     ensures refused { IfErr result (IsGameRefusal game.now asked None budget) }
 {
     match asked {
-        None => solve_both::<T, S>(alloc, game, budget),
-        Some(player) => solve_one::<T, S>(alloc, game, player, budget),
+        Asked::Both => solve_both::<T, S>(alloc, game, budget),
+        Asked::Search => solve_by_judged_search::<T, S>(alloc, game, budget),
+        Asked::Player(player) => solve_one::<T, S>(alloc, game, player, budget),
     }
 }

@@ -1,5 +1,5 @@
 -- What a subcommand asks for with the texts of its options.
-use Rattle.std.specs.Prelude.{◌≡◌, ◌≢◌, ◌≤◌, ◌⊎◌, List, Option, Some, None, ℕ, codes, string_bytes, option_map}
+use Rattle.std.specs.Prelude.{◌≡◌, ◌≢◌, ◌≤◌, ◌⊎◌, Bool, true, false, List, Option, Some, None, ℕ, codes, string_bytes, option_map}
 use Rattle.std.specs.Str.Parse.{IsNumeral, digits_value}
 use Rattle.clap.specs.Words.{Row, first_of}
 use Rattle.clap.specs.declared.error.kind.ErrorKind.{ErrorKind}
@@ -37,6 +37,11 @@ abbrev pub IsFormatText : List ℕ → Format → Type 0
 IsFormatText text Pg = text ≡ codes "pg"
 IsFormatText text Hoa = ⊥
 
+-- what `clap` says of a flag
+abbrev pub IsTruthText : List ℕ → Bool → Type 0
+IsTruthText text true = text ≡ codes "true"
+IsTruthText text false = text ≡ codes "false"
+
 -- ---- what an option asks for
 
 -- an option that may be left out
@@ -51,12 +56,18 @@ abbrev pub GivesBudget : Option (List ℕ) → ℕ → Type 0
 GivesBudget None budget = budget ≡ most_lifts
 GivesBudget (Some text) budget = IsNumberText most_lifts text budget
 
+-- a flag: by default it is not set
+abbrev pub GivesFlag : Option (List ℕ) → Bool → Type 0
+GivesFlag None flag = flag ≡ false
+GivesFlag (Some text) flag = IsTruthText text flag
+
 -- the text of an option, if it is given
 abbrev pub text_of : OptionName → Options → Option (List ℕ)
 text_of name.Format options = option_map (λ text. text.now) options.format
 text_of name.Player options = option_map (λ text. text.now) options.player
 text_of name.From options = option_map (λ text. text.now) options.from
 text_of name.Budget options = option_map (λ text. text.now) options.budget
+text_of name.Search options = option_map (λ text. text.now) options.search
 text_of name.Game options = option_map (λ text. text.now) options.game
 
 -- how `clap` knows an option
@@ -65,6 +76,7 @@ id_of name.Format = codes "format"
 id_of name.Player = codes "player"
 id_of name.From = codes "from"
 id_of name.Budget = codes "budget"
+id_of name.Search = codes "search"
 id_of name.Game = codes "game"
 
 -- ---- what a subcommand asks for
@@ -78,7 +90,10 @@ Asks subcommand options (line.Run (command.Check format) budget) =
 Asks subcommand options (line.Run (command.Canon format) budget) =
     (subcommand ≡ codes "canon") × Gives IsFormatText (text_of name.Format options) (Some format) × (budget ≡ most_lifts)
 Asks subcommand options (line.Run (command.Solve player from) budget) =
-    (subcommand ≡ codes "solve") × Gives IsPlayerText (text_of name.Player options) player
+    (subcommand ≡ codes "solve") × GivesFlag (text_of name.Search options) false × Gives IsPlayerText (text_of name.Player options) player
+    × Gives (IsNumberText most_number) (text_of name.From options) from × GivesBudget (text_of name.Budget options) budget
+Asks subcommand options (line.Run (command.Search from) budget) =
+    (subcommand ≡ codes "solve") × GivesFlag (text_of name.Search options) true × (text_of name.Player options ≡ None)
     × Gives (IsNumberText most_number) (text_of name.From options) from × GivesBudget (text_of name.Budget options) budget
 Asks subcommand options (line.Run (command.Verify game) budget) = ⊥
 Asks subcommand options (line.Run command.Empty budget) = ⊥
@@ -96,6 +111,7 @@ HasOption subcommand name.Format = (subcommand ≡ codes "show") ⊎ (subcommand
 HasOption subcommand name.Player = subcommand ≡ codes "solve"
 HasOption subcommand name.From = subcommand ≡ codes "solve"
 HasOption subcommand name.Budget = subcommand ≡ codes "solve"
+HasOption subcommand name.Search = subcommand ≡ codes "solve"
 HasOption subcommand name.Game = subcommand ≡ codes "verify"
 
 -- the option has to be given
@@ -104,6 +120,7 @@ IsRequired name.Format = Unit {0}
 IsRequired name.Player = ⊥
 IsRequired name.From = ⊥
 IsRequired name.Budget = ⊥
+IsRequired name.Search = ⊥
 IsRequired name.Game = Unit {0}
 
 -- the text stands for no value of the option
@@ -112,6 +129,7 @@ StandsForNothing name.Format text = (format : Format) → IsFormatText text form
 StandsForNothing name.Player text = (player : Player) → IsPlayerText text player → ⊥
 StandsForNothing name.From text = (number : ℕ) → IsNumberText most_number text number → ⊥
 StandsForNothing name.Budget text = (number : ℕ) → IsNumberText most_lifts text number → ⊥
+StandsForNothing name.Search text = (flag : Bool) → IsTruthText text flag → ⊥
 StandsForNothing name.Game text = ⊥
 
 -- the mistake is that the option is missing, or that its text stands for nothing
@@ -120,6 +138,7 @@ IsFaulty option options (mistake.Missing other) = (other ≡ option) × IsRequir
 IsFaulty option options (mistake.Value other text reason) =
     (other ≡ option) × (text_of option options ≡ Some text.now) × StandsForNothing option text.now
 IsFaulty option options mistake.Unknown = ⊥
+IsFaulty option options (mistake.Conflict one other) = ⊥
 IsFaulty option options mistake.Memory = ⊥
 
 -- no subcommand has this name
@@ -130,10 +149,19 @@ pub record IsUnknown (subcommand : List ℕ) : Type 0 where
   pub solve : subcommand ≢ codes "solve"
   pub verify : subcommand ≢ codes "verify"
 
--- what is wrong: no subcommand has the name, or an option that it takes is faulty; or memory is wanting
+-- two options of `solve` that are not given together: the search is for both players
+pub record IsConflict (subcommand : List ℕ) (options : Options) (one other : OptionName) : Type 0 where
+  pub solve : subcommand ≡ codes "solve"
+  pub one_is : one ≡ name.Search
+  pub other_is : other ≡ name.Player
+  pub flagged : GivesFlag (text_of name.Search options) true
+  pub player : text_of name.Player options ≢ None
+
+-- what is wrong: no subcommand has the name, or an option that it takes is faulty, or two are not given together; or memory is wanting
 abbrev pub IsMistake : List ℕ → Options → Mistake → Type 0
 IsMistake subcommand options mistake.Unknown = IsUnknown subcommand
 IsMistake subcommand options mistake.Memory = Unit {0}
+IsMistake subcommand options (mistake.Conflict one other) = IsConflict subcommand options one other
 IsMistake subcommand options (mistake.Missing option) = HasOption subcommand option × IsFaulty option options (mistake.Missing option)
 IsMistake subcommand options (mistake.Value option text reason) =
     HasOption subcommand option × IsFaulty option options (mistake.Value option text reason)

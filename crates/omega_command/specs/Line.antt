@@ -2,7 +2,7 @@
 use Rattle.std.specs.Prelude.{◌≤◌}
 use Rattle.omega_solve.specs.Limits.{most_lifts}
 use Rattle.omega_command.specs.declared.command.Command.{Command}
-use Rattle.omega_command.specs.declared.command.Command.TheVariants.{Canon, Check, Empty, Game, Show, Solve, Verify}
+use Rattle.omega_command.specs.declared.command.Command.TheVariants.{Canon, Check, Empty, Game, Search, Show, Solve, Verify}
 use Rattle.omega_command.specs.declared.command.Format.TheVariants.{Hoa, Pg}
 use Rattle.omega_command.specs.declared.line.Line.{Line}
 use Rattle.omega_command.specs.declared.line.Line.TheVariants as line
@@ -16,6 +16,7 @@ IsOffered (Check Hoa) = ⊥
 IsOffered (Canon Pg) = Unit {0}
 IsOffered (Canon Hoa) = ⊥
 IsOffered (Solve asked from) = Unit {0}
+IsOffered (Search from) = Unit {0}
 IsOffered (Verify game) = Unit {0}
 IsOffered Empty = ⊥
 IsOffered Game = ⊥

@@ -16,6 +16,11 @@ pub enum Command {
         /// The identifier of the node whose part is solved.
         from: Option<u32>,
     },
+    /// Solves a game for both players by a search whose answer is judged; whole, or the part that one node reaches.
+    Search {
+        /// The identifier of the node whose part is solved.
+        from: Option<u32>,
+    },
     /// Checks the solution of a game whose text is kept here.
     Verify {
         game: Seq<u8>,

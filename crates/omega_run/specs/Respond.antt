@@ -1,11 +1,12 @@
 -- What a command answers and refuses, and what it read when it answers.
-use Rattle.std.specs.Prelude.{◌≡◌, List, Option, ℕ}
+use Rattle.std.specs.Prelude.{◌≡◌, List, Option, Some, None, ℕ}
 use Rattle.std.specs.Io.KnownBytes.{Consumes, IsAtEnd}
 use Rattle.omega_text.specs.Cases.{or_io, or_memory}
 use Rattle.omega_text.specs.declared.refusal.Refusal.{Refusal}
 use Rattle.omega_pg.specs.game.Refusing.{IsRefusal}
+use Rattle.omega_game.specs.declared.player.Player.{Player}
 use Rattle.omega_command.specs.declared.command.Command.{Command}
-use Rattle.omega_command.specs.declared.command.Command.TheVariants.{Canon, Check, Empty, Game, Show, Solve, Verify}
+use Rattle.omega_command.specs.declared.command.Command.TheVariants.{Canon, Check, Empty, Game, Search, Show, Solve, Verify}
 use Rattle.omega_command.specs.declared.command.Format.TheVariants.{Hoa, Pg}
 use Rattle.omega_io.specs.declared.exit.Exit.{Exit}
 use Rattle.omega_io.specs.declared.exit.Exit.TheVariants.{Done}
@@ -13,9 +14,16 @@ use Rattle.omega_answers.specs.Verify.{IsVerifyAnswer, IsVerifyRefusal}
 use Rattle.omega_answers.specs.canon.Pg.{IsCanonAnswer}
 use Rattle.omega_answers.specs.check.Pg.{IsCheckAnswer}
 use Rattle.omega_answers.specs.show.Pg.{IsShowAnswer}
+use Rattle.omega_answers.specs.declared.solve.asked.Asked.{Asked}
+use Rattle.omega_answers.specs.declared.solve.asked.Asked.TheVariants as way
 use Rattle.omega_answers.specs.solve.Refusing.{IsSolveRefusal}
 use Rattle.omega_answers.specs.solve.Solving.{IsSolveAnswer}
 use Rattle.omega_io.specs.Reading.{IsRead}
+
+-- what is asked of a game for one player, or for both where none is named
+abbrev pub asked_for : Option Player → Asked
+asked_for None = way.Both
+asked_for (Some player) = way.Player player
 
 -- the command answers the text by this output, with this budget, and ends so
 abbrev pub Answers : Command → ℕ → List ℕ → Exit → List ℕ → Type 0
@@ -25,7 +33,8 @@ Answers (Check Pg) budget text exit output = (exit ≡ Done) × IsCheckAnswer te
 Answers (Check Hoa) budget text exit output = ⊥
 Answers (Canon Pg) budget text exit output = (exit ≡ Done) × IsCanonAnswer text output
 Answers (Canon Hoa) budget text exit output = ⊥
-Answers (Solve asked from) budget text exit output = (exit ≡ Done) × IsSolveAnswer text asked from budget output
+Answers (Solve player from) budget text exit output = (exit ≡ Done) × IsSolveAnswer text (asked_for player) from budget output
+Answers (Search from) budget text exit output = (exit ≡ Done) × IsSolveAnswer text way.Search from budget output
 Answers (Verify game) budget text exit output = IsVerifyAnswer game text exit output
 Answers Empty budget text exit output = ⊥
 Answers Game budget text exit output = ⊥
@@ -38,7 +47,8 @@ Refuses (Check Pg) budget text refusal = IsRefusal text refusal
 Refuses (Check Hoa) budget text refusal = ⊥
 Refuses (Canon Pg) budget text refusal = IsRefusal text refusal
 Refuses (Canon Hoa) budget text refusal = ⊥
-Refuses (Solve asked from) budget text refusal = IsSolveRefusal text asked from budget refusal
+Refuses (Solve player from) budget text refusal = IsSolveRefusal text (asked_for player) from budget refusal
+Refuses (Search from) budget text refusal = IsSolveRefusal text way.Search from budget refusal
 Refuses (Verify game) budget text refusal = IsVerifyRefusal game text refusal
 Refuses Empty budget text refusal = ⊥
 Refuses Game budget text refusal = ⊥

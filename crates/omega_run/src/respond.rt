@@ -1,13 +1,14 @@
 ghost use Rattle.std.specs.Prelude.{◌≡◌, ◌+◌, ◌-◌, ◌^◌, ◌<◌, ◌≤◌, IfOk, IfErr};
 ghost use Rattle.omega_solve.specs.Limits.{most_lifts};
 ghost use Rattle.omega_command.specs.Line.{IsOffered};
-ghost use Rattle.omega_run.specs.Respond.{IsRunRefusal, Responds};
+ghost use Rattle.omega_run.specs.Respond.{IsRunRefusal, Responds, asked_for};
 ghost use Rattle.omega_io.specs.Failures.{failures_of};
 
-use omega_answers::{canon_game, check_game, show_game, solve_game, verify_solution};
+use omega_answers::{Asked, canon_game, check_game, show_game, solve_game, verify_solution};
 use omega_command::{Command, Format};
+use omega_game::Player;
 use omega_io::{Exit, Input, Refusal, read_all};
-use omega_solve::{PackedTable, Worklist};
+use omega_solve::{Nested, PackedTable};
 use std::alloc::Global;
 
 /// Reads what a command needs, and makes its whole answer in memory, with how it ends. Each command reads for itself, to
@@ -40,7 +41,14 @@ pub fn respond<R: Input>(
         }
         Command::Solve { player, from } => {
             let text = read_all(alloc, input)?;
-            let made = solve_game::<PackedTable, Worklist>(alloc, text, *player, *from, budget)?;
+            let asked = asked_for(*player);
+            let made = solve_game::<PackedTable, Nested>(alloc, text, asked, *from, budget)?;
+            Ok((Exit::Done, made))
+        }
+        Command::Search { from } => {
+            let text = read_all(alloc, input)?;
+            let made =
+                solve_game::<PackedTable, Nested>(alloc, text, Asked::Search, *from, budget)?;
             Ok((Exit::Done, made))
         }
         Command::Verify { game } => {
@@ -52,5 +60,15 @@ pub fn respond<R: Input>(
         Command::Canon(Format::Hoa) => unreachable!(),
         Command::Empty => unreachable!(),
         Command::Game => unreachable!(),
+    }
+}
+
+/// What is asked of a game for one player, or for both where none is named.
+fn asked_for(player: Option<Player>) -> Asked
+    ensures { result ≡ asked_for player }
+{
+    match player {
+        Some(player) => Asked::Player(player),
+        None => Asked::Both,
     }
 }

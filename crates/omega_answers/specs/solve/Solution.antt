@@ -23,12 +23,21 @@ abbrev pub GivesRegions : List Node → Solution → Type 0
 GivesRegions nodes solution =
     (player : Player) (v : ℕ) → v < length nodes → (winner_at solution v ≡ player) ↔ InRegion nodes player v
 
--- a right solution of a game that is too wide for neither player: each node is given to the player in whose region it is, the choices win, and
--- for each player a lifting run within the budget ends
-pub record IsRight (nodes : List Node) (budget : ℕ) (solution : Solution) : Type 0 where
+-- an exact solution: each node is given to the player in whose region it is, and the choices win
+pub record IsExact (nodes : List Node) (solution : Solution) : Type 0 where
   pub fits : IsSolution nodes solution
   pub regions : GivesRegions nodes solution
   pub wins : WinsAsGiven nodes solution
+
+-- the text of an exact solution
+pub record IsExactSolutionOf (nodes : List Node) (output : List ℕ) : Type 0 where
+  pub solution : Solution
+  pub exact : IsExact nodes solution
+  pub written : output ≡ solution_text nodes solution
+
+-- an exact solution of a game that is too wide for neither player, and for each player a lifting run within the budget ends
+pub record IsRight (nodes : List Node) (budget : ℕ) (solution : Solution) : Type 0 where
+  pub exact : IsExact nodes solution
   pub narrow : (player : Player) → is_too_wide player (priorities nodes) ≡ false
   pub ended : (player : Player) → (lifts : ℕ) × EndsWithin nodes player budget lifts
 

@@ -6,7 +6,9 @@ use Rattle.omega_game.specs.Part.{IsPartAt}
 use Rattle.omega_game.specs.Winning.{InRegion}
 use Rattle.omega_pg.specs.game.Text.{IsGameText}
 use Rattle.omega_answers.specs.solve.AnswerText.{IsAnswerOf}
-use Rattle.omega_answers.specs.solve.Solution.{IsSolutionOf}
+use Rattle.omega_answers.specs.declared.solve.asked.Asked.{Asked}
+use Rattle.omega_answers.specs.declared.solve.asked.Asked.TheVariants as way
+use Rattle.omega_answers.specs.solve.Solution.{IsExactSolutionOf, IsSolutionOf}
 
 -- the node at a place has the identifier
 pub record HasIdentifier (nodes : List Node) (identifier place : ℕ) : Type 0 where
@@ -18,13 +20,14 @@ abbrev pub SameRegions : List Node → List ℕ → List Node → Player → Typ
 SameRegions game kept part player =
     (k : ℕ) → k < length kept → InRegion part player k ↔ InRegion game player (slice_index kept k)
 
--- a right answer for a whole game: the answer text of the player asked for, or where none is, the solution text
-abbrev pub SolvesWhole : List Node → Option Player → ℕ → List ℕ → Type 0
-SolvesWhole nodes None budget output = IsSolutionOf nodes budget output
-SolvesWhole nodes (Some player) budget output = IsAnswerOf nodes player budget output
+-- a right answer for a whole game: the answer text of the player asked for, or the solution text, of lifting runs or of a search
+abbrev pub SolvesWhole : List Node → Asked → ℕ → List ℕ → Type 0
+SolvesWhole nodes way.Both budget output = IsSolutionOf nodes budget output
+SolvesWhole nodes way.Search budget output = IsExactSolutionOf nodes output
+SolvesWhole nodes (way.Player player) budget output = IsAnswerOf nodes player budget output
 
 -- a right answer for the part that the node with the identifier reaches, whose nodes are won in the part exactly where they are won in the game
-pub record SolvesPart (game : List Node) (asked : Option Player) (identifier budget : ℕ) (output : List ℕ) : Type 0 where
+pub record SolvesPart (game : List Node) (asked : Asked) (identifier budget : ℕ) (output : List ℕ) : Type 0 where
   pub place : ℕ
   pub identified : HasIdentifier game identifier place
   pub kept : List ℕ
@@ -34,12 +37,12 @@ pub record SolvesPart (game : List Node) (asked : Option Player) (identifier bud
   pub regions : (player : Player) → SameRegions game kept part player
 
 -- a right answer for the game, or where an identifier is given, for the part that its node reaches
-abbrev pub Solves : List Node → Option Player → Option ℕ → ℕ → List ℕ → Type 0
+abbrev pub Solves : List Node → Asked → Option ℕ → ℕ → List ℕ → Type 0
 Solves game asked None budget output = SolvesWhole game asked budget output
 Solves game asked (Some identifier) budget output = SolvesPart game asked identifier budget output
 
 -- what `solve` answers: the text stands for a game, and a right answer is written
-pub record IsSolveAnswer (text : List ℕ) (asked : Option Player) (from : Option ℕ) (budget : ℕ) (output : List ℕ) : Type 0 where
+pub record IsSolveAnswer (text : List ℕ) (asked : Asked) (from : Option ℕ) (budget : ℕ) (output : List ℕ) : Type 0 where
   pub game : List Node
   pub read : IsGameText text game
   pub solved : Solves game asked from budget output

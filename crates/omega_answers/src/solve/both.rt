@@ -1,6 +1,7 @@
 ghost use Rattle.std.specs.Prelude.{◌≡◌, ◌≤◌, IfOk, IfErr, IsOkUnless, None};
 ghost use Rattle.omega_solve.specs.Limits.{most_lifts};
 ghost use Rattle.omega_text.specs.declared.refusal.Refusal.TheVariants.{Memory};
+ghost use Rattle.omega_answers.specs.declared.solve.asked.Asked.TheVariants.{Both};
 ghost use Rattle.omega_answers.specs.solve.Solution.{IsRight, IsSolutionOf};
 ghost use Rattle.omega_answers.specs.steps.GameRefusal.{IsGameRefusal};
 ghost use Rattle.omega_answers.specs.steps.Winners.{winners_of};
@@ -19,7 +20,7 @@ pub fn solve_both<T: MeasureTable, S: Schedule>(
 ) -> Result<Vec<u8>, Refusal>
     requires { budget ≤ most_lifts }
     ensures answer { IfOk result (λ output. IsSolutionOf game.now budget output.items) }
-    ensures refused { IfErr result (IsGameRefusal game.now None None budget) }
+    ensures refused { IfErr result (IsGameRefusal game.now Both None budget) }
 {
     let solution = solution_of::<T, S>(alloc, game, budget)?;
     write_solution(alloc, game, &solution)
@@ -27,14 +28,14 @@ pub fn solve_both<T: MeasureTable, S: Schedule>(
 
 /// The solution of a game. Both solvers are prepared before either runs, so that 50 comes before 51, and each may make
 /// the whole budget of lifts. 50, 51 or 60.
-fn solution_of<T: MeasureTable, S: Schedule>(
+pub fn solution_of<T: MeasureTable, S: Schedule>(
     alloc: Global,
     game: &Game,
     budget: u64,
 ) -> Result<Solution, Refusal>
     requires { budget ≤ most_lifts }
     ensures right { IfOk result (IsRight game.now budget) }
-    ensures refused { IfErr result (IsGameRefusal game.now None None budget) }
+    ensures refused { IfErr result (IsGameRefusal game.now Both None budget) }
 {
     regions_are_apart();
     regions_cover();

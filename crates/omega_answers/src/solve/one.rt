@@ -1,4 +1,5 @@
-ghost use Rattle.std.specs.Prelude.{◌≡◌, ◌≤◌, IfOk, IfErr, Some, None};
+ghost use Rattle.std.specs.Prelude.{◌≡◌, ◌≤◌, IfOk, IfErr, None};
+ghost use Rattle.omega_answers.specs.declared.solve.asked.Asked.TheVariants as way;
 ghost use Rattle.omega_solve.specs.Limits.{most_lifts};
 ghost use Rattle.omega_answers.specs.solve.AnswerText.{IsAnswerOf};
 ghost use Rattle.omega_answers.specs.steps.GameRefusal.{IsGameRefusal};
@@ -17,7 +18,7 @@ pub fn solve_one<T: MeasureTable, S: Schedule>(
 ) -> Result<Vec<u8>, Refusal>
     requires { budget ≤ most_lifts }
     ensures answer { IfOk result (λ output. IsAnswerOf game.now player budget output.items) }
-    ensures refused { IfErr result (IsGameRefusal game.now (Some player) None budget) }
+    ensures refused { IfErr result (IsGameRefusal game.now (way.Player player) None budget) }
 {
     let solver: Solver<'_, T, S> = Solver::prepare(alloc, game, player)?;
     let found = Found::by(alloc, solver, budget)?;

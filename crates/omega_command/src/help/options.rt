@@ -1,5 +1,5 @@
 //! The options of the subcommands. What the texts of numbers stand for is judged behind `clap`.
-use clap::Arg;
+use clap::{Arg, ArgAction};
 use std::alloc::Global;
 
 /// The formats that are offered.
@@ -37,6 +37,14 @@ pub fn from_option<'a>(alloc: Global) -> Arg<'a> {
     Arg::new(alloc, "from").long("from").value_name("ID").help(
         "Solve only the part that the node with this identifier reaches",
     )
+}
+
+/// The flag that takes the search in place of lifting.
+pub fn search_option<'a>(alloc: Global) -> Arg<'a> {
+    Arg::new(alloc, "search")
+        .long("search")
+        .action(ArgAction::SetTrue)
+        .help("Solve by a search whose answer is judged, which is far quicker on large games")
 }
 
 /// The option that bounds the work.

@@ -1,4 +1,4 @@
-use super::options::{budget_option, from_option, player_option};
+use super::options::{budget_option, from_option, player_option, search_option};
 use clap::Command;
 use std::alloc::{AllocError, Global};
 
@@ -33,6 +33,13 @@ A lift is one step of the solver. It makes no more of them for a player than the
 what is needed, and a game may need more time than there is: --budget N gives up after N lifts for
 a player, writes nothing but `omega: 51 Budget` on standard error, and exits with status 3.
 
+--search finds winners and choices by Zielonka's recursive algorithm, of which nothing is proved. What it
+finds is written only after the proved check that `omega verify` makes: that for each player the choices
+win from all the nodes given to the player. No node is won by both players, so winners that pass are
+right, whatever the search did. Take it for large games; lifting, for a bound that is known before the
+run. The choices may be others than those of lifting. Where the search gives nothing, the game is solved
+by lifting, within the budget. It is for both players: --player is not given beside it.
+
 --from ID solves the part of the game that is reached from the node with that identifier, and writes
 of those nodes alone. Nothing else of the game has a say in who wins them. Where no node has the
 identifier, 54 UnknownNode is told. 50 TooWide is told of games for which nodes times priorities that
@@ -48,5 +55,6 @@ pub fn solve_command<'a>(alloc: Global) -> Result<Command<'a>, AllocError> {
         .after_help(DETAILS)
         .arg(player_option(alloc))?
         .arg(from_option(alloc))?
+        .arg(search_option(alloc))?
         .arg(budget_option(alloc))
 }

@@ -1,6 +1,6 @@
 ghost use Rattle.std.specs.Prelude.{◌≡◌, Some, IfOk, IfErr};
 ghost use Rattle.omega_text.specs.Limits.{most_number};
-ghost use Rattle.omega_command.specs.CommandLine.{Asks, Gives, GivesBudget, IsFaulty, IsFormatText, IsMistake, IsNumberText, IsPlayerText, text_of};
+ghost use Rattle.omega_command.specs.CommandLine.{Asks, Gives, GivesBudget, GivesFlag, IsFaulty, IsFormatText, IsMistake, IsNumberText, IsPlayerText, text_of};
 ghost use Rattle.omega_command.specs.declared.words.options.OptionName.TheVariants as name;
 
 use super::mistake::{Mistake, Reason};
@@ -36,7 +36,13 @@ pub fn line_for<'a>(
         let player = player_in(options)?;
         let from = identifier_in(options)?;
         let budget = budget_in(options)?;
-        return Ok(Line::Run(Command::Solve { player, from }, budget));
+        if !is_search(options)? {
+            return Ok(Line::Run(Command::Solve { player, from }, budget));
+        }
+        if player.is_some() {
+            return Err(Mistake::Conflict(OptionName::Search, OptionName::Player));
+        }
+        return Ok(Line::Run(Command::Search { from }, budget));
     }
     if subcommand == "verify" {
         let Some(name) = options.game else {
@@ -87,6 +93,23 @@ fn identifier_in<'a>(options: &Options<'a>) -> Result<Option<u32>, Mistake<'a>>
     match number_in(text, u64::from(MOST_NUMBER)) {
         Ok(identifier) => Ok(Some(identifier as u32)),
         Err(reason) => Err(Mistake::Value(OptionName::From, text, reason)),
+    }
+}
+
+/// Whether the game is solved by the search.
+fn is_search<'a>(options: &Options<'a>) -> Result<bool, Mistake<'a>>
+    ensures given { IfOk result (GivesFlag (text_of name.Search options.now)) }
+    ensures faulty { IfErr result (IsFaulty name.Search options.now) }
+{
+    let Some(text) = options.search else {
+        return Ok(false);
+    };
+    if text == "true" {
+        Ok(true)
+    } else if text == "false" {
+        Ok(false)
+    } else {
+        Err(Mistake::Value(OptionName::Search, text, Reason::NoTruth))
     }
 }
 

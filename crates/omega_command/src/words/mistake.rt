@@ -14,6 +14,8 @@ pub enum Mistake<'a> {
     Missing(OptionName),
     /// The text of the option stands for none of its values.
     Value(OptionName, &'a str, Reason),
+    /// The two options are not given together.
+    Conflict(OptionName, OptionName),
     /// There is no memory for what is asked for.
     Memory,
 }
@@ -33,6 +35,8 @@ pub enum Reason {
     Above { number: u64, most: u64 },
     /// No format has the name.
     NoFormat,
+    /// It is neither `true` nor `false`.
+    NoTruth,
 }
 
 impl fmt::Display for Reason {
@@ -44,6 +48,7 @@ impl fmt::Display for Reason {
             Reason::TooLarge => f.write_str("the number is too large"),
             Reason::Above { number, most } => write!(f, "{number} is not in 0..={most}"),
             Reason::NoFormat => f.write_str("no format has this name"),
+            Reason::NoTruth => f.write_str("neither true nor false"),
         }
     }
 }
@@ -59,6 +64,9 @@ impl Mistake<'_> {
             Mistake::Missing(name) => format!(in alloc; "error: '{name}' is missing{end}"),
             Mistake::Value(name, text, reason) => {
                 format!(in alloc; "error: invalid value '{text}' for '{name}': {reason}{end}")
+            }
+            Mistake::Conflict(one, other) => {
+                format!(in alloc; "error: '{one}' and '{other}' are not given together{end}")
             }
             Mistake::Memory => Err(AllocError),
         }

@@ -12,6 +12,7 @@ pub enum OptionName {
     Player,
     From,
     Budget,
+    Search,
     Game,
 }
 
@@ -22,6 +23,7 @@ impl fmt::Display for OptionName {
             OptionName::Player => "--player <P>",
             OptionName::From => "--from <ID>",
             OptionName::Budget => "--budget <N>",
+            OptionName::Search => "--search",
             OptionName::Game => "--game <FILE>",
         })
     }
@@ -34,6 +36,8 @@ pub struct Options<'a> {
     pub player: Option<&'a str>,
     pub from: Option<&'a str>,
     pub budget: Option<&'a str>,
+    /// `true` where the flag is given; `clap` may say `false` where it is not.
+    pub search: Option<&'a str>,
     pub game: Option<&'a str>,
 }
 
@@ -47,6 +51,7 @@ impl<'a> Options<'a> {
             player: found.get_str("player"),
             from: found.get_str("from"),
             budget: found.get_str("budget"),
+            search: found.get_str("search"),
             game: found.get_str("game"),
         }
     }

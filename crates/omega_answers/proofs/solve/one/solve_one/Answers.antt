@@ -1,7 +1,8 @@
 -- `solve_one`: what was found for the player is a right answer, and what was refused is a fault of the game.
-use Rattle.std.proofs.Common.{Some, None, refl, rules}
+use Rattle.std.proofs.Common.{None, refl, rules}
 use Rattle.std.proofs.lemmas.Result.{IfOk-weaker}
 use Rattle.omega_solve.specs.Within.{IsFound}
+use Rattle.omega_answers.specs.declared.solve.asked.Asked.TheVariants as way
 use Rattle.omega_answers.specs.steps.GameRefusal.{IsGameRefusal}
 use Rattle.omega_answers.proofs.Solving.{refused-budget, right_answer}
 use Rattle.omega_answers.proofs.solve.one.solve_one.Goals as goal
@@ -19,8 +20,8 @@ returns-clause-answer g c =
 
 pub returns-in_err-found-clause-refused : goal.returns-in_err-found-clause-refused
 returns-in_err-found-clause-refused g c =
-    let refused : IsGameRefusal c.args.game.now (Some c.args.player) None c.args.budget c.in_err-found.field-0.0 =
-    refused-budget c.args.game.now (Some c.args.player) c.args.player c.args.budget _
+    let refused : IsGameRefusal c.args.game.now (way.Player c.args.player) None c.args.budget c.in_err-found.field-0.0 =
+    refused-budget c.args.game.now (way.Player c.args.player) c.args.player c.args.budget _
     (λ other same. rw same (c.in_ok-solver.ensures.fits refl)) refl
     (rw c.in_ok-solver.ensures.start at c.in_err-found.ensures.refused) in
     search rules

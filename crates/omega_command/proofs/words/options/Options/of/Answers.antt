@@ -3,7 +3,7 @@ use Rattle.std.proofs.Common.{◌∙◌}
 use Rattle.clap.proofs.WalkLemmas.{first_value-rows}
 use Rattle.clap.specs.Words.{found_of}
 use Rattle.omega_command.specs.CommandLine.{id_of}
-use Rattle.omega_command.specs.declared.words.options.OptionName.TheVariants.{Format, Player, From, Budget, Game}
+use Rattle.omega_command.specs.declared.words.options.OptionName.TheVariants.{Format, Player, From, Budget, Search, Game}
 use Rattle.omega_command.proofs.words.options.Options.of.Goals as goal
 
 pub returns : goal.returns
@@ -11,4 +11,5 @@ returns c Format = c.get_str.ensures ∙ first_value-rows (found_of c.args.found
 returns c Player = c.get_str-2.ensures ∙ first_value-rows (found_of c.args.found.now) (id_of Player)
 returns c From = c.get_str-3.ensures ∙ first_value-rows (found_of c.args.found.now) (id_of From)
 returns c Budget = c.get_str-4.ensures ∙ first_value-rows (found_of c.args.found.now) (id_of Budget)
-returns c Game = c.get_str-5.ensures ∙ first_value-rows (found_of c.args.found.now) (id_of Game)
+returns c Search = c.get_str-5.ensures ∙ first_value-rows (found_of c.args.found.now) (id_of Search)
+returns c Game = c.get_str-6.ensures ∙ first_value-rows (found_of c.args.found.now) (id_of Game)
