@@ -1,8 +1,0 @@
--- Lemmas: answers and lists that grow, cuts in parts, segments token by token, and the tokens that bytes settle.
-pub mod Cutting
-pub mod Dividing
-pub mod Feeds
-pub mod Outlines
-pub mod Results
-pub mod Settling
-pub mod Taking

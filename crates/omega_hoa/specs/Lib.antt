@@ -1,8 +1,0 @@
--- What contracts cite: one segment, streams of segments, and what a stream in pieces keeps.
-pub mod Alone
-pub mod Feeding
-pub mod Kept
-pub mod Segment
-pub mod Stream
-pub mod dividing
-pub mod outlines

@@ -1,2 +1,0 @@
--- What only private contracts cite: how the tokens of a stream are divided, one by one.
-pub mod Next

@@ -1,2 +1,0 @@
--- What only private contracts cite: a text that is to hold one segment, seen from outside.
-pub mod Outline
