@@ -107,15 +107,15 @@ right_of : (nodes : List Node) (budget : ℕ) (solution : Solution) → length s
     → ((player : Player) → IsFoundFor nodes budget solution player) → IsRight nodes budget solution
 right_of nodes budget solution entries narrow regions found = record {
   exact = record {
-  fits = record {
-    winners = entries;
-    strategies = λ player. (found player).2.strategy;
-    chosen = λ player v h.
-        chosen-exactly nodes player (winner_at solution v) (found player).0 (choices_of solution player) v (found player).2 h
-        (regions player v h);
-  };
-  regions = regions;
-  wins = λ player v h winner. (found player).2.wins v ((regions player v h).0 winner);
+    fits = record {
+      winners = entries;
+      strategies = λ player. (found player).2.strategy;
+      chosen = λ player v h.
+          chosen-exactly nodes player (winner_at solution v) (found player).0 (choices_of solution player) v (found player).2 h
+          (regions player v h);
+    };
+    regions = regions;
+    wins = λ player v h winner. (found player).2.wins v ((regions player v h).0 winner);
   };
   narrow = narrow;
   ended = λ player. ((found player).1, (found player).3);

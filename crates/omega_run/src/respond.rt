@@ -47,8 +47,13 @@ pub fn respond<R: Input>(
         }
         Command::Search { from } => {
             let text = read_all(alloc, input)?;
-            let made =
-                solve_game::<PackedTable, Nested>(alloc, text, Asked::Search, *from, budget)?;
+            let made = solve_game::<PackedTable, Nested>(
+                alloc,
+                text,
+                Asked::Search,
+                *from,
+                budget,
+            )?;
             Ok((Exit::Done, made))
         }
         Command::Verify { game } => {
