@@ -1,9 +1,9 @@
-use omega_command::{Line, Refusal, read_words};
+use omega_command::{Command, Line, Refusal, read_words};
 use std::alloc::Global;
 use std::test::Fail;
 
 /// Command lines that are at fault, and what the text says of each.
-static FAULTS: [(&str, &str); 36] = [
+static FAULTS: [(&str, &str); 39] = [
     ("", "requires a subcommand"),
     ("frobnicate", "unrecognized subcommand 'frobnicate'"),
     ("help", "unrecognized subcommand 'help'"),
@@ -80,6 +80,12 @@ static FAULTS: [(&str, &str); 36] = [
     ("solve --budget", "a value is required for '--budget <N>'"),
     ("solve --from 1 --from 1", "cannot be used multiple times"),
     ("solve --format pg", "unexpected argument '--format'"),
+    (
+        "solve --search --player 0",
+        "'--search' and '--player <P>' are not given together",
+    ),
+    ("solve --search --search", "cannot be used multiple times"),
+    ("verify --game a --search", "unexpected argument '--search'"),
     ("verify", "--game <FILE>"),
     ("verify --game", "a value is required for '--game <FILE>'"),
     ("verify --game a --game b", "cannot be used multiple times"),
@@ -91,7 +97,7 @@ static FAULTS: [(&str, &str); 36] = [
 ];
 
 /// Requests for help, and what the text says.
-static HELP: [(&str, &str); 16] = [
+static HELP: [(&str, &str); 17] = [
     ("--help", "Usage: omega <COMMAND>"),
     ("-h", "3  the budget is used up"),
     ("--help", "0 1 0 1; 1 2 1 0"),
@@ -104,6 +110,7 @@ static HELP: [(&str, &str); 16] = [
     ("solve --help", "Usage: omega solve [OPTIONS]"),
     ("solve --help", "paritysol 2;"),
     ("solve --help", "--budget <N>"),
+    ("solve --help", "--search"),
     ("solve --player 0 -h", "player 0 lifts 1"),
     ("-h", "6  the answer of `omega verify` is no"),
     ("verify --help", "Usage: omega verify --game <FILE>"),
@@ -168,5 +175,27 @@ fn names_the_file_of_the_game(rt: HostRuntime) -> Result<(), Fail> {
         _ => false,
     };
     assert!(rt; is_named);
+    Ok(())
+}
+
+/// Whether a command line asks for the search, and from which node.
+fn search_of(alloc: Global, line: &str) -> Result<Option<Option<u32>>, Fail> {
+    let words = words_of(alloc, line)?;
+    match read_words(alloc, words.as_slice())? {
+        Line::Run(Command::Search { from }, _) => Ok(Some(from)),
+        _ => Ok(None),
+    }
+}
+
+#[test]
+fn asks_for_the_search(rt: HostRuntime) -> Result<(), Fail> {
+    for (words, asked) in [
+        ("solve", None),
+        ("solve --player 0", None),
+        ("solve --search", Some(None)),
+        ("solve --from 3 --search --budget 5", Some(Some(3))),
+    ] {
+        assert_eq!(rt; search_of(rt.alloc(), words)?, asked, "{words}");
+    }
     Ok(())
 }

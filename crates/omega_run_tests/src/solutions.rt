@@ -10,7 +10,7 @@ const THREE: &str = "0 0 0 1,2; 1 1 1 0; 2 2 1 0;";
 const LOOPS: &str = "0 0 0 0; 1 0 0 1;";
 
 /// A command line, a game text and its whole solution text.
-static SOLUTIONS: [(&str, &str, &str); 15] = [
+static SOLUTIONS: [(&str, &str, &str); 22] = [
     ("solve", "0 0 0 0;", "paritysol 0;\n0 0 0;\n"),
     ("solve", "0 1 0 0;", "paritysol 0;\n0 1;\n"),
     ("solve", "0 1 1 0;", "paritysol 0;\n0 1 0;\n"),
@@ -48,14 +48,47 @@ static SOLUTIONS: [(&str, &str, &str); 15] = [
         "paritysol 2;\n0 0 2;\n1 0;\n2 0;\n",
     ),
     ("solve --from 0 --budget 2", LOOPS, "paritysol 0;\n0 0 0;\n"),
+    ("solve --search", "0 1 0 0;", "paritysol 0;\n0 1;\n"),
+    ("solve --search", TWO, "paritysol 1;\n0 0 1;\n1 0;\n"),
+    (
+        "solve --search",
+        THREE,
+        "paritysol 2;\n0 0 2;\n1 0;\n2 0;\n",
+    ),
+    (
+        "solve --search",
+        "0 2 0 0; 1 1 0 1; 2 0 1 0,1;",
+        "paritysol 2;\n0 0 0;\n1 1;\n2 1 1;\n",
+    ),
+    // No lift is made.
+    (
+        "solve --search --budget 0",
+        TWO,
+        "paritysol 1;\n0 0 1;\n1 0;\n",
+    ),
+    ("solve --search", LOOPS, "paritysol 1;\n0 0 0;\n1 0 1;\n"),
+    ("solve --search --from 1", LOOPS, "paritysol 1;\n1 0 1;\n"),
 ];
 
 /// A command line, a game text, and the status and the line of a run that is refused.
-static REFUSALS: [(&str, &str, u8, &str); 9] = [
+static REFUSALS: [(&str, &str, u8, &str); 12] = [
     ("solve", "", 1, "omega: 3 Syntax at 0\n"),
     ("solve", "0 0 0 1;", 1, "omega: 11 UndefinedSuccessor\n"),
     ("solve", "2147483648 0 0 0;", 1, "omega: 2 Number at 0\n"),
     ("solve --budget 3", TWO, 3, "omega: 51 Budget\n"),
+    ("solve --search", "0 0 0 0", 1, "omega: 3 Syntax at 7\n"),
+    (
+        "solve --search",
+        "0 0 0 1;",
+        1,
+        "omega: 11 UndefinedSuccessor\n",
+    ),
+    (
+        "solve --search --from 2",
+        LOOPS,
+        1,
+        "omega: 54 UnknownNode\n",
+    ),
     ("solve --budget 0", "0 0 0 0;", 3, "omega: 51 Budget\n"),
     ("solve --from 0 --budget 1", LOOPS, 3, "omega: 51 Budget\n"),
     ("solve --from 2", LOOPS, 1, "omega: 54 UnknownNode\n"),
