@@ -18,7 +18,7 @@ CHOICE = b"0 0 0 1,2; 1 1 1 0; 2 2 1 0;"
 RUNS = [
     *((["solve", *more], text, None)
       for text in (TWO, GAPS, CARRY, CHOICE)
-      for more in ([], ["--player", "0"], ["--player", "1"], ["--from", "0"], ["--budget", "3"])),
+      for more in ([], ["--search"], ["--player", "0"], ["--player", "1"], ["--from", "0"], ["--budget", "3"])),
     *(([name, "--format", "pg"], text, None) for text in (TWO, GAPS, CHOICE) for name in ("show", "check", "canon")),
     (["verify", "--game"], b"paritysol 2; 0 0 2; 1 0; 2 0;", CHOICE),
     (["verify", "--game"], b"paritysol 2; 0 0 1; 1 0; 2 0;", CHOICE),
@@ -81,17 +81,19 @@ def refused_runs(shimmed, words, text, held):
             yield f"{label}: request {n} of {requests}{'' if to == n else ' and all behind it'}", fault_in(came, ample)
 
 
-def chain(nodes, loop_first):
-    """A chain to an odd loop, which is lifted first, or last: the same sizes, and few lifts or very many."""
-    if loop_first:
-        return "".join(f"{v} {int(v == 0)} 0 {max(v - 1, 0)};" for v in range(nodes)).encode()
-    return "".join(f"{v} {int(v == nodes - 1)} 0 {min(v + 1, nodes - 1)};" for v in range(nodes)).encode()
+def lost_half(nodes, in_chain):
+    """Half of the nodes are lost for player 1, as a chain to one even loop or each by an even loop of its own: the same
+    sizes, and few lifts or very many. The other half is won, each node by an odd loop of its own."""
+    half = nodes // 2
+    lost = ((int(v == 0) + 1, max(v - 1, 0)) if in_chain else (2, v) for v in range(half))
+    won = ((1, v) for v in range(half, nodes))
+    return "".join(f"{v} {priority} 0 {to};" for v, (priority, to) in enumerate([*lost, *won])).encode()
 
 
 def lifts_without_requests(shimmed):
     """Runs of one size make one number of requests, whatever the number of lifts: a solver asks for none once it is made."""
     words = ["solve", "--player", "1"]
-    made = [shimmed.run(words, chain(2000, loop_first), None) for loop_first in (True, False)]
+    made = [shimmed.run(words, lost_half(2000, in_chain), None) for in_chain in (True, False)]
     lifts = [int(came[1].split()[3]) for came, _ in made]
     requests = [count for _, count in made]
     fault = None
