@@ -1,6 +1,5 @@
 -- That rows begin by the kinds by which they are known.
 use Rattle.std.specs.Prelude.{◌≡◌, ℕ, true, false, List, [], ◌∷◌, Option, Some, None, refl}
-use Rattle.std.proofs.Common.{arith}
 use Rattle.omega_acc.specs.declared.acc_name.Parameter.{Parameter}
 use Rattle.omega_acc.specs.declared.acc_name.Parameter.TheVariants as parameter
 use Rattle.omega_raw.specs.Grammar.{IsConj, IsEdge, IsItem, IsState, conj_row, edge_row, item_row, label_row, optional, parameter_row, sig_row, state_row, value_row}
@@ -32,7 +31,7 @@ value_begun (value.Word bytes) others valid = refl
 edge_begins : (label : Option RawLabelTree) (targets : List ℕ) (others : List Symbol) → IsConj targets
     → FirstIs (λ kind. is_edge kind ≡ true) (optional label_row label (conj_row targets others))
 edge_begins (Some tree) targets others valid = refl
-edge_begins None [] others valid = absurd (omega arith)
+edge_begins None [] others valid = elim valid [ ]
 edge_begins None (first ∷ more) others valid = refl
 
 pub edge_begun : (it : RawEdge) (others : List Symbol) → IsEdge it → FirstIs (λ kind. is_edge kind ≡ true) (edge_row it others)
