@@ -1,0 +1,2 @@
+-- Lemmas of canonical texts.
+pub mod Lines

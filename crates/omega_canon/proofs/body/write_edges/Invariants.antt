@@ -1,0 +1,8 @@
+-- `write_edges`: what stands before this item is written.
+use Rattle.std.proofs.Common.{◌≡◌, ◌∷◌, ◌++◌, [], take}
+use Rattle.std.specs.List.{flat_map}
+use Rattle.omega_canon.specs.BodyText.{edge_line}
+use Rattle.omega_canon.proofs.body.write_edges.Given as goal
+
+abbrev pub invariant-loop-edge : goal.invariant-loop-edge
+invariant-loop-edge l = l.out.items ≡ l.fn.out.items ++ flat_map edge_line (take l.edge-index l.edges)

@@ -1,0 +1,8 @@
+-- `write_states`: what stands before this item is written.
+use Rattle.std.proofs.Common.{◌≡◌, ◌∷◌, ◌++◌, [], take}
+use Rattle.std.specs.List.{flat_map}
+use Rattle.omega_canon.specs.BodyText.{state_text}
+use Rattle.omega_canon.proofs.body.write_states.Given as goal
+
+abbrev pub invariant-loop-state : goal.invariant-loop-state
+invariant-loop-state l = l.out.items ≡ l.fn.out.items ++ flat_map state_text (take l.state-index l.states)

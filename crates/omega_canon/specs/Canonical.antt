@@ -1,0 +1,9 @@
+-- The canonical text of an automaton: a function of the value, so that equal automata have equal texts.
+use Rattle.std.specs.Prelude.{ℕ, List, ◌++◌}
+use Rattle.omega_automaton.specs.Automaton.{Description}
+use Rattle.omega_canon.specs.BodyText.{body_text}
+use Rattle.omega_canon.specs.HeaderText.{header_text}
+
+-- the header and the body
+abbrev pub canonical : Description → List ℕ
+canonical a = header_text a ++ body_text a.defined

@@ -1,0 +1,23 @@
+ghost use Rattle.std.specs.Prelude.{◌≡◌, IfOk, IsOkUnless};
+ghost use Rattle.omega_canon.specs.Canonical.{canonical as text_of};
+
+use crate::body::write_body;
+use crate::header::write_header;
+use omega_automaton::Automaton;
+use omega_text::Refusal;
+use std::alloc::Global;
+
+/// The canonical text of an automaton: the same text for equal automata (docs/formats.md, the canonical text of an
+/// automaton). 60 alone.
+///
+/// Aliases have been replaced, parentheses stand only where an operator needs them, and marks are rising. The cost is
+/// linear in the text.
+pub fn canonical(alloc: Global, automaton: &Automaton) -> Result<Vec<u8>, Refusal>
+    ensures text { IfOk result (λ text. text.items ≡ text_of automaton.now) }
+    ensures memory { IsOkUnless result Refusal.Memory }
+{
+    let mut out = Vec::with_capacity(alloc, 128)?;
+    write_header(automaton, &mut out)?;
+    write_body(automaton.defined(), &mut out)?;
+    Ok(out)
+}

@@ -1,0 +1,9 @@
+//! The canonical text of omega-automata.
+#![tactic(auto)]
+
+mod body;
+mod canonical_text;
+mod header;
+mod parts;
+
+pub use canonical_text::canonical;

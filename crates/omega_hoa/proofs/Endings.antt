@@ -1,0 +1,133 @@
+-- Where the bytes of a stream end.
+use Rattle.std.proofs.Common.{◌≡◌, ℕ, Bool, true, false, Option, Some, None, List, [], ◌∷◌, ◌++◌, length, refl, sym, ap, subst, ◌∙◌, inl, inr, append_assoc, append-nil}
+use Rattle.omega_text.specs.Cut.{Cuts, IsCut}
+use Rattle.omega_text.specs.Lexeme.{Lexeme}
+use Rattle.omega_text.specs.hoa.Format.{hoa_format}
+use Rattle.omega_text.specs.hoa.Pieces.{FaultsBehind, IsFinished, lexeme_in, lexemes_in, settled_lexemes}
+use Rattle.omega_text.specs.declared.hoa.kind.HoaKind.{HoaKind}
+use Rattle.omega_text.specs.declared.hoa.placed.PlacedToken.{PlacedToken}
+use Rattle.omega_text.specs.declared.hoa.placed.Settled.{Settled}
+use Rattle.omega_text.specs.declared.refusal.Refusal.{Refusal}
+use Rattle.omega_text.specs.declared.refusal.Refusal.TheVariants.{Text}
+use Rattle.omega_text.specs.declared.refusal.text.TextFault.{TextFault}
+use Rattle.omega_text.specs.declared.refusal.text.TextFault.TheVariants.{Syntax}
+use Rattle.omega_hoa.specs.Feeding.{IsDivided}
+use Rattle.omega_hoa.specs.Stream.{IsOpen, IsStream, IsStreamFault}
+use Rattle.omega_hoa.specs.dividing.Ending.{EndsNone, IsAtEnd, IsRefusedAtEnd, IsStray, IsWholeStream}
+use Rattle.omega_hoa.specs.declared.item.Item.{Item}
+use Rattle.omega_hoa.proofs.Cutting.{cuts_split}
+use Rattle.omega_hoa.proofs.Dividing.{open_push}
+use Rattle.omega_hoa.proofs.Settling.{fault_behind}
+
+-- the tokens of a text up to its fault or its end
+finished_cuts : (fault : Option TextFault) (seen : List ℕ) (lexemes : List (Lexeme HoaKind)) → IsFinished fault seen lexemes → (end : ℕ) × Cuts hoa_format seen 0 lexemes end
+finished_cuts None seen lexemes cut = (cut.end, cut.cuts)
+finished_cuts (Some fault) seen lexemes faults = (faults.end, faults.cuts)
+
+-- a fault behind divided tokens
+faults_behind : (seen : List ℕ) (lexemes : List (Lexeme HoaKind)) (items : List Item) (begins : ℕ) (inside : Bool) (fault : TextFault) → IsDivided seen lexemes items begins inside
+    → FaultsBehind seen lexemes fault → IsStreamFault seen items (Text fault)
+faults_behind seen lexemes items begins inside fault divided faults = record {
+  front = divided.front;
+  rest = divided.rest;
+  from = faults.end;
+  cuts = subst (λ ls. Cuts hoa_format seen 0 ls faults.end) divided.split faults.cuts;
+  before = divided.before;
+  refused = fault_behind seen divided.rest faults.end inside fault divided.behind faults.faults;
+}
+
+-- a token behind whole segments that is not `HOA:`
+stray_behind : (seen : List ℕ) (lexemes others : List (Lexeme HoaKind)) (items : List Item) (begins to : ℕ) (token : PlacedToken) (refusal : Refusal) → IsDivided seen lexemes items begins false
+    → Cuts hoa_format seen 0 (lexemes ++ lexeme_in seen token ∷ others) to → IsStray token refusal → IsRefusedAtEnd seen items refusal
+stray_behind seen lexemes others items begins to token refusal divided cuts stray =
+    let parts = cuts_split hoa_format seen 0 to lexemes (lexeme_in seen token ∷ others) cuts in
+    elim stray [
+      | inl memory ↦ inl memory
+      | inr other ↦ inr (subst (IsStreamFault seen items) (sym other.1) (record {
+        front = divided.front;
+        rest = divided.rest;
+        from = parts.0;
+        cuts = subst (λ ls. Cuts hoa_format seen 0 ls parts.0) divided.split parts.1;
+        before = divided.before;
+        refused = inl (divided.behind, (lexeme_in seen token, parts.2.0, λ opens. other.0 opens.kind, refl));
+      }))
+    ]
+
+module _ (settled : Settled) (seen : List ℕ) (lexemes : List (Lexeme HoaKind)) (items : List Item) (begins : ℕ) where
+  -- the first token at the end is stray
+  pub first_stray : (token : PlacedToken) (refusal : Refusal) → settled.first ≡ Some token → IsStray token refusal → IsAtEnd settled false seen lexemes items begins → IsRefusedAtEnd seen items refusal
+  first_stray token refusal is stray at_end =
+      let cut = finished_cuts settled.fault seen (lexemes ++ settled_lexemes seen settled) at_end.finished in
+      stray_behind seen lexemes (lexemes_in seen settled.second) items begins cut.0 token refusal at_end.divided
+      (subst (λ first. Cuts hoa_format seen 0 (lexemes ++ (lexemes_in seen first ++ lexemes_in seen settled.second)) cut.0) is cut.1) stray
+
+  -- or the second is
+  pub second_stray : (token : PlacedToken) (refusal : Refusal) → settled.first ≡ None → settled.second ≡ Some token → IsStray token refusal → IsAtEnd settled false seen lexemes items begins
+      → IsRefusedAtEnd seen items refusal
+  second_stray token refusal none is stray at_end =
+      let cut = finished_cuts settled.fault seen (lexemes ++ settled_lexemes seen settled) at_end.finished in
+      stray_behind seen lexemes [] items begins cut.0 token refusal at_end.divided
+      (subst (λ second. Cuts hoa_format seen 0 (lexemes ++ lexemes_in seen second) cut.0) is
+      (subst (λ first. Cuts hoa_format seen 0 (lexemes ++ (lexemes_in seen first ++ lexemes_in seen settled.second)) cut.0) none cut.1)) stray
+
+  -- no token is settled at the end
+  none_settled : settled.first ≡ None → settled.second ≡ None → lexemes ++ settled_lexemes seen settled ≡ lexemes
+  none_settled first second = ap (λ token. lexemes ++ (lexemes_in seen token ++ lexemes_in seen settled.second)) first ∙ ap (λ token. lexemes ++ lexemes_in seen token) second ∙ append-nil lexemes
+
+  -- a fault is
+  pub fault_outside_end : (fault : TextFault) → settled.first ≡ None → settled.second ≡ None → settled.fault ≡ Some fault → IsAtEnd settled false seen lexemes items begins → IsRefusedAtEnd seen items (Text fault)
+  fault_outside_end fault first second is at_end = inr (faults_behind seen lexemes items begins false fault at_end.divided
+      (subst (λ ls. FaultsBehind seen ls fault) (none_settled first second)
+      (subst (λ some. IsFinished some seen (lexemes ++ settled_lexemes seen settled)) is at_end.finished)))
+
+  -- nothing is
+  pub whole_end : settled.first ≡ None → settled.second ≡ None → settled.fault ≡ None → IsAtEnd settled false seen lexemes items begins → IsWholeStream seen items
+  whole_end first second is at_end =
+      let divided = at_end.divided in
+      record {
+        lexemes = lexemes;
+        cut = subst (λ ls. IsCut hoa_format seen ls) (none_settled first second)
+            (subst (λ some. IsFinished some seen (lexemes ++ settled_lexemes seen settled)) is at_end.finished);
+        stream = subst (λ ls. IsStream ls items) (sym (divided.split ∙ ap (λ rest. divided.front ++ rest) divided.behind ∙ append-nil divided.front)) divided.before;
+      }
+
+  -- a segment goes on with a token that ends none
+  open_more : (rest : List (Lexeme HoaKind)) (token : Option PlacedToken) → IsOpen rest → EndsNone token → IsOpen (rest ++ lexemes_in seen token)
+  open_more rest None begun none = subst IsOpen (sym (append-nil rest)) begun
+  open_more rest (Some token) begun none = open_push rest (lexeme_in seen token) begun none
+
+  -- all tokens are divided
+  divided_end : EndsNone settled.first → EndsNone settled.second → IsDivided seen lexemes items begins true → IsDivided seen (lexemes ++ settled_lexemes seen settled) items begins true
+  divided_end first second divided =
+      let one = lexemes_in seen settled.first in
+      let other = lexemes_in seen settled.second in
+      record {
+        front = divided.front;
+        rest = (divided.rest ++ one) ++ other;
+        split = ap (λ ls. ls ++ (one ++ other)) divided.split ∙ append_assoc divided.front divided.rest (one ++ other)
+            ∙ ap (λ ls. divided.front ++ ls) (sym (append_assoc divided.rest one other));
+        before = divided.before;
+        behind = open_more (divided.rest ++ one) settled.second (open_more divided.rest settled.first divided.behind first) second;
+        cuts = divided.cuts;
+      }
+
+  -- a fault inside a segment
+  pub fault_inside_end : (fault : TextFault) → EndsNone settled.first → EndsNone settled.second → settled.fault ≡ Some fault → IsAtEnd settled true seen lexemes items begins → IsRefusedAtEnd seen items (Text fault)
+  fault_inside_end fault first second is at_end = inr (faults_behind seen (lexemes ++ settled_lexemes seen settled) items begins true fault (divided_end first second at_end.divided)
+      (subst (λ some. IsFinished some seen (lexemes ++ settled_lexemes seen settled)) is at_end.finished))
+
+  -- a segment without end
+  pub cut_short : (count : ℕ) → count ≡ length seen → EndsNone settled.first → EndsNone settled.second → settled.fault ≡ None → IsAtEnd settled true seen lexemes items begins
+      → IsRefusedAtEnd seen items (Text (Syntax count))
+  cut_short count all first second is at_end =
+      let ls = lexemes ++ settled_lexemes seen settled in
+      let cut : IsCut hoa_format seen ls = subst (λ some. IsFinished some seen ls) is at_end.finished in
+      let divided = divided_end first second at_end.divided in
+      inr (record {
+        front = divided.front;
+        rest = divided.rest;
+        from = cut.end;
+        cuts = subst (λ tokens. Cuts hoa_format seen 0 tokens cut.end) divided.split cut.cuts;
+        before = divided.before;
+        refused = inr (inl (divided.behind, (cut.rest, all)));
+      })

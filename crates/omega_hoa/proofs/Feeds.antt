@@ -1,0 +1,107 @@
+-- A piece of a stream, behind the bytes before.
+use Rattle.std.proofs.Common.{◌≡◌, ℕ, ◌+◌, ◌-◌, ◌≤◌, ◌<◌, Bool, Option, None, List, [], ◌++◌, length, take, drop, refl, sym, ap, subst, ◌∙◌, inl, inr, arith, append_assoc, append-nil, length-append, length-drop}
+use Rattle.std.proofs.lemmas.List.{drop-drop, drop_at, length-take-le, take-append-drop, take_all, take_at}
+use Rattle.std.specs.Prelude.{MatchOption}
+use Rattle.omega_text.specs.Format.{GoesOneWay}
+use Rattle.omega_text.specs.Lexeme.{Lexeme}
+use Rattle.omega_text.specs.Limits.{most_text}
+use Rattle.omega_text.specs.hoa.Format.{hoa_format}
+use Rattle.omega_text.specs.hoa.scanning.Reading.{HasRead}
+use Rattle.omega_text.specs.declared.hoa.kind.HoaKind.{HoaKind}
+use Rattle.omega_text.specs.declared.refusal.Refusal.{Refusal}
+use Rattle.omega_text.specs.declared.refusal.Refusal.TheVariants.{Memory, Text}
+use Rattle.omega_text.specs.declared.refusal.text.TextFault.TheVariants.{TooLong}
+use Rattle.omega_hoa.specs.Feeding.{Appends, IsDivided, IsFed, IsRefusedSoFar, IsTaken}
+use Rattle.omega_hoa.specs.Kept.{Kept}
+use Rattle.omega_hoa.specs.dividing.Next.{IsProgress, IsRefusedThen}
+use Rattle.omega_hoa.specs.declared.item.Item.{Item}
+use Rattle.omega_hoa.specs.declared.progress.Progress.{Progress}
+use Rattle.omega_hoa.proofs.Cutting.{cuts_forward}
+
+-- where nothing was refused, the bytes were taken
+pub taken_of : (seen : List ℕ) (items : List Item) (kept : Kept) → kept.refused ≡ None → IsFed seen items kept → IsTaken seen items kept
+taken_of seen items kept is fed = subst (λ refused. MatchOption refused (IsTaken seen items kept) (IsRefusedSoFar seen items)) is fed
+
+-- and the other way round
+pub fed_of : (seen : List ℕ) (items : List Item) (kept : Kept) → kept.refused ≡ None → IsTaken seen items kept → IsFed seen items kept
+fed_of seen items kept is taken = subst (λ refused. MatchOption refused (IsTaken seen items kept) (IsRefusedSoFar seen items)) (sym is) taken
+
+-- a piece passes the limit
+pub too_long : (seen : List ℕ) (items : List Item) (kept : Kept) (piece : List ℕ) → IsTaken seen items kept → most_text < kept.begins + length kept.bytes + length piece
+    → IsRefusedSoFar seen items (Text TooLong)
+too_long seen items kept piece taken long = inl (refl, (piece, omega (arith, length-append seen piece, taken.total, long)))
+
+-- whole segments end within the text
+pub divided_within : GoesOneWay hoa_format → (seen : List ℕ) (lexemes : List (Lexeme HoaKind)) (items : List Item) (begins : ℕ) (inside : Bool) → IsDivided seen lexemes items begins inside → begins ≤ length seen
+divided_within exact seen lexemes items begins inside divided =
+    let within = cuts_forward hoa_format exact (seen ++ []) 0 begins divided.front (omega arith) (divided.cuts []) in
+    omega (arith, within.1, ap length (append-nil seen))
+
+module _ (seen : List ℕ) (items : List Item) (kept : Kept) (piece all : List ℕ) (held : ℕ) (taken : IsTaken seen items kept) (is : all ≡ kept.bytes ++ piece) (count : held ≡ length kept.bytes) where
+  -- the bytes before
+  before : take kept.begins seen ++ kept.bytes ≡ seen
+  before = ap (λ bytes. take kept.begins seen ++ bytes) taken.bytes ∙ take-append-drop kept.begins seen
+
+  -- the bytes before those that are kept were read, and these
+  read_before : take kept.begins seen ++ take held all ≡ seen
+  read_before = ap (λ bytes. take kept.begins seen ++ take held bytes) is ∙ ap (λ bytes. take kept.begins seen ++ bytes) (take_at kept.bytes piece held (sym count)) ∙ before
+
+  -- all bytes with the piece
+  pub with_piece : take kept.begins seen ++ all ≡ seen ++ piece
+  with_piece = ap (λ bytes. take kept.begins seen ++ bytes) is ∙ sym (append_assoc (take kept.begins seen) kept.bytes piece) ∙ ap (λ bytes. bytes ++ piece) before
+
+  -- how far they were read
+  pub progress_before : kept.begins + length kept.bytes + length piece ≤ most_text
+      → IsProgress all kept.begins held (record { tokenizer = kept.tokenizer; division = record { begins = kept.begins; inside = kept.inside } }) (take kept.begins seen) items
+  progress_before fits = record {
+    there = sym (length-take-le kept.begins seen (omega (arith, taken.total)));
+    lexemes = taken.lexemes;
+    read = subst (λ bytes. HasRead bytes taken.lexemes kept.tokenizer) (sym read_before) taken.read;
+    divided = subst (λ bytes. IsDivided bytes taken.lexemes items kept.begins kept.inside) (sym read_before) taken.divided;
+    from = omega arith;
+    short = omega (arith, fits, ap length is, length-append kept.bytes piece);
+  }
+
+-- what is kept once all bytes were read
+pub kept_after : GoesOneWay hoa_format → (all : List ℕ) (first : ℕ) (after : Progress) (prior : List ℕ) (items : List Item) (bytes : List ℕ) (refused : Option Refusal)
+    → IsProgress all first (length all) after prior items → bytes ≡ drop (after.division.begins - first) all
+    → IsTaken (prior ++ all) items (record { bytes = bytes; begins = after.division.begins; inside = after.division.inside; tokenizer = after.tokenizer; refused = refused })
+kept_after exact all first after prior items bytes refused progress is =
+    let whole : prior ++ take (length all) all ≡ prior ++ all = ap (λ rest. prior ++ rest) (take_all (length all) all (omega arith)) in
+    let divided = subst (λ seen. IsDivided seen progress.lexemes items after.division.begins after.division.inside) whole progress.divided in
+    let place : first + (after.division.begins - first) ≡ after.division.begins = omega (arith, progress.from) in
+    let rest : bytes ≡ drop after.division.begins (prior ++ all) =
+    is ∙ ap (drop (after.division.begins - first)) (sym (drop_at prior all first (sym progress.there)))
+    ∙ drop-drop (after.division.begins - first) first (prior ++ all) ∙ ap (λ n. drop n (prior ++ all)) place in
+    let within = divided_within exact (prior ++ all) progress.lexemes items after.division.begins after.division.inside divided in
+    record {
+      lexemes = progress.lexemes;
+      read = subst (λ seen. HasRead seen progress.lexemes after.tokenizer) whole progress.read;
+      divided = divided;
+      bytes = rest;
+      total = omega (arith, within, ap length rest, length-drop after.division.begins (prior ++ all));
+      short = omega (arith, length-append prior all, progress.there, progress.short);
+    }
+
+-- the whole segments end within the bytes
+pub begins_within : GoesOneWay hoa_format → (all : List ℕ) (first : ℕ) (after : Progress) (prior : List ℕ) (items : List Item) → IsProgress all first (length all) after prior items
+    → after.division.begins - first ≤ length all
+begins_within exact all first after prior items progress =
+    let within = divided_within exact (prior ++ take (length all) all) progress.lexemes items after.division.begins after.division.inside progress.divided in
+    omega (arith, within, length-append prior (take (length all) all), length-take-le (length all) all (omega arith), progress.there)
+
+-- a refusal other than for want of memory is one for good
+pub refused_after : (seen : List ℕ) (old new items : List Item) (refusal : Refusal) → (refusal ≡ Memory → ⊥) → IsRefusedThen seen old new items refusal → Appends old new items (λ all. IsRefusedSoFar seen all refusal)
+refused_after seen old new items refusal other refused = elim refused [
+  | inl memory ↦ absurd (other memory)
+  | inr more ↦ record { added = more.added; is = more.is; holds = inr more.holds }
+]
+
+-- a piece that is within what is left is within the limit
+pub fits_of : (seen : List ℕ) (items : List Item) (kept : Kept) (held count : ℕ) → IsTaken seen items kept → held ≡ length kept.bytes → count ≤ most_text - (kept.begins + held)
+    → kept.begins + length kept.bytes + count ≤ most_text
+fits_of seen items kept held count taken is fits = omega (arith, taken.total, taken.short, is, fits)
+
+-- and one that is not passes it
+pub long_of : (kept : Kept) (held count : ℕ) → held ≡ length kept.bytes → most_text - (kept.begins + held) < count → most_text < kept.begins + length kept.bytes + count
+long_of kept held count is long = omega (arith, is, long)

@@ -1,0 +1,10 @@
+-- The tokens so far have this outline, up to where the next is looked for.
+use Rattle.std.proofs.Common.{◌-◌, ◌≤◌, length}
+use Rattle.omega_hoa.specs.outlines.Outline.{HasOutlineTo}
+use Rattle.omega_hoa.proofs.outline.outline_of.Given as goal
+
+abbrev pub invariant-loop-token : goal.invariant-loop-token
+invariant-loop-token l = record { so_far : HasOutlineTo l.source l.at l.outline; inside : l.at ≤ length l.source }
+
+abbrev pub decreases-loop-token : goal.decreases-loop-token
+decreases-loop-token l = length l.source - l.at

@@ -1,0 +1,38 @@
+-- Where the stream ends, its bytes are those of a whole stream, or are refused.
+use Rattle.std.proofs.Common.{◌≡◌, ◌+◌, length, sym, subst, arith}
+use Rattle.omega_hoa.specs.Feeding.{IsDivided, IsFed, IsTaken}
+use Rattle.omega_hoa.specs.Kept.{Kept}
+use Rattle.omega_hoa.proofs.Feeds.{taken_of}
+use Rattle.omega_hoa.proofs.Ones.{err_says, ok_says}
+use Rattle.omega_hoa.proofs.stream.Stream.finish.Goals as goal
+
+pub returns-then-self-clause-refused : goal.returns-then-self-clause-refused
+returns-then-self-clause-refused c = λ none seen items fed.
+    let kept : Kept = record { bytes = c.self.inside.bytes.items; begins = c.self.inside.begins; inside = c.self.inside.inside; tokenizer = c.self.inside.tokenizer; refused = c.self.inside.refused } in
+    let taken : IsTaken seen items kept = taken_of seen items kept c.in-None.is (subst (IsFed seen items) (sym c.self.view_is) fed) in
+    let all : kept.begins + c.len.result ≡ length seen = omega (arith, taken.total, c.len.ensures, c.self.inside.bytes.ok.0) in
+    c.end_inside.ensures seen taken.lexemes items kept.begins all (record {
+      divided = subst (IsDivided seen taken.lexemes items kept.begins) c.if-self.true taken.divided;
+      finished = c.finish-settled.ensures seen taken.lexemes taken.read;
+    })
+
+pub returns-clause-ok : goal.returns-clause-ok
+returns-clause-ok c = ok_says c.end_outside.result _ _ (λ value ends seen items fed.
+    let kept : Kept = record { bytes = c.self.inside.bytes.items; begins = c.self.inside.begins; inside = c.self.inside.inside; tokenizer = c.self.inside.tokenizer; refused = c.self.inside.refused } in
+    let taken : IsTaken seen items kept = taken_of seen items kept c.in-None.is (subst (IsFed seen items) (sym c.self.view_is) fed) in
+    let whole = ends seen taken.lexemes items kept.begins (record {
+      divided = subst (IsDivided seen taken.lexemes items kept.begins) c.if-self.false taken.divided;
+      finished = c.finish-settled.ensures seen taken.lexemes taken.read;
+    }) in
+    record { short = taken.short; lexemes = whole.lexemes; cut = whole.cut; stream = whole.stream })
+    c.end_outside.ensures.ok
+
+pub returns-clause-refused : goal.returns-clause-refused
+returns-clause-refused c = λ none. err_says c.end_outside.result _ _ (λ refusal ends seen items fed.
+    let kept : Kept = record { bytes = c.self.inside.bytes.items; begins = c.self.inside.begins; inside = c.self.inside.inside; tokenizer = c.self.inside.tokenizer; refused = c.self.inside.refused } in
+    let taken : IsTaken seen items kept = taken_of seen items kept c.in-None.is (subst (IsFed seen items) (sym c.self.view_is) fed) in
+    ends seen taken.lexemes items kept.begins (record {
+      divided = subst (IsDivided seen taken.lexemes items kept.begins) c.if-self.false taken.divided;
+      finished = c.finish-settled.ensures seen taken.lexemes taken.read;
+    }))
+    c.end_outside.ensures.refused

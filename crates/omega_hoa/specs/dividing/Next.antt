@@ -1,0 +1,97 @@
+-- The next tokens of a stream, and the bytes of which they are read.
+use Rattle.std.specs.Prelude.{◌≡◌, ℕ, ◌+◌, ◌≤◌, ◌⊎◌, Option, List, ◌++◌, length, take, drop}
+use Rattle.omega_text.specs.Cut.{Cuts}
+use Rattle.omega_text.specs.Lexeme.{Lexeme}
+use Rattle.omega_text.specs.Limits.{most_text}
+use Rattle.omega_text.specs.hoa.Format.{hoa_format}
+use Rattle.omega_text.specs.hoa.Pieces.{IsSettled, lexemes_in, settled_lexemes}
+use Rattle.omega_text.specs.hoa.scanning.Reading.{HasRead}
+use Rattle.omega_text.specs.declared.hoa.kind.HoaKind.{HoaKind}
+use Rattle.omega_text.specs.declared.hoa.placed.PlacedToken.{PlacedToken}
+use Rattle.omega_text.specs.declared.hoa.placed.Settled.{Settled}
+use Rattle.omega_text.specs.declared.refusal.Refusal.{Refusal}
+use Rattle.omega_text.specs.declared.refusal.Refusal.TheVariants.{Memory}
+use Rattle.omega_hoa.specs.Feeding.{Appends, IsDivided}
+use Rattle.omega_hoa.specs.Stream.{IsStreamFault}
+use Rattle.omega_hoa.specs.declared.division.Division.{Division}
+use Rattle.omega_hoa.specs.declared.item.Item.{Item}
+use Rattle.omega_hoa.specs.declared.progress.Progress.{Progress}
+
+-- the bytes are those of a text from a place on, as far as it was seen and perhaps further
+pub record IsWindow (bytes : List ℕ) (first : ℕ) (seen : List ℕ) : Type 0 where
+  pub behind : List ℕ
+  pub is : bytes ≡ drop first (seen ++ behind)
+  pub within : length seen ≤ first + length bytes
+
+-- behind divided tokens stands this one, if it is some, in a text of which the bytes are a window
+pub record IsNext (bytes : List ℕ) (first : ℕ) (division : Division) (token : Option PlacedToken) (seen : List ℕ) (lexemes : List (Lexeme HoaKind)) (items : List Item) : Type 0 where
+  pub divided : IsDivided seen lexemes items division.begins division.inside
+  pub cuts : (more : List ℕ) → (end : ℕ) × Cuts hoa_format (seen ++ more) 0 (lexemes ++ lexemes_in seen token) end
+  pub window : IsWindow bytes first seen
+  pub from : first ≤ division.begins
+
+-- some token is the next
+abbrev pub IsNextSome : List ℕ → ℕ → Division → Option PlacedToken → Type 0
+IsNextSome bytes first division token = (seen : List ℕ) × (lexemes : List (Lexeme HoaKind)) × (items : List Item) × IsNext bytes first division token seen lexemes items
+
+-- a text is refused however it goes on, or memory is
+abbrev pub IsRefusedNow : List ℕ → List Item → Refusal → Type 0
+IsRefusedNow seen items refusal = (refusal ≡ Memory) ⊎ ((more : List ℕ) → IsStreamFault (seen ++ more) items refusal)
+
+-- the token was taken, and the item of a segment that it ends appended
+abbrev pub IsTakenAs : List ℕ → ℕ → Division → Option PlacedToken → (old new : List Item) → Division → Type 0
+IsTakenAs bytes first division token old new after = (seen : List ℕ) (lexemes : List (Lexeme HoaKind)) (items : List Item) → IsNext bytes first division token seen lexemes items
+    → Appends old new items (λ all. IsDivided seen (lexemes ++ lexemes_in seen token) all after.begins after.inside)
+
+-- the token refuses the text
+abbrev pub IsRefusedAt : List ℕ → ℕ → Division → Option PlacedToken → Refusal → Type 0
+IsRefusedAt bytes first division token refusal = (seen : List ℕ) (lexemes : List (Lexeme HoaKind)) (items : List Item) → IsNext bytes first division token seen lexemes items
+    → IsRefusedNow seen items refusal
+
+-- behind divided tokens stand those that a byte settles
+pub record IsNextSettled (bytes : List ℕ) (first : ℕ) (division : Division) (settled : Settled) (seen : List ℕ) (lexemes : List (Lexeme HoaKind)) (items : List Item) : Type 0 where
+  pub divided : IsDivided seen lexemes items division.begins division.inside
+  pub settles : IsSettled settled.fault seen (lexemes ++ settled_lexemes seen settled)
+  pub window : IsWindow bytes first seen
+  pub from : first ≤ division.begins
+
+-- a byte settles some tokens
+abbrev pub IsNextSettledSome : List ℕ → ℕ → Division → Settled → Type 0
+IsNextSettledSome bytes first division settled = (seen : List ℕ) × (lexemes : List (Lexeme HoaKind)) × (items : List Item) × IsNextSettled bytes first division settled seen lexemes items
+
+-- they were taken, and the items of segments that they end appended
+abbrev pub AreTakenAs : List ℕ → ℕ → Division → Settled → (old new : List Item) → Division → Type 0
+AreTakenAs bytes first division settled old new after = (seen : List ℕ) (lexemes : List (Lexeme HoaKind)) (items : List Item) → IsNextSettled bytes first division settled seen lexemes items
+    → Appends old new items (λ all. IsDivided seen (lexemes ++ settled_lexemes seen settled) all after.begins after.inside)
+
+-- memory was refused, or the text is, behind the items that were appended
+abbrev pub IsRefusedThen : List ℕ → (old new items : List Item) → Refusal → Type 0
+IsRefusedThen seen old new items refusal = (refusal ≡ Memory) ⊎ Appends old new items (λ all. (more : List ℕ) → IsStreamFault (seen ++ more) all refusal)
+
+-- they refuse the text
+abbrev pub AreRefusedAt : List ℕ → ℕ → Division → Settled → (old new : List Item) → Refusal → Type 0
+AreRefusedAt bytes first division settled old new refusal = (seen : List ℕ) (lexemes : List (Lexeme HoaKind)) (items : List Item) → IsNextSettled bytes first division settled seen lexemes items
+    → IsRefusedThen seen old new items refusal
+
+-- the bytes were read up to a place, behind bytes before them
+pub record IsProgress (bytes : List ℕ) (first place : ℕ) (progress : Progress) (prior : List ℕ) (items : List Item) : Type 0 where
+  pub there : first ≡ length prior
+  pub lexemes : List (Lexeme HoaKind)
+  pub read : HasRead (prior ++ take place bytes) lexemes progress.tokenizer
+  pub divided : IsDivided (prior ++ take place bytes) lexemes items progress.division.begins progress.division.inside
+  pub from : first ≤ progress.division.begins
+  pub short : first + length bytes ≤ most_text
+
+-- bytes were read up to a place
+abbrev pub IsProgressSome : List ℕ → ℕ → ℕ → Progress → Type 0
+IsProgressSome bytes first place progress = (prior : List ℕ) × (items : List Item) × IsProgress bytes first place progress prior items
+
+-- the bytes from a place up to another were read, and the items of their segments appended
+abbrev pub IsReadAs : List ℕ → ℕ → (from to : ℕ) → Progress → (old new : List Item) → Progress → Type 0
+IsReadAs bytes first from to progress old new after = (prior : List ℕ) (items : List Item) → IsProgress bytes first from progress prior items
+    → Appends old new items (IsProgress bytes first to after prior)
+
+-- the bytes from a place on refuse the text
+abbrev pub IsRefusedFrom : List ℕ → (first from : ℕ) → Progress → (old new : List Item) → Refusal → Type 0
+IsRefusedFrom bytes first from progress old new refusal = (prior : List ℕ) (items : List Item) → IsProgress bytes first from progress prior items
+    → IsRefusedThen (prior ++ bytes) old new items refusal

@@ -1,0 +1,76 @@
+ghost use Rattle.std.specs.Prelude.{◌≡◌, ◌≤◌, length, IfErr, IfOk};
+ghost use Rattle.omega_text.specs.Cases.{or_memory};
+ghost use Rattle.omega_text.specs.Limits.{most_text};
+ghost use Rattle.omega_text.specs.declared.refusal.Refusal.TheVariants.{Text};
+ghost use Rattle.omega_text.specs.declared.refusal.text.TextFault.TheVariants.{Syntax};
+ghost use Rattle.omega_hoa.specs.Alone.{IsAutomatonRefusal, IsAutomatonText};
+ghost use Rattle.omega_hoa.specs.outlines.Outline.{HasFollowed, HasWhole};
+
+use crate::automaton::Automaton;
+use crate::outline::{Outline, outline_of};
+use crate::segment::read_segment;
+use omega_text::{HoaKind, MOST_TEXT, Refusal, TextFault, TokenKind};
+use std::alloc::Global;
+
+/// The automaton of a text that holds one segment, ended by `--END--`. 1 to 4, 20 to 33 or 60: the refusal of the text, or
+/// memory.
+///
+/// A fault of tokens comes first, wherever it stands; then 3: at the first token if that is not `HOA:`, at the length of a text
+/// without the end of a segment, at an `--ABORT--` that ends it, inside the segment, at a token behind it. What the segment
+/// means comes last. The bytes are looked at once, those of the segment once more.
+pub fn read_one(alloc: Global, bytes: &[u8]) -> Result<Automaton, Refusal>
+    ensures automaton { IfOk result (IsAutomatonText bytes.now) }
+    ensures refused { IfErr result (or_memory (IsAutomatonRefusal bytes.now)) }
+{
+    if bytes.len() > MOST_TEXT {
+        return Err(Refusal::Text(TextFault::TooLong));
+    }
+    let outline = outline_of(bytes)?;
+    match outline {
+        Outline::Whole { end } => read_whole(alloc, bytes, end),
+        Outline::Followed { end, next } => Err(read_followed(alloc, bytes, end, next)),
+        Outline::Empty => Err(syntax_fault(bytes.len())),
+        Outline::Open => Err(syntax_fault(bytes.len())),
+        Outline::Stray { at } => Err(syntax_fault(at)),
+        Outline::Aborted { at } => Err(syntax_fault(at)),
+    }
+}
+
+/// The automaton of a text that is one segment, up to a place.
+fn read_whole(alloc: Global, bytes: &[u8], end: usize) -> Result<Automaton, Refusal>
+    requires short { length bytes.now ≤ most_text }
+    requires whole { HasWhole bytes.now end }
+    ensures automaton { IfOk result (IsAutomatonText bytes.now) }
+    ensures refused { IfErr result (or_memory (IsAutomatonRefusal bytes.now)) }
+{
+    HoaKind::goes_on_one_way();
+    read_segment(alloc, &bytes[..end], 0)
+}
+
+/// The refusal of a text that is one segment, up to a place, and tokens behind it, the first at another place.
+fn read_followed(alloc: Global, bytes: &[u8], end: usize, next: usize) -> Refusal
+    requires short { length bytes.now ≤ most_text }
+    requires followed { HasFollowed bytes.now end next }
+    ensures { or_memory (IsAutomatonRefusal bytes.now) result }
+{
+    HoaKind::goes_on_one_way();
+    match read_segment(alloc, &bytes[..end], 0) {
+        Ok(_automaton) => syntax_fault(next),
+        Err(refusal) => match refusal {
+            Refusal::Memory => Refusal::Memory,
+            other => {
+                if other.number() == 3 {
+                    other
+                } else {
+                    syntax_fault(next)
+                }
+            }
+        },
+    }
+}
+
+fn syntax_fault(at: usize) -> Refusal
+    ensures { result ≡ Text (Syntax at) }
+{
+    Refusal::Text(TextFault::Syntax { at })
+}

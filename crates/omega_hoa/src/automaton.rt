@@ -1,0 +1,5 @@
+/// An omega-automaton.
+#[derive(Debug, Drop)]
+pub struct Automaton {
+    never: std::convert::Infallible,
+}

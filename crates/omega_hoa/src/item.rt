@@ -1,0 +1,10 @@
+use crate::automaton::Automaton;
+
+/// What a segment of a stream gives.
+#[derive(Debug, Drop)]
+pub enum Item {
+    /// The automaton of a segment that ends with `--END--`.
+    Automaton(Automaton),
+    /// A segment that ends with `--ABORT--`: nothing of it is kept.
+    Aborted,
+}

@@ -1,0 +1,84 @@
+ghost use Rattle.std.specs.Prelude.{[], ◌∷◌, ◌++◌, List, IfErr, IfOk};
+ghost use Rattle.omega_text.specs.Cut.{IsFault};
+ghost use Rattle.omega_text.specs.Lexeme.{Lexeme, lexeme_of};
+ghost use Rattle.omega_text.specs.hoa.Format.{hoa_format};
+ghost use Rattle.omega_text.specs.declared.hoa.kind.HoaKind.{HoaKind};
+ghost use Rattle.omega_hoa.specs.Stream.{IsOpen};
+ghost use Rattle.omega_hoa.specs.outlines.Outline.{HasOutline, IsOutline};
+
+use crate::division::opens;
+use omega_text::{HoaKind, TextFault, Token, next_hoa_token};
+
+/// What the tokens of a text are that is to hold one segment, ended by `--END--`, seen from outside.
+#[derive(Clone, Copy, Debug, PartialEq, Eq)]
+pub(crate) enum Outline {
+    /// There is none.
+    Empty,
+    /// The first, at this place, is another than `HOA:`.
+    Stray { at: usize },
+    /// A segment without end.
+    Open,
+    /// A segment that `--ABORT--` ends, at this place.
+    Aborted { at: usize },
+    /// A segment that ends with `--END--`, up to this place.
+    Whole { end: usize },
+    /// The same, and behind it a token at this place.
+    Followed { end: usize, next: usize },
+}
+
+/// What the tokens of a text are: 1 or 2 at the least place of a fault. The bytes are looked at once.
+pub(crate) fn outline_of(source: &[u8]) -> Result<Outline, TextFault>
+    ensures outline { IfOk result (HasOutline source.now) }
+    ensures fault { IfErr result (IsFault hoa_format source.now) }
+{
+    let mut outline = Outline::Empty;
+    let mut at = 0;
+    while let Some(token) = next_hoa_token(source, at)? {
+        at = token.span.end;
+        outline = with_token(outline, &token);
+    }
+    Ok(outline)
+}
+
+/// The outline of tokens with one more.
+fn with_token(outline: Outline, token: &Token<'_, HoaKind>) -> Outline
+    ensures { (lexemes : List (Lexeme HoaKind)) → IsOutline lexemes outline → IsOutline (lexemes ++ lexeme_of token.now ∷ []) result }
+{
+    match outline {
+        Outline::Empty => begun(token),
+        Outline::Open => gone_on(token),
+        Outline::Whole { end } => Outline::Followed {
+            end,
+            next: token.span.start,
+        },
+        other => other,
+    }
+}
+
+/// Behind no token.
+fn begun(token: &Token<'_, HoaKind>) -> Outline
+    ensures { IsOutline (lexeme_of token.now ∷ []) result }
+{
+    if opens(token.kind, token.text) {
+        Outline::Open
+    } else {
+        Outline::Stray {
+            at: token.span.start,
+        }
+    }
+}
+
+/// Inside a segment.
+fn gone_on(token: &Token<'_, HoaKind>) -> Outline
+    ensures { (lexemes : List (Lexeme HoaKind)) → IsOpen lexemes → IsOutline (lexemes ++ lexeme_of token.now ∷ []) result }
+{
+    match token.kind {
+        HoaKind::Abort => Outline::Aborted {
+            at: token.span.start,
+        },
+        HoaKind::End => Outline::Whole {
+            end: token.span.end,
+        },
+        _ => Outline::Open,
+    }
+}

@@ -1,0 +1,194 @@
+ghost use Rattle.std.specs.Prelude.{◌≡◌, ◌+◌, ◌<◌, ◌≤◌, ◌++◌, [], List, ℕ, None, Some, Err, drop, length, vec_len, IfErr, IfOk, IfSome, OnOk, ◌⊎◌};
+ghost use Rattle.omega_text.specs.Limits.{most_text};
+ghost use Rattle.omega_text.specs.declared.refusal.Refusal.TheVariants.{Memory, Text};
+ghost use Rattle.omega_text.specs.declared.refusal.text.TextFault.TheVariants.{TooLong};
+ghost use Rattle.omega_hoa.specs.declared.item.Item.{Item};
+ghost use Rattle.omega_hoa.specs.Stream.{IsStreamText};
+ghost use Rattle.omega_hoa.specs.dividing.Ending.{IsRefusedAtEnd};
+ghost use Rattle.omega_hoa.specs.dividing.Next.{IsProgressSome, IsReadAs, IsRefusedFrom, IsRefusedThen};
+
+use crate::division::Division;
+use crate::ending::{end_inside, end_outside};
+use crate::item::Item;
+use crate::progress::{Progress, read_bytes};
+use omega_text::{HoaKind, HoaTokenizer, MOST_TEXT, Refusal, TextFault, TokenKind};
+use std::alloc::Global;
+use std::marker::Model;
+
+/// Reads a stream of automata that comes in pieces, cut anywhere.
+///
+/// It keeps the bytes behind the last whole segment, where they begin, how they are cut so far, and a refusal once there is one.
+#[derive(Drop)]
+pub struct Stream {
+    bytes: Vec<u8>,
+    begins: usize,
+    inside: bool,
+    tokenizer: HoaTokenizer,
+    refused: Option<Refusal>,
+}
+
+impl Model for Stream {
+    ghost use Rattle.omega_hoa.specs.Kept.{Kept};
+    ghost use Rattle.omega_hoa.specs.Feeding.{IsFedSome};
+
+    ghost Value = { Kept };
+
+    ghost view = { λ s. record { bytes = s.bytes.items; begins = s.begins; inside = s.inside; tokenizer = s.tokenizer; refused = s.refused } };
+
+    ghost invariant = { λ s. IsFedSome (record { bytes = s.bytes.items; begins = s.begins; inside = s.inside; tokenizer = s.tokenizer; refused = s.refused }) };
+}
+
+impl Stream {
+    ghost use Rattle.omega_hoa.specs.Feeding.{Appends, IsFed};
+
+    /// Before the first byte. No memory is taken.
+    pub fn new(alloc: Global) -> Stream
+        ensures fed { IsFed [] [] result }
+        ensures unrefused { result.refused ≡ None }
+        ensures empty { result.bytes ≡ [] }
+        ensures start { result.begins ≡ 0 }
+    {
+        Stream {
+            bytes: Vec::new(alloc),
+            begins: 0,
+            inside: false,
+            tokenizer: HoaTokenizer::new(),
+            refused: None,
+        }
+    }
+
+    /// Reads the next piece, and appends the items of the segments that end in it. 1 to 4, 20 to 33 or 60.
+    ///
+    /// A piece that would bring the bytes above `MOST_TEXT` is refused 4, and nothing of it is taken. After 60 the stream and
+    /// `out` are as before, and the piece may be fed again. After any other refusal the items before it stand in `out`, and
+    /// each later call answers it.
+    ///
+    /// A piece is kept until its segments have ended. Each byte is looked at once, those of a segment that ends once more.
+    pub fn feed(&mut self, piece: &[u8], out: &mut Vec<Item>) -> Result<(), Refusal>
+        ensures refused_before { IfSome self.old.refused (λ refusal. (result ≡ Err refusal) × (self.new ≡ self.old) × (out.new.items ≡ out.old.items)) }
+        ensures too_long { self.old.refused ≡ None → most_text < self.old.begins + length self.old.bytes + length piece.now
+            → (result ≡ Err (Text TooLong)) × (self.new ≡ record self.old { refused = Some (Text TooLong) }) × (out.new.items ≡ out.old.items) }
+        ensures memory { result ≡ Err Memory → (self.new ≡ self.old) × (out.new.items ≡ out.old.items) }
+        ensures taken { self.old.refused ≡ None → self.old.begins + length self.old.bytes + length piece.now ≤ most_text → (result ≡ Err Memory → ⊥)
+            → (seen : List ℕ) (items : List Item) → IsFed seen items self.old → Appends out.old.items out.new.items items (λ all. IsFed (seen ++ piece.now) all self.new) }
+        ensures refused { self.old.refused ≡ None → self.old.begins + length self.old.bytes + length piece.now ≤ most_text
+            → IfErr result (λ refusal. (seen : List ℕ) (items : List Item) → IsFed seen items self.old → IsRefusedThen (seen ++ piece.now) out.old.items out.new.items items refusal) }
+        ensures ok { OnOk result (self.new.refused ≡ None) }
+        ensures kept { IfErr result (λ refusal. (refusal ≡ Memory) ⊎ (self.new.refused ≡ Some refusal)) }
+    {
+        match self.refused {
+            Some(refusal) => Err(refusal),
+            None => self.feed_sound(piece, out),
+        }
+    }
+
+    /// Ends the stream. 1, 2, 3 or the refusal that is kept. No memory is taken.
+    ///
+    /// A fault of tokens that the end settles comes first; then 3 at a token outside segments that the end settles, or at the
+    /// length of the bytes inside one.
+    pub fn finish(self) -> Result<(), Refusal>
+        ensures refused_before { IfSome self.refused (λ refusal. result ≡ Err refusal) }
+        ensures ok { OnOk result ((seen : List ℕ) (items : List Item) → IsFed seen items self → IsStreamText seen items) }
+        ensures refused { self.refused ≡ None → IfErr result (λ refusal. (seen : List ℕ) (items : List Item) → IsFed seen items self → IsRefusedAtEnd seen items refusal) }
+    {
+        match self.refused {
+            Some(refusal) => Err(refusal),
+            None => {
+                let settled = self.tokenizer.finish();
+                if self.inside {
+                    Err(end_inside(settled, self.begins + self.bytes.len()))
+                } else {
+                    end_outside(settled)
+                }
+            }
+        }
+    }
+
+    /// The same where nothing was refused.
+    fn feed_sound(&mut self, piece: &[u8], out: &mut Vec<Item>) -> Result<(), Refusal>
+        requires { self.old.refused ≡ None }
+        ensures too_long { most_text < self.old.begins + length self.old.bytes + length piece.now
+            → (result ≡ Err (Text TooLong)) × (self.new ≡ record self.old { refused = Some (Text TooLong) }) × (out.new.items ≡ out.old.items) }
+        ensures memory { result ≡ Err Memory → (self.new ≡ self.old) × (out.new.items ≡ out.old.items) }
+        ensures taken { self.old.begins + length self.old.bytes + length piece.now ≤ most_text → (result ≡ Err Memory → ⊥)
+            → (seen : List ℕ) (items : List Item) → IsFed seen items self.old → Appends out.old.items out.new.items items (λ all. IsFed (seen ++ piece.now) all self.new) }
+        ensures refused { self.old.begins + length self.old.bytes + length piece.now ≤ most_text
+            → IfErr result (λ refusal. (seen : List ℕ) (items : List Item) → IsFed seen items self.old → IsRefusedThen (seen ++ piece.now) out.old.items out.new.items items refusal) }
+        ensures ok { OnOk result (self.new.refused ≡ None) }
+        ensures kept { IfErr result (λ refusal. (refusal ≡ Memory) ⊎ (self.new.refused ≡ Some refusal)) }
+    {
+        HoaKind::goes_on_one_way();
+        let held = self.bytes.len();
+        if piece.len() > MOST_TEXT - (self.begins + held) {
+            let refusal = Refusal::Text(TextFault::TooLong);
+            self.refused = Some(refusal);
+            return Err(refusal);
+        }
+        let alloc = *self.bytes.allocator();
+        let progress = Progress {
+            tokenizer: self.tokenizer,
+            division: Division {
+                begins: self.begins,
+                inside: self.inside,
+            },
+        };
+        self.bytes.extend_from_slice(piece)?;
+        match read_piece(
+            alloc,
+            self.bytes.as_slice(),
+            self.begins,
+            held,
+            progress,
+            out,
+        ) {
+            Ok(after) => {
+                drop_front(&mut self.bytes, after.division.begins - self.begins);
+                self.begins = after.division.begins;
+                self.inside = after.division.inside;
+                self.tokenizer = after.tokenizer;
+                Ok(())
+            }
+            Err(refusal) => match refusal {
+                Refusal::Memory => {
+                    self.bytes.truncate(held);
+                    Err(Refusal::Memory)
+                }
+                other => {
+                    self.refused = Some(other);
+                    Err(other)
+                }
+            },
+        }
+    }
+}
+
+/// Reads the bytes from a place to their end, as `read_bytes` does; where memory is refused nothing is pushed.
+fn read_piece(
+    alloc: Global,
+    bytes: &[u8],
+    first: usize,
+    from: usize,
+    progress: Progress,
+    out: &mut Vec<Item>,
+) -> Result<Progress, Refusal>
+    requires within { from ≤ length bytes.now }
+    requires so_far { IsProgressSome bytes.now first from progress }
+    ensures read { IfOk result (IsReadAs bytes.now first from (length bytes.now) progress out.old.items out.new.items) }
+    ensures refused { IfErr result (IsRefusedFrom bytes.now first from progress out.old.items out.new.items) }
+    ensures memory { result ≡ Err Memory → out.new.items ≡ out.old.items }
+{
+    let held = out.len();
+    let answer = read_bytes(alloc, bytes, first, from, progress, out);
+    if let Err(Refusal::Memory) = answer {
+        out.truncate(held);
+    }
+    answer
+}
+
+/// The bytes without so many at their front.
+fn drop_front(bytes: &mut Vec<u8>, count: usize)
+    requires { count ≤ vec_len bytes.old }
+    ensures { bytes.new.items ≡ drop count bytes.old.items }
+{
+    let _front = bytes.drain(..count);
+}

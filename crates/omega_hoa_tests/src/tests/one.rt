@@ -1,0 +1,53 @@
+use super::{Told, told};
+use omega_hoa::{read_one, read_stream};
+use std::test::Fail;
+
+// Texts, and what each is answered as that of one automaton.
+const ALONE: [(&str, Told); 12] = [
+    ("", (3, Some(0))),
+    ("  ", (3, Some(2))),
+    ("x", (3, Some(0))),
+    (" ( HOA: v1 --END--", (3, Some(1))),
+    ("HOA: v1", (3, Some(7))),
+    ("HOA: v1 --BODY-- ", (3, Some(17))),
+    ("HOA: v1 --ABORT--", (3, Some(8))),
+    ("HOA: v1 --ABORT-- --END--", (3, Some(8))),
+    (
+        "HOA: ( & 7 nonsense --ABORT-- /*a/*b*/c*/ HOA: v1 Acceptance: 0 t --BODY-- --END--",
+        (3, Some(20)),
+    ),
+    ("x $", (1, Some(2))),
+    ("HOA: v2 --BODY-- --END-- $", (1, Some(25))),
+    ("HOA: 00 $", (2, Some(5))),
+];
+
+#[test]
+fn texts_of_no_automaton_are_refused(rt: HostRuntime) {
+    for (text, want) in ALONE.iter() {
+        assert_eq!(rt; told(read_one(rt.alloc(), text.as_bytes())), *want);
+    }
+}
+
+// Texts, and what each is answered as that of a stream.
+const STREAMS: [(&str, Told); 12] = [
+    ("", (0, None)),
+    (" /* */ ", (0, None)),
+    ("HOA: --ABORT--", (0, None)),
+    ("HOA: HOA: State: ( --ABORT--HOA: --ABORT--", (0, None)),
+    ("x", (3, Some(0))),
+    ("HOA: --ABORT-- x $", (3, Some(15))),
+    ("HOA: --ABORT-- $ x", (1, Some(15))),
+    ("HOA: x $ --ABORT--", (1, Some(7))),
+    ("HOA: 01 --ABORT-- x", (2, Some(5))),
+    ("HOA: \"", (1, Some(5))),
+    ("HOA: x", (3, Some(6))),
+    ("--END--", (3, Some(0))),
+];
+
+#[test]
+fn streams_are_read(rt: HostRuntime) -> Result<(), Fail> {
+    for (text, want) in STREAMS.iter() {
+        assert_eq!(rt; told(read_stream(rt.alloc(), text.as_bytes())), *want);
+    }
+    Ok(())
+}
