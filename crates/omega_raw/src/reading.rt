@@ -1,9 +1,7 @@
 //! Automata read from tokens.
 
-ghost use Rattle.std.specs.Prelude.{◌≡◌, IfErr, IfOk};
-ghost use Rattle.omega_raw.specs.Grammar.{ReadsAutomaton, ReadsNone};
-ghost use Rattle.omega_raw.specs.Symbols.{Tokens};
-ghost use Rattle.omega_raw.specs.declared.raw_automaton.RawAutomaton.{RawAutomaton as Raw};
+ghost use Rattle.std.specs.Prelude.{IfErr, IfOk};
+ghost use Rattle.omega_raw.specs.Grammar.{ReadsAutomaton, ReadsNoOther, ReadsNone};
 ghost use Rattle.omega_acc.specs.Symbols.{IsUnread};
 
 use crate::body::State;
@@ -24,7 +22,7 @@ pub fn read_raw<'a, S: TokenSource<'a, HoaKind>>(
     source: &mut S,
 ) -> Result<RawAutomaton, Refusal>
     ensures ok { IfOk result (λ raw. ReadsAutomaton (S.left source.old) raw (S.left source.new)) }
-    ensures only { IfOk result (λ raw. (other : Raw) (rest : Tokens) → ReadsAutomaton (S.left source.old) other rest → (raw ≡ other) × (S.left source.new ≡ rest)) }
+    ensures only { IfOk result (λ raw. ReadsNoOther (S.left source.old) raw (S.left source.new)) }
     ensures err { IfErr result (IsUnread (ReadsNone (S.left source.old))) }
 {
     take_header(source, b"HOA")?;

@@ -22,7 +22,7 @@ abbrev behind_version : RawAutomaton → List Symbol
 behind_version raw = each item_row raw.items (behind_items raw)
 
 pub raw_one : LabelsAreOne → FormulasAreOne → RawsAreOne
-raw_one labels formulas tokens x y rest left reads other =
+raw_one labels formulas tokens x rest reads y left other =
     let a = token_one (header _) (header _) tokens (word x.version ∷ behind_version x) (word y.version ∷ behind_version y) rest left tt tt reads.spells other.spells in
     let b = token_one (word x.version) (word y.version) a.1.middle (behind_version x) (behind_version y) rest left tt tt a.1.one a.1.other in
     let c = each_one IsItem item_row is_header EndsItem item_part (item_one labels formulas) b.1.middle x.items y.items (behind_items x) (behind_items y) rest left reads.items other.items (refl, tt) (refl, tt) b.1.one b.1.other in
