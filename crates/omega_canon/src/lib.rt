@@ -4,6 +4,8 @@
 mod body;
 mod canonical_text;
 mod header;
+mod laws;
 mod parts;
 
 pub use canonical_text::canonical;
+pub use laws::canonical_texts_are_spelled;
