@@ -8,4 +8,7 @@ mod laws;
 mod parts;
 
 pub use canonical_text::canonical;
-pub use laws::canonical_texts_are_spelled;
+pub use laws::{
+    automata_of_texts_were_read, canonical_texts_are_read, canonical_texts_are_spelled,
+    read_automata_are_writable,
+};
