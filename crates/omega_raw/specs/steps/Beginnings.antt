@@ -1,4 +1,4 @@
--- That rows begin by the kinds by which they are known.
+-- That rows begin by the kinds by which they are known: the laws of `Part`, which its impls take from `specs` alone.
 use Rattle.std.specs.Prelude.{◌≡◌, ℕ, true, false, List, [], ◌∷◌, Option, Some, None, refl}
 use Rattle.omega_acc.specs.declared.acc_name.Parameter.{Parameter}
 use Rattle.omega_acc.specs.declared.acc_name.Parameter.TheVariants as parameter
