@@ -22,7 +22,7 @@ mod strategy;
 
 pub use bounds::bound;
 pub use builder::GameBuilder;
-pub use checking::{check_strategy, check_strategy_fast};
+pub use checking::{check_strategy, check_strategy_by_order, check_strategy_fast};
 pub use game::Game;
 pub use laws::{
     choices_are_entries, games_exist, games_have_no_fault, games_keep_limits, parts_are_games,

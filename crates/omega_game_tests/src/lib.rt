@@ -8,6 +8,8 @@ mod building;
 #[cfg(test)]
 mod checking;
 #[cfg(test)]
+mod orders;
+#[cfg(test)]
 mod parts;
 #[cfg(test)]
 mod reading;
