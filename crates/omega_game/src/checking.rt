@@ -3,7 +3,8 @@ ghost use Rattle.std.specs.Prelude.{◌↔◌, ℕ, ◌<◌, length, All, IfOk, 
 ghost use Rattle.omega_game.specs.Winning.{IsStrategy, Wins};
 
 mod components;
-mod deciding;
+pub(crate) mod deciding;
+pub(crate) mod decision;
 mod levels;
 mod nest;
 mod nesting;
@@ -106,8 +107,8 @@ fn wins_from(
 {
     game.keeps_limits();
     let marks = reached_from(alloc, game, choices, u32::MAX, places)?;
-    let answer = decide(alloc, game, player, choices, &marks)?;
-    Ok(answer)
+    let decision = decide(alloc, game, player, choices, &marks)?;
+    Ok(decision.is_won())
 }
 
 /// The same where what the fast search suggests is confirmed, else none.
@@ -124,8 +125,10 @@ fn wins_fast(
 {
     game.keeps_limits();
     let marks = reached_from(alloc, game, choices, u32::MAX, places)?;
-    let found = decide_fast(alloc, game, player, choices, &marks)?;
-    Ok(found)
+    match decide_fast(alloc, game, player, choices, &marks)? {
+        Some(decision) => Ok(Some(decision.is_won())),
+        None => Ok(None),
+    }
 }
 
 /// Whether an order shows that choices that are a strategy of the player win from each of the places.
