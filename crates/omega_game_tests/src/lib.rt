@@ -16,6 +16,8 @@ mod reading;
 #[cfg(test)]
 mod readings;
 #[cfg(test)]
+mod refuting;
+#[cfg(test)]
 mod samples;
 #[cfg(test)]
 mod searching;
