@@ -1,10 +1,10 @@
--- What holds in the loop of `none_recurs`: whether no marked place of a priority that loses for the player recurs.
+-- What holds in the loop of `decide_plainly`: decides whether no marked place of a priority that loses for the player recurs.
 use Rattle.std.proofs.Common.{ℕ, ◌<◌, IsTrue}
 use Rattle.omega_game.specs.Game.{priority_at}
 use Rattle.omega_game.specs.Player.{loses}
 use Rattle.omega_game.specs.checking.Reaching.{mark_at}
 use Rattle.omega_game.specs.checking.Recurring.{Recurs}
-use Rattle.omega_game.proofs.checking.recurring.none_recurs.Given as goal
+use Rattle.omega_game.proofs.checking.recurring.decide_plainly.Given as goal
 
 abbrev pub invariant-loop-place : goal.invariant-loop-place
 invariant-loop-place l =
