@@ -38,7 +38,7 @@ pub open_unended : (lexemes : List (Lexeme HoaKind)) → IsOpen lexemes → None
 open_unended lexemes begun = subst NoneEnds (sym begun.split) (ap is_end begun.opens.kind, begun.unended)
 
 -- a segment, its end apart
-segment_split : (mark : HoaKind) (segment rest : List (Lexeme HoaKind)) → (is : IsSegment mark segment) → segment ++ rest ≡ is.inside ++ is.last ∷ rest
+pub segment_split : (mark : HoaKind) (segment rest : List (Lexeme HoaKind)) → (is : IsSegment mark segment) → segment ++ rest ≡ is.inside ++ is.last ∷ rest
 segment_split mark segment rest is = ap (λ all. all ++ rest) is.split ∙ append_assoc is.inside (is.last ∷ []) rest
 
 -- two segments at the front of the same tokens are one, with the same mark and the same tokens behind

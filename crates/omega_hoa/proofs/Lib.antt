@@ -4,9 +4,12 @@ pub mod Dividing
 pub mod Endings
 pub mod Feeds
 pub mod FirstEnds
+pub mod Neither
 pub mod Ones
 pub mod OneStream
+pub mod OneText
 pub mod Outlines
+pub mod Readings
 pub mod Results
 pub mod Segments
 pub mod Settling

@@ -19,12 +19,7 @@ use Rattle.omega_hoa.specs.Stream.{IsFaultInside, IsFaultOutside, IsItemOf, IsOp
 use Rattle.omega_hoa.specs.declared.item.Item.{Item}
 use Rattle.omega_hoa.specs.declared.item.Item.TheVariants.{Automaton as AutomatonItem, Aborted}
 use Rattle.omega_hoa.proofs.FirstEnds.{open_is_no_segment, segment_opens, segments_one}
-
--- of the tokens of a segment at most one automaton is read, its faults are alike, and it does not have both
-pub record Readings : Type 0 where
-  pub automaton_one : (lexemes : List (Lexeme HoaKind)) (one other : Description) → IsAutomatonOf lexemes one → IsAutomatonOf lexemes other → one ≡ other
-  pub fault_one : (lexemes : List (Lexeme HoaKind)) (one other : Refusal) → IsSegmentFault lexemes one → IsSegmentFault lexemes other → AreAlike one other
-  pub not_both : (lexemes : List (Lexeme HoaKind)) (automaton : Description) (refusal : Refusal) → IsAutomatonOf lexemes automaton → IsSegmentFault lexemes refusal → ⊥
+use Rattle.omega_hoa.proofs.Readings.{Readings}
 
 -- the mark by which a segment with this item ends
 mark_of : Item → HoaKind
@@ -107,6 +102,10 @@ module _ (readings : Readings) where
       let more = items_one here.1 there.1 rest left items others here.4 there.4 none nothing parts.behind in
       record { same = ap (λ it. it ∷ items) first ∙ ap (λ all. other ∷ all) more.same; behind = more.behind }
 
+  -- the items of a stream are one list
+  pub streams_one : (lexemes : List (Lexeme HoaKind)) (items others : List Item) → IsStream lexemes items → IsStream lexemes others → items ≡ others
+  streams_one lexemes items others here there = (items_one lexemes lexemes [] [] items others here there none_at_end none_at_end refl).same
+
 -- of two cuts from one place, one goes on where the other ends
 record GoesOn (source : List ℕ) (front lexemes : List (Lexeme HoaKind)) (from to : ℕ) : Type 0 where
   more : List (Lexeme HoaKind)
@@ -164,7 +163,7 @@ open_is_some : (lexemes : List (Lexeme HoaKind)) → IsOpen lexemes → lexemes 
 open_is_some lexemes begun none = let clash : begun.first ∷ begun.rest ≡ [] = sym begun.split ∙ none in cc
 
 -- so has a whole one
-segment_is_some : (mark : HoaKind) (segment more : List (Lexeme HoaKind)) → IsSegment mark segment → segment ++ more ≡ [] → ⊥
+pub segment_is_some : (mark : HoaKind) (segment more : List (Lexeme HoaKind)) → IsSegment mark segment → segment ++ more ≡ [] → ⊥
 segment_is_some mark segment more whole none =
     let first = segment_opens mark segment more whole in
     let clash : first.0 ∷ first.1 ≡ [] = sym first.2 ∙ none in
@@ -304,10 +303,6 @@ module _ (readings : Readings) (exact : GoesOneWay hoa_format) (source : List �
         | inl goes ↦ faults_alike items others one other here there goes
         | inr goes ↦ let back = faults_alike others items other one there here goes in (sym back.0, flipped other one back.1)
       ]
-
-  -- the items of a stream are one list
-  pub streams_one : (lexemes : List (Lexeme HoaKind)) (items others : List Item) → IsStream lexemes items → IsStream lexemes others → items ≡ others
-  streams_one lexemes items others here there = (items_one readings lexemes lexemes [] [] items others here there none_at_end none_at_end refl).same
 
   -- where a text is refused its tokens are not all
   refused_goes_on : (rest more : List (Lexeme HoaKind)) (from to : ℕ) (refusal : Refusal) → Why source rest from refusal → Cuts hoa_format source from more to → hoa_format.ends source to → rest ++ more ≡ [] → ⊥
