@@ -1,6 +1,6 @@
 -- Labels and formulas as they are written: their numbers are those of the trees, and they are no deeper than what was read.
-use Rattle.std.proofs.Common.{◌≡◌, ℕ, ◌≤◌, Bool, true, false, ◌||◌, cond, nat_le, nat_lt, Option, Some, None, option_map, List, [], ◌∷◌, ◌++◌, ap, refl, sym, ◌∙◌, subst, arith}
-use Rattle.std.specs.Prelude.{IfSome, slice_get, option_and_then}
+use Rattle.std.proofs.Common.{◌≡◌, ℕ, ◌≤◌, Bool, true, false, ◌||◌, cond, nat_le, nat_lt, Option, Some, None, option_map, List, [], ◌∷◌, ◌++◌, ap, refl, ◌∙◌, subst, arith}
+use Rattle.std.specs.Prelude.{slice_get, option_and_then}
 use Rattle.std.specs.List.{AllByRecursion, list_any}
 use Rattle.std.proofs.lemmas.Bool.{ltb-false}
 use Rattle.omega_text.specs.declared.refusal.automaton.AutomatonFault.{AutomatonFault}
@@ -20,6 +20,7 @@ use Rattle.omega_acc.specs.Writing.{acc_text, label_text}
 use Rattle.omega_acc.specs.WritingLaws.{AreExpressions, WrittenFormulasAreShallowest, WrittenLabelsAreShallowest, acc_grouped, acc_written, grouped, label_written}
 use Rattle.omega_automaton.specs.Automaton.{sets_of}
 use Rattle.omega_automaton.specs.Items.{Accepted}
+use Rattle.omega_canon.proofs.texts.Spelled.{or-left}
 
 -- ---- numbers
 
@@ -82,16 +83,12 @@ pub label-shallow : WrittenLabelsAreShallowest → (definitions : List Defined) 
 label-shallow shallowest definitions raw tree are is expands =
     shallow-meant shallowest definitions raw tree are is (expansion definitions raw) refl expands.sound expands.tree_is
 
-first-fails : (one other : Bool) → (one || other) ≡ false → one ≡ false
-first-fails false other fails = refl
-first-fails true other fails = fails
-
 -- a formula without a fault is not too deep as it is written
 pub formula-shallow : WrittenFormulasAreShallowest → (said : List Accepted) (tree : AccTree) → AllByRecursion (λ accepted. IsAccOf disjunctive accepted.formula) said
     → option_and_then (λ accepted. acc_meant accepted.formula) (slice_get said 0) ≡ Some tree
     → list_any (λ accepted. nat_lt most_depth (raw_acc_depth accepted.formula)) said ≡ false → raw_acc_depth (acc_written tree) ≤ most_depth
 formula-shallow shallowest [] tree all meant fails = absurd (let clash : ◌≡◌ {A = Option AccTree} None (Some tree) = meant in cc)
 formula-shallow shallowest (accepted ∷ others) tree all meant fails =
-    let limit : raw_acc_depth accepted.formula ≤ most_depth = ltb-false most_depth (raw_acc_depth accepted.formula) (first-fails _ _ fails) in
+    let limit : raw_acc_depth accepted.formula ≤ most_depth = ltb-false most_depth (raw_acc_depth accepted.formula) (or-left _ _ fails) in
     let least : raw_acc_depth (acc_written tree) ≤ raw_acc_depth accepted.formula = shallowest accepted.formula tree all.0 meant in
     omega arith

@@ -1,19 +1,18 @@
 -- The automaton that a canonical text writes has no fault, since what it was read from has none.
-use Rattle.std.proofs.Common.{◌≡◌, ℕ, suc, ◌+◌, ◌^◌, ◌<◌, ◌≤◌, Bool, true, false, cond, not, ◌&&◌, ◌||◌, ◌==◌, nat_eq, nat_le, nat_lt, Option, Some, None, option_map, List, [], ◌∷◌, codes, length, map, ap, refl, sym, ◌∙◌, subst, arith}
+use Rattle.std.proofs.Common.{◌≡◌, ℕ, suc, ◌+◌, ◌^◌, ◌<◌, ◌≤◌, Bool, true, false, cond, not, ◌&&◌, ◌||◌, ◌==◌, nat_eq, nat_le, nat_lt, Option, Some, None, option_map, List, [], ◌∷◌, length, map, ap, refl, sym, ◌∙◌, arith}
 use Rattle.std.specs.Prelude.{IfSome, find, is_none, is_some, slice_get, sum_by, unwrap_or}
 use Rattle.std.specs.List.{AllByRecursion, AllZip, filter_map, list_all, list_any}
 use Rattle.std.specs.Str.{bytes_eq}
 use Rattle.std.proofs.lemmas.Bool.{eqb-true, le-ltb, or_from}
-use Rattle.std.proofs.lemmas.List.{length-map}
-use Rattle.std.proofs.lemmas.List.Elements.{length_all_zip, recursion_from_All}
+use Rattle.std.proofs.lemmas.List.Elements.{recursion_from_All}
 use Rattle.omega_text.specs.declared.refusal.automaton.AutomatonFault.{AutomatonFault}
-use Rattle.omega_text.specs.declared.refusal.automaton.AutomatonFault.TheVariants.{AcceptanceAtom, Alias, Expansion, ImplicitCount, MissingAcceptance, MixedLabels, Proposition, RepeatedHeader, SetRange, StateRange, StateTwice, TooDeep, UnknownHeader, Version}
-use Rattle.omega_acc.specs.AccMeaning.{acc_meant, acc_sets}
+use Rattle.omega_text.specs.declared.refusal.automaton.AutomatonFault.TheVariants.{ImplicitCount, MixedLabels, Proposition, StateRange, UnknownHeader}
+use Rattle.omega_acc.specs.AccMeaning.{acc_meant}
 use Rattle.omega_acc.specs.Expanding.{Defined, Meaning, entries_of, expansion}
 use Rattle.omega_acc.specs.Label.{LabelTree, label_size, propositions}
 use Rattle.omega_acc.specs.Limits.{most_depth, most_size}
 use Rattle.omega_acc.specs.RawAcc.{raw_acc_depth}
-use Rattle.omega_acc.specs.RawLabel.{RawLabelTree, raw_depth, raw_propositions}
+use Rattle.omega_acc.specs.RawLabel.{RawLabelTree, raw_depth}
 use Rattle.omega_acc.specs.WritingLaws.{WrittenFormulasMean, WrittenLabelsMean, acc_written, label_written}
 use Rattle.omega_acc.specs.declared.acc_name.AccName.{AccName}
 use Rattle.omega_raw.specs.declared.raw_automaton.RawAutomaton.{RawAutomaton}
@@ -21,8 +20,8 @@ use Rattle.omega_raw.specs.declared.raw_edge.RawEdge.{RawEdge}
 use Rattle.omega_raw.specs.declared.raw_state.RawState.{RawState}
 use Rattle.omega_automaton.specs.Automaton.{Description, IsAutomaton, has_repeat, sets_of, size_of, total_size}
 use Rattle.omega_automaton.specs.Automaton as automaton
-use Rattle.omega_automaton.specs.Faults.{applies, begins_capital, definitions_of, fault_of, faults, has_deep_expression, has_label, has_large_expression, has_mixed_labels, has_other_version, has_repeated_item, has_set_beyond, has_set_out_of_range, has_state_out_of_range, has_state_twice, has_unknown_capital, has_wrong_alias, has_wrong_atom, has_wrong_edge_count, has_wrong_proposition, are_out_of_range, is_beyond, is_deep, is_labelled, is_large, is_marked, is_miscounted, is_misnamed, is_mixed, label_total, lacks_acceptance, is_out_of_range, mentioned_count, names_of, passes, proposition_count, set_count, size_of_meaning, size_under, some_meaning, state_count}
-use Rattle.omega_automaton.specs.Items.{Accepted, Named, acc_name_in, acceptance_in, alias_in, first_said, name_in, propositions_in, start_in, states_in, tool_in, unknown_in}
+use Rattle.omega_automaton.specs.Faults.{applies, begins_capital, definitions_of, fault_of, faults, has_deep_expression, has_label, has_large_expression, has_mixed_labels, has_other_version, has_repeated_item, has_set_beyond, has_set_out_of_range, has_state_out_of_range, has_state_twice, has_unknown_capital, has_wrong_alias, has_wrong_atom, has_wrong_edge_count, has_wrong_proposition, are_out_of_range, is_beyond, is_deep, is_labelled, is_large, is_marked, is_miscounted, is_misnamed, is_mixed, label_total, lacks_acceptance, is_out_of_range, mentioned_count, passes, proposition_count, set_count, size_of_meaning, size_under, some_meaning, state_count}
+use Rattle.omega_automaton.specs.Items.{Accepted, Named, acc_name_in, acceptance_in, alias_in, name_in, propositions_in, start_in, states_in, tool_in, unknown_in}
 use Rattle.omega_automaton.specs.Limits.{most_propositions, most_total_size}
 use Rattle.omega_automaton.specs.Meaning.{IsEdgeOf, IsLabelOf, IsStateOf, Means}
 use Rattle.omega_automaton.specs.declared.edge.Edge.{Edge}
@@ -32,6 +31,7 @@ use Rattle.omega_canon.specs.Written.{acc_name_item, edge_written, items_written
 use Rattle.omega_canon.proofs.meanings.Expressions.{propositions-written, sets-written}
 use Rattle.omega_canon.proofs.meanings.Said.{acc_name-said, acceptance-said, aliases-said, name-said, propositions-said, starts-said, states-said, tool-said, unknown-said}
 use Rattle.omega_canon.proofs.meanings.Tests.{all-under, any-passes, any-some, none-beyond, none-pass, not-twice, same-any, sum-made}
+use Rattle.omega_canon.proofs.texts.Spelled.{or-left}
 
 -- a label of an automaton that is not too deep as it is written
 pub record IsFine (a : Description) (tree : LabelTree) : Type 0 where
@@ -89,14 +89,6 @@ not-not : (is : Bool) → not is ≡ false → is ≡ true
 not-not true fails = refl
 not-not false fails = sym fails
 
-pub first-fails : (one other : Bool) → (one || other) ≡ false → one ≡ false
-first-fails false other fails = refl
-first-fails true other fails = fails
-
-second-fails : (one other : Bool) → (one || other) ≡ false → other ≡ false
-second-fails false other fails = fails
-second-fails true other fails = absurd (let clash : true ≡ false = fails in cc)
-
 self-equal : (n : ℕ) → (n == n) ≡ true
 self-equal n = grind arith
 
@@ -105,7 +97,7 @@ count-stated : (said : List Named) → list_any is_misnamed said ≡ false
     → unwrap_or (option_map (λ named. named.count) (slice_get said 0)) 0 ≡ length (unwrap_or (option_map (λ named. named.names) (slice_get said 0)) [])
 count-stated [] fails = refl
 count-stated (named ∷ others) fails =
-    eqb-true named.count (length named.names) (not-not _ (first-fails _ _ (first-fails _ _ (first-fails _ _ fails))))
+    eqb-true named.count (length named.names) (not-not _ (or-left _ _ (or-left _ _ (or-left _ _ fails))))
 
 numbers-same : (states : List State) → map (λ (state : RawState). state.number) (map state_written states) ≡ map (λ (state : State). state.number) states
 numbers-same [] = refl
@@ -285,7 +277,7 @@ module _ (label_means : WrittenLabelsMean) (formula_means : WrittenFormulasMean)
   -- 30
   unstated : list_any is_misnamed (filter_map propositions_in raw.items) ≡ false
   unfolding has_wrong_proposition
-  unstated = sym (any-passes propositions_in is_misnamed raw.items) ∙ first-fails _ _ (first-fails _ _ (fails Proposition))
+  unstated = sym (any-passes propositions_in is_misnamed raw.items) ∙ or-left _ _ (or-left _ _ (fails Proposition))
 
   count-same : proposition_count raw ≡ length a.propositions
   count-same = count-stated (filter_map propositions_in raw.items) unstated ∙ ap length (sym means.propositions)

@@ -1,15 +1,14 @@
 -- The automaton that a canonical text writes means the one that it was written of.
-use Rattle.std.proofs.Common.{◌≡◌, ℕ, ◌≤◌, Bool, cond, nat_lt, Option, Some, None, option_map, List, [], ◌∷◌, map, ap, refl, sym, ◌∙◌, subst}
-use Rattle.std.specs.Prelude.{Contains, IfSome, option_and_then, slice_get, unwrap_or}
-use Rattle.std.specs.List.{AllByRecursion, AllZip, filter_map, list_any}
+use Rattle.std.proofs.Common.{◌≡◌, ℕ, ◌≤◌, cond, nat_lt, Option, Some, None, option_map, List, [], ◌∷◌, map, ap, refl, sym, ◌∙◌, subst}
+use Rattle.std.specs.Prelude.{IfSome, option_and_then, slice_get, unwrap_or}
+use Rattle.std.specs.List.{AllByRecursion, AllZip, filter_map}
 use Rattle.std.specs.List.Sorted.{IsStrictlyIncreasing}
 use Rattle.std.proofs.lemmas.Bool.{le-ltb}
 use Rattle.std.proofs.lemmas.List.Elements.{recursion_from_All}
-use Rattle.omega_text.specs.declared.refusal.automaton.AutomatonFault.{AutomatonFault}
 use Rattle.omega_text.specs.declared.refusal.automaton.AutomatonFault.TheVariants.{Expansion, TooDeep}
 use Rattle.omega_acc.specs.AccMeaning.{acc_meant}
 use Rattle.omega_acc.specs.AccReading.{IsAccOf}
-use Rattle.omega_acc.specs.Expanding.{Defined, IsExpansion, expansion, fault_of_meaning}
+use Rattle.omega_acc.specs.Expanding.{Defined, fault_of_meaning}
 use Rattle.omega_acc.specs.Label.{LabelTree, label_size}
 use Rattle.omega_acc.specs.Limits.{most_depth, most_size}
 use Rattle.omega_acc.specs.RawAcc.{raw_acc_depth}
@@ -22,20 +21,21 @@ use Rattle.omega_raw.specs.declared.raw_item.RawItem.{RawItem}
 use Rattle.omega_raw.specs.declared.raw_item.RawItem.TheVariants as item
 use Rattle.omega_automaton.specs.Automaton.{Description, IsAutomaton}
 use Rattle.omega_automaton.specs.Automaton as automaton
-use Rattle.omega_automaton.specs.Faults.{applies, definitions_of, has_deep_expression, mentioned_count}
+use Rattle.omega_automaton.specs.Faults.{definitions_of, has_deep_expression, mentioned_count}
 use Rattle.omega_automaton.specs.Items.{acceptance_in, alias_in}
 use Rattle.omega_automaton.specs.Laws.{MeaningsHaveNoFault}
 use Rattle.omega_automaton.specs.Meaning.{AreMarksOf, IsEdgeOf, IsLabelOf, IsStateOf, Means, written_marks}
 use Rattle.omega_automaton.specs.declared.edge.Edge.{Edge}
 use Rattle.omega_automaton.specs.declared.state.State.{State}
 use Rattle.omega_text.specs.declared.refusal.automaton.AutomatonFault.TheVariants as fault
-use Rattle.omega_canon.specs.Written.{edge_written, items_written, marks_written, state_written, written}
+use Rattle.omega_canon.specs.Written.{edge_written, marks_written, state_written, written}
 use Rattle.omega_canon.proofs.meanings.Expressions.{formula-shallow, label-shallow}
-use Rattle.omega_canon.proofs.meanings.Faultless.{IsFine, IsFineState, faultless, first-fails}
+use Rattle.omega_canon.proofs.meanings.Faultless.{IsFine, IsFineState, faultless}
 use Rattle.omega_canon.proofs.meanings.Said.{acc_name-said, acceptance-said, aliases-said, first-acc_name, first-name, first-tool, name-said, properties-said, propositions-said, starts-said, states-said, tool-said, unknown-said}
 use Rattle.omega_canon.proofs.meanings.Tests.{all-zip, any-passes, zip-made}
 use Rattle.omega_canon.proofs.values.Kept.{all-both, filtered}
 use Rattle.omega_canon.proofs.values.Rows.{IsReadAutomaton, IsReadEdge, IsReadItem, IsReadLabel, IsReadState}
+use Rattle.omega_canon.proofs.texts.Spelled.{or-left}
 
 -- what is known of written expressions, and of what means something
 pub record Meanings : Type 0 where
@@ -71,7 +71,7 @@ formula-fits known raw a read means =
     formula-shallow known.formula_depths (filter_map acceptance_in raw.items) a.acceptance
     (filtered acceptance_in IsReadItem (λ accepted. IsAccOf disjunctive accepted.formula) formula-read raw.items read.items)
     means.acceptance
-    (sym (any-passes acceptance_in (λ accepted. nat_lt most_depth (raw_acc_depth accepted.formula)) raw.items) ∙ first-fails _ _ (known.no_fault raw a fault.TooDeep means))
+    (sym (any-passes acceptance_in (λ accepted. nat_lt most_depth (raw_acc_depth accepted.formula)) raw.items) ∙ or-left _ _ (known.no_fault raw a fault.TooDeep means))
 
 -- its labels are not
 fine-label : Meanings → (a : Description) (definitions : List Defined) → AreExpressions definitions → (raw : Option RawLabelTree) (label : Option LabelTree)

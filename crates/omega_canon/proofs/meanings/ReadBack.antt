@@ -1,5 +1,5 @@
 -- Automata that were read can be written, and their canonical texts are read back.
-use Rattle.std.proofs.Common.{◌≡◌, ℕ, ◌≤◌, List, [], ◌∷◌, length}
+use Rattle.std.proofs.Common.{ℕ, ◌≤◌, List, [], ◌∷◌, length}
 use Rattle.std.specs.List.{AllByRecursion}
 use Rattle.omega_text.specs.Cut.{Cuts}
 use Rattle.omega_text.specs.Limits.{most_text}

@@ -9,7 +9,7 @@ use Rattle.omega_acc.specs.declared.acc_name.AccName.{AccName}
 use Rattle.omega_raw.specs.declared.raw_item.RawItem.{RawItem}
 use Rattle.omega_raw.specs.declared.raw_item.RawItem.TheVariants as item
 use Rattle.omega_automaton.specs.Automaton.{Description}
-use Rattle.omega_automaton.specs.Items.{Accepted, Named, acc_name_in, acceptance_in, alias_in, name_in, properties_in, propositions_in, start_in, states_in, tool_in, unknown_in}
+use Rattle.omega_automaton.specs.Items.{acc_name_in, acceptance_in, alias_in, name_in, properties_in, propositions_in, start_in, states_in, tool_in, unknown_in}
 use Rattle.omega_automaton.specs.declared.header.Header.{Header}
 use Rattle.omega_automaton.specs.declared.tool.Tool.{Tool}
 use Rattle.omega_canon.specs.Written.{acc_name_item, items_written, name_item, properties_item, start_item, tool_item, unknown_item}

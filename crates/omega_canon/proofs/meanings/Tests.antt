@@ -1,6 +1,6 @@
 -- Tests of what items say and of states and edges: what they answer for values that are written.
-use Rattle.std.proofs.Common.{◌≡◌, ℕ, suc, ◌+◌, ◌<◌, ◌≤◌, Bool, true, false, cond, not, ◌&&◌, ◌||◌, nat_le, nat_lt, Option, Some, None, List, [], ◌∷◌, length, map, ap, refl, sym, ◌∙◌, arith}
-use Rattle.std.specs.Prelude.{IfSome, count_by, is_some, sum_by, fold}
+use Rattle.std.proofs.Common.{◌≡◌, ℕ, ◌+◌, ◌<◌, ◌≤◌, Bool, true, false, cond, ◌&&◌, ◌||◌, nat_le, nat_lt, Option, Some, None, List, [], ◌∷◌, length, map, ap, refl, ◌∙◌, arith}
+use Rattle.std.specs.Prelude.{count_by, is_some, sum_by, fold}
 use Rattle.std.specs.List.{AllByRecursion, AllZip, cons_option, filter_map, list_all, list_any}
 use Rattle.std.proofs.lemmas.Bool.{le-ltb, lt-leb, lt-ltb, or_from}
 use Rattle.omega_raw.specs.declared.raw_item.RawItem.{RawItem}

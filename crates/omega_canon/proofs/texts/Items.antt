@@ -1,28 +1,26 @@
 -- The lines of the header: each is the tokens of an item.
-use Rattle.std.proofs.Common.{◌≡◌, ◌≢◌, ℕ, ◌≤◌, Bool, true, Option, Some, None, List, [], ◌∷◌, ◌++◌, codes, decimal, length, map, append_assoc, refl, sym, ◌∙◌, subst, arith, lit<}
+use Rattle.std.proofs.Common.{◌≡◌, ℕ, Option, Some, None, List, [], ◌∷◌, ◌++◌, codes, decimal, length, append_assoc, refl, sym, subst, lit<}
 use Rattle.std.specs.Prelude.{IfSome}
-use Rattle.std.specs.List.{AllByRecursion, AllPass, flat_map}
+use Rattle.std.specs.List.{AllByRecursion, flat_map}
 use Rattle.std.proofs.lemmas.List.Sums.{AllPass-from_list_all}
 use Rattle.omega_text.specs.Bytes.{is_word_byte}
-use Rattle.omega_text.specs.Forms.{IsWord}
 use Rattle.omega_text.specs.hoa.Forms.{IsQuotable}
 use Rattle.omega_acc.specs.Acceptance.{AccTree}
 use Rattle.omega_acc.specs.Symbols.{IsNoOperator}
 use Rattle.omega_acc.specs.Writing.{acc_text}
 use Rattle.omega_acc.specs.WritingLaws.{SetsFit, acc_written}
 use Rattle.omega_acc.specs.declared.acc_name.AccName.{AccName}
-use Rattle.omega_raw.specs.Grammar.{conj_row, each, item_row, optional, parameter_row, string_row, value_row, word_row}
+use Rattle.omega_raw.specs.Grammar.{each, item_row}
 use Rattle.omega_raw.specs.Reading.{FirstIs}
-use Rattle.omega_raw.specs.Symbols.{Symbol, formula, header, number, text, word}
+use Rattle.omega_raw.specs.Symbols.{Symbol}
 use Rattle.omega_raw.specs.declared.raw_item.RawItem.TheVariants as item
 use Rattle.omega_automaton.specs.declared.header.Header.{Header}
 use Rattle.omega_automaton.specs.declared.tool.Tool.{Tool}
 use Rattle.omega_canon.specs.HeaderText.{acc_name_line, acceptance_line, name_line, parameter_part, properties_line, propositions_line, start_line, states_line, tool_line, unknown_line, value_part}
-use Rattle.omega_canon.specs.Parts.{conjunction, quoted, spaced, string_part, strings, words}
+use Rattle.omega_canon.specs.Parts.{conjunction, quoted, string_part, strings, words}
 use Rattle.omega_canon.specs.Writable.{AreJoined, Fits, IsIdentifier, IsWritableHeader, IsWritableName, IsWritableTool}
 use Rattle.omega_canon.specs.Written.{acc_name_item, name_item, properties_item, start_item, tool_item, unknown_item}
 use Rattle.omega_canon.proofs.texts.Expressions.{formula-spelled}
-use Rattle.omega_canon.proofs.texts.Lists.{each-spelled}
 use Rattle.omega_canon.proofs.texts.Pieces.{apart-line, apart-parameters, apart-space, apart-strings, conjunction-spelled, parameters-spelled, string_part-spelled, strings-spelled, values-spelled, words-spelled}
 use Rattle.omega_canon.proofs.texts.Spelled.{IsSpelled, Known, header-spelled, line-spelled, number-spelled, space-spelled, string-spelled, word-spelled}
 

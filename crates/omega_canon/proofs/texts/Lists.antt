@@ -1,9 +1,13 @@
 -- Lists of parts or lines, one before another.
-use Rattle.std.proofs.Common.{◌≡◌, ℕ, List, [], ◌∷◌, ◌++◌, map, ap, append_assoc, refl, sym, ◌∙◌, subst}
+use Rattle.std.proofs.Common.{◌≡◌, ℕ, List, [], ◌∷◌, ◌++◌, map, ap, append_assoc, refl, sym, subst}
 use Rattle.std.specs.List.{AllByRecursion, flat_map}
 use Rattle.omega_raw.specs.Grammar.{each}
 use Rattle.omega_raw.specs.Symbols.{Symbol}
 use Rattle.omega_canon.proofs.texts.Spelled.{IsSpelled}
+
+-- nothing is asked of the bytes behind a line
+abbrev pub Any : List ℕ → Type 0
+Any bytes = Unit {0}
 
 -- what is asked of the bytes behind a list is so of the bytes from its first part on
 pub each-behind : {X : Type 0} (part : X → List ℕ) (May : List ℕ → Type 0) → ((it : X) (behind : List ℕ) → May behind → May (part it ++ behind))

@@ -1,5 +1,5 @@
 -- The parts of lines: strings, identifiers, numbers, marks and labels, each with the space before or behind it.
-use Rattle.std.proofs.Common.{◌≡◌, ◌≢◌, ℕ, ◌<◌, Option, Some, None, List, [], ◌∷◌, ◌++◌, codes, decimal, length, option_map, append_assoc, refl, sym, subst, arith}
+use Rattle.std.proofs.Common.{◌≡◌, ℕ, Option, Some, None, List, [], ◌∷◌, ◌++◌, codes, decimal, option_map, append_assoc, refl, sym, subst, arith}
 use Rattle.std.specs.Prelude.{IfSome}
 use Rattle.std.specs.List.{AllByRecursion, flat_map}
 use Rattle.omega_text.specs.declared.hoa.kind.HoaKind.TheVariants as kind
@@ -10,7 +10,7 @@ use Rattle.omega_acc.specs.WritingLaws.{NumbersFit, StandsApart, label_written}
 use Rattle.omega_acc.specs.declared.acc_name.Parameter.{Parameter}
 use Rattle.omega_acc.specs.declared.acc_name.Parameter.TheVariants as parameter
 use Rattle.omega_raw.specs.Grammar.{conj_row, each, int_row, joined_row, label_row, optional, parameter_row, sig_row, string_row, value_row, word_row}
-use Rattle.omega_raw.specs.Symbols.{Symbol, label, sign}
+use Rattle.omega_raw.specs.Symbols.{Symbol, sign}
 use Rattle.omega_raw.specs.declared.header_value.HeaderValue.{HeaderValue}
 use Rattle.omega_raw.specs.declared.header_value.HeaderValue.TheVariants as value
 use Rattle.omega_canon.specs.HeaderText.{parameter_part, value_part}

@@ -1,5 +1,5 @@
 -- Texts that are the tokens of symbols: white bytes and tokens, one before another.
-use Rattle.std.proofs.Common.{◌≡◌, ℕ, ◌+◌, ◌-◌, ◌≤◌, Bool, true, false, ◌||◌, ◌==◌, List, [], ◌∷◌, ◌++◌, codes, decimal, drop, take, length, length-append, length-drop, map, slice_index, ap, append_assoc, inl, refl, sym, ◌∙◌, subst, arith, lit<}
+use Rattle.std.proofs.Common.{◌≡◌, ℕ, ◌+◌, ◌≤◌, Bool, true, false, ◌||◌, ◌==◌, List, [], ◌∷◌, ◌++◌, codes, decimal, drop, length, length-append, length-drop, slice_index, ap, append_assoc, inl, refl, sym, ◌∙◌, subst, arith, lit<}
 use Rattle.std.proofs.lemmas.List.{drop-drop, take_at}
 use Rattle.std.proofs.lemmas.List.Sums.{AllPass-from_list_all}
 use Rattle.std.proofs.Math.Seq.{drop-append_seam}
@@ -16,12 +16,10 @@ use Rattle.omega_text.specs.hoa.Format.{hoa_format}
 use Rattle.omega_text.specs.hoa.Forms.{IsForm, IsQuotable}
 use Rattle.omega_text.specs.hoa.Forms as forms
 use Rattle.omega_text.specs.hoa.Laws.{ClosedAreLongest, NumbersAreLongest, NumbersArePlain, WordsAreLongest}
-use Rattle.omega_acc.specs.Acceptance.{AccTree}
-use Rattle.omega_acc.specs.Label.{LabelTree}
-use Rattle.omega_acc.specs.Writing.{acc_text, label_text, truth_text}
-use Rattle.omega_acc.specs.WritingLaws.{AccTextsAreFormulas, LabelTextsAreLabels, NumbersFit, SetsFit, StandsApart, WrittenFormulasMean, WrittenLabelsMean, acc_written, label_written}
+use Rattle.omega_acc.specs.Writing.{truth_text}
+use Rattle.omega_acc.specs.WritingLaws.{AccTextsAreFormulas, LabelTextsAreLabels, StandsApart, WrittenFormulasMean, WrittenLabelsMean}
 use Rattle.omega_raw.specs.Grammar.{boolean_row}
-use Rattle.omega_raw.specs.Symbols.{Begins, Spells, Symbol, Tokens, between_quotes, formula, header, label, number, sign, text, without_last, word}
+use Rattle.omega_raw.specs.Symbols.{Begins, Spells, Symbol, Tokens, between_quotes, header, number, sign, text, without_last, word}
 use Rattle.omega_canon.specs.Parts.{quoted}
 
 -- what is known of the tokens of every text, and of the texts of expressions
@@ -151,7 +149,7 @@ token-spelled symbol sort value bytes behind others spells longest begins spelle
 }
 
 -- where neither holds the first does not
-or-left : (a b : Bool) → (a || b) ≡ false → a ≡ false
+pub or-left : (a b : Bool) → (a || b) ≡ false → a ≡ false
 or-left false b is = refl
 or-left true b is = is
 

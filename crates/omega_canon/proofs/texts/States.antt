@@ -1,5 +1,5 @@
 -- The lines of the body: a state and its edges are the tokens of that state as it is written.
-use Rattle.std.proofs.Common.{◌≡◌, ℕ, List, [], ◌∷◌, ◌++◌, codes, decimal, map, append_assoc, refl, sym, ◌∙◌, subst, lit<}
+use Rattle.std.proofs.Common.{◌≡◌, ℕ, List, [], ◌∷◌, ◌++◌, codes, decimal, map, append_assoc, refl, sym, subst, lit<}
 use Rattle.std.specs.List.{AllByRecursion, flat_map}
 use Rattle.std.proofs.lemmas.List.Sums.{AllPass-from_list_all}
 use Rattle.omega_text.specs.Bytes.{is_word_byte}
@@ -7,17 +7,13 @@ use Rattle.omega_raw.specs.Grammar.{edge_row, each, state_row}
 use Rattle.omega_raw.specs.Symbols.{Symbol}
 use Rattle.omega_automaton.specs.declared.edge.Edge.{Edge}
 use Rattle.omega_automaton.specs.declared.state.State.{State}
-use Rattle.omega_canon.specs.BodyText.{edge_line, state_line, state_text}
+use Rattle.omega_canon.specs.BodyText.{edge_line, state_text}
 use Rattle.omega_canon.specs.Parts.{conjunction, label_part, marks_part, string_part}
 use Rattle.omega_canon.specs.Writable.{IsWritableEdge, IsWritableState}
 use Rattle.omega_canon.specs.Written.{edge_written, state_written}
-use Rattle.omega_canon.proofs.texts.Lists.{each-map, each-spelled}
+use Rattle.omega_canon.proofs.texts.Lists.{Any, each-map, each-spelled}
 use Rattle.omega_canon.proofs.texts.Pieces.{apart-line, apart-marks, apart-string, conjunction-spelled, label_part-spelled, marks-spelled, string_part-spelled}
 use Rattle.omega_canon.proofs.texts.Spelled.{IsSpelled, Known, header-spelled, line-spelled, number-spelled, space-spelled}
-
--- anything may stand behind a line
-abbrev Any : List ℕ → Type 0
-Any bytes = Unit {0}
 
 -- an edge
 edge-spelled : Known → (edge : Edge) (behind : List ℕ) (symbols : List Symbol) → IsWritableEdge edge

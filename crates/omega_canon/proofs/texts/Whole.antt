@@ -1,5 +1,5 @@
 -- The whole canonical text is the tokens of the automaton as it is written.
-use Rattle.std.proofs.Common.{◌≡◌, ◌≢◌, ℕ, ◌≤◌, Option, Some, None, List, [], ◌∷◌, ◌++◌, codes, drop, length, map, append_assoc, refl, sym, ◌∙◌, subst, arith, lit<}
+use Rattle.std.proofs.Common.{◌≡◌, ℕ, Option, Some, None, List, [], ◌∷◌, ◌++◌, codes, length, map, append_assoc, refl, sym, subst, arith, lit<}
 use Rattle.std.specs.List.{AllByRecursion, flat_map}
 use Rattle.std.proofs.lemmas.List.Sums.{AllPass-from_list_all}
 use Rattle.omega_text.specs.Bytes.{is_word_byte}
@@ -11,30 +11,23 @@ use Rattle.omega_acc.specs.declared.acc_name.AccName.{AccName}
 use Rattle.omega_raw.specs.Grammar.{IsEdge, IsItem, IsState, each, item_row, spelled, state_row}
 use Rattle.omega_raw.specs.Reading.{FirstIs}
 use Rattle.omega_raw.specs.Symbols.{Symbol, sign}
-use Rattle.omega_raw.specs.declared.raw_edge.RawEdge.{RawEdge}
 use Rattle.omega_raw.specs.declared.raw_item.RawItem.{RawItem}
 use Rattle.omega_raw.specs.declared.raw_item.RawItem.TheVariants as item
-use Rattle.omega_raw.specs.declared.raw_state.RawState.{RawState}
 use Rattle.omega_automaton.specs.Automaton.{Description}
-use Rattle.omega_automaton.specs.declared.edge.Edge.{Edge}
 use Rattle.omega_automaton.specs.declared.header.Header.{Header}
 use Rattle.omega_automaton.specs.declared.state.State.{State}
 use Rattle.omega_automaton.specs.declared.tool.Tool.{Tool}
-use Rattle.omega_canon.specs.BodyText.{body_text, state_text}
+use Rattle.omega_canon.specs.BodyText.{body_text}
 use Rattle.omega_canon.specs.Canonical.{canonical}
 use Rattle.omega_canon.specs.HeaderText.{acc_name_line, acceptance_line, name_line, properties_line, propositions_line, start_line, states_line, tool_line, unknown_line}
 use Rattle.omega_canon.specs.Laws.{IsTextOf}
 use Rattle.omega_canon.specs.Writable.{AreJoined, IsWritable, IsWritableEdge, IsWritableHeader, IsWritableState}
 use Rattle.omega_canon.specs.Written.{acc_name_item, edge_written, items_written, name_item, properties_item, start_item, state_written, tool_item, unknown_item, written}
 use Rattle.omega_canon.proofs.texts.Items.{acc_name-spelled, acceptance-spelled, name-spelled, properties-spelled, propositions-spelled, start-spelled, states-spelled, tool-spelled, unknown-spelled}
-use Rattle.omega_canon.proofs.texts.Lists.{all-append, all-map, all-then, each-append, each-map, each-spelled}
+use Rattle.omega_canon.proofs.texts.Lists.{Any, all-append, all-map, all-then, each-append, each-map, each-spelled}
 use Rattle.omega_canon.proofs.texts.Pieces.{apart-line}
 use Rattle.omega_canon.proofs.texts.Spelled.{IsSpelled, Known, header-spelled, line-spelled, nothing-spelled, sign-spelled, space-spelled, word-spelled}
 use Rattle.omega_canon.proofs.texts.States.{states-spelled as body-states-spelled}
-
--- anything may stand behind a line
-abbrev Any : List ℕ → Type 0
-Any bytes = Unit {0}
 
 -- the items of two lists
 items-spelled : (text : List ℕ) (first second : List RawItem) (symbols : List Symbol) → IsSpelled text (each item_row first (each item_row second symbols))

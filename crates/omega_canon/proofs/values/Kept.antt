@@ -1,9 +1,8 @@
 -- What an automaton keeps that is meant by one that was read: all that its canonical text needs.
-use Rattle.std.proofs.Common.{◌≡◌, ℕ, ◌+◌, ◌<◌, ◌≤◌, Bool, Option, Some, None, List, [], ◌∷◌, ◌++◌, min, max, option_map, length, refl, sym, ◌∙◌, subst, arith}
-use Rattle.std.specs.Prelude.{IfSome, All, slice_get, unwrap_or}
+use Rattle.std.proofs.Common.{ℕ, ◌<◌, ◌≤◌, Option, Some, None, List, [], ◌∷◌, ◌++◌, option_map, length, sym, subst, arith}
+use Rattle.std.specs.Prelude.{IfSome, slice_get, unwrap_or}
 use Rattle.std.specs.List.{AllByRecursion, AllZip, cons_option, filter_map, flat_map}
 use Rattle.std.proofs.lemmas.List.Elements.{recursion_from_All}
-use Rattle.omega_text.specs.Limits.{most_number}
 use Rattle.omega_text.specs.hoa.Forms.{IsQuotable}
 use Rattle.omega_acc.specs.Acceptance.{AccTree}
 use Rattle.omega_acc.specs.Acceptance as acc
@@ -23,7 +22,7 @@ use Rattle.omega_automaton.specs.Meaning.{IsStateOf, Means}
 use Rattle.omega_automaton.specs.declared.edge.Edge.{Edge}
 use Rattle.omega_automaton.specs.declared.state.State.{State}
 use Rattle.omega_canon.specs.Writable.{AreJoined, Fits, IsIdentifier, IsWritable, IsWritableEdge, IsWritableHeader, IsWritableName, IsWritableState, IsWritableTool}
-use Rattle.omega_canon.proofs.texts.Lists.{all-then}
+use Rattle.omega_canon.proofs.texts.Lists.{all-append, all-then}
 use Rattle.omega_canon.proofs.values.Rows.{IsReadAutomaton, IsReadItem, IsReadState}
 
 -- ---- lists
@@ -42,10 +41,6 @@ pub all-second : {X : Type 0} (Is : X → Type 0) (first second : List X) → Al
 all-second Is [] second all = all
 all-second Is (it ∷ first) second all = all-second Is first second all.1
 
-all-joined : {X : Type 0} (Is : X → Type 0) (first second : List X) → AllByRecursion Is first → AllByRecursion Is second → AllByRecursion Is (first ++ second)
-all-joined Is [] second all more = more
-all-joined Is (it ∷ first) second all more = (all.0, all-joined Is first second all.1 more)
-
 cons-kept : {X : Type 0} (Such : X → Type 0) (it : Option X) (others : List X) → IfSome it Such → AllByRecursion Such others → AllByRecursion Such (cons_option it others)
 cons-kept Such None others is all = all
 cons-kept Such (Some it) others is all = (is, all)
@@ -60,7 +55,7 @@ filtered says Is Such then (it ∷ items) all =
 flattened : {X Y : Type 0} (says : X → List Y) (Is : X → Type 0) (Such : Y → Type 0) → ((it : X) → Is it → AllByRecursion Such (says it))
     → (items : List X) → AllByRecursion Is items → AllByRecursion Such (flat_map says items)
 flattened says Is Such then [] all = tt
-flattened says Is Such then (it ∷ items) all = all-joined Such (says it) (flat_map says items) (then it all.0) (flattened says Is Such then items all.1)
+flattened says Is Such then (it ∷ items) all = all-append Such (says it) (flat_map says items) (then it all.0) (flattened says Is Such then items all.1)
 
 first-kept : {X : Type 0} (Such : X → Type 0) (items : List X) → AllByRecursion Such items → IfSome (slice_get items 0) Such
 first-kept Such [] all = tt

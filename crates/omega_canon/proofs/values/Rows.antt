@@ -1,5 +1,5 @@
 -- What the items, states and edges of an automaton keep that was read: what their symbols say.
-use Rattle.std.proofs.Common.{◌≡◌, ℕ, Bool, true, false, Option, Some, None, List, [], ◌∷◌, length}
+use Rattle.std.proofs.Common.{true, false, Some, None, List, [], ◌∷◌}
 use Rattle.std.specs.Prelude.{IfSome}
 use Rattle.std.specs.List.{AllByRecursion}
 use Rattle.omega_text.specs.Forms.{IsWord}
@@ -8,11 +8,9 @@ use Rattle.omega_acc.specs.AccReading.{IsAccOf}
 use Rattle.omega_acc.specs.RawLabel.{RawLabelTree}
 use Rattle.omega_acc.specs.Reading.{IsOf}
 use Rattle.omega_acc.specs.Symbols.{disjunctive}
-use Rattle.omega_acc.specs.declared.acc_name.Parameter.{Parameter}
 use Rattle.omega_acc.specs.declared.acc_name.Parameter.TheVariants as parameter
 use Rattle.omega_raw.specs.Grammar.{boolean_row, conj_row, each, edge_row, int_row, item_row, joined_row, label_row, optional, parameter_row, sig_row, spelled, state_row, string_row, value_row, word_row}
 use Rattle.omega_raw.specs.Symbols.{Symbol}
-use Rattle.omega_raw.specs.declared.header_value.HeaderValue.{HeaderValue}
 use Rattle.omega_raw.specs.declared.header_value.HeaderValue.TheVariants as value
 use Rattle.omega_raw.specs.declared.raw_automaton.RawAutomaton.{RawAutomaton}
 use Rattle.omega_raw.specs.declared.raw_edge.RawEdge.{RawEdge}
