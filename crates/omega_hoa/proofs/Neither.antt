@@ -1,7 +1,7 @@
 -- No text is neither read nor refused.
-use Rattle.std.proofs.Common.{zero, suc, ◌≡◌, ℕ, ◌+◌, ◌<◌, ◌≤◌, ◌⊎◌, Bool, true, false, Option, Some, None, List, [], ◌∷◌, ◌++◌, length, refl, sym, ap, subst, ◌∙◌, inl, inr, arith, append_assoc, append-nil, length-append}
+use Rattle.std.proofs.Common.{zero, suc, ◌≡◌, ℕ, ◌≤◌, ◌⊎◌, true, false, Some, None, List, [], ◌∷◌, ◌++◌, length, refl, sym, ap, subst, ◌∙◌, inl, inr, arith, append_assoc, append-nil, length-append}
 use Rattle.std.proofs.lemmas.Bool.{cases_lt}
-use Rattle.omega_text.specs.Cut.{CutOrFault, Cuts, IsCut, IsFault}
+use Rattle.omega_text.specs.Cut.{CutOrFault, Cuts, IsCut}
 use Rattle.omega_text.specs.Format.{GoesOneWay, IsLexical}
 use Rattle.omega_text.specs.Lexeme.{Lexeme}
 use Rattle.omega_text.specs.Limits.{most_text}
@@ -12,13 +12,12 @@ use Rattle.omega_text.specs.declared.refusal.Refusal.{Refusal}
 use Rattle.omega_text.specs.declared.refusal.Refusal.TheVariants.{Automaton as AutomatonRefusal, Text}
 use Rattle.omega_text.specs.declared.refusal.text.TextFault.{TextFault}
 use Rattle.omega_text.specs.declared.refusal.text.TextFault.TheVariants.{Lex, Number, Syntax, TooLong}
-use Rattle.omega_raw.specs.declared.raw_automaton.RawAutomaton.{RawAutomaton}
 use Rattle.omega_automaton.specs.Automaton.{Description}
 use Rattle.omega_automaton.specs.Faults.{fault_of}
 use Rattle.omega_automaton.specs.Laws.{MeaningsAreThere}
 use Rattle.omega_hoa.specs.Alone.{AreRefused, IsAutomatonRefusal, IsAutomatonText}
-use Rattle.omega_hoa.specs.Segment.{IsAutomatonOf, IsRawOf, IsSegmentFault}
-use Rattle.omega_hoa.specs.Stream.{IsItemOf, IsOpen, IsSegment, IsStream, IsStreamFault, IsStreamRefusal, IsStreamText, NoneEnds, Opens, is_end}
+use Rattle.omega_hoa.specs.Segment.{IsAutomatonOf, IsSegmentFault}
+use Rattle.omega_hoa.specs.Stream.{IsOpen, IsSegment, IsStream, IsStreamFault, IsStreamRefusal, IsStreamText, NoneEnds, Opens, is_end}
 use Rattle.omega_hoa.specs.declared.item.Item.{Item}
 use Rattle.omega_hoa.specs.declared.item.Item.TheVariants.{Automaton as AutomatonItem, Aborted}
 use Rattle.omega_hoa.proofs.Cutting.{cuts_split}
@@ -92,13 +91,16 @@ module _ (there : MeaningsAreThere) (source : List ℕ) (short : length source �
       rest = next ∷ more;
       split = split;
       whole = whole;
-      refused = inl (λ raw written. tokens_refused (Text (Syntax next.span.start)) (inr (record {
-        segment = segment;
-        rest = next ∷ more;
-        split = split;
-        whole = whole;
-        refused = inr ((raw, written), (next, more, refl, refl));
-      })), inl refl);
+      refused = inl (
+        λ raw written. tokens_refused (Text (Syntax next.span.start)) (inr (record {
+          segment = segment;
+          rest = next ∷ more;
+          split = split;
+          whole = whole;
+          refused = inr ((raw, written), (next, more, refl, refl));
+        })),
+        inl refl,
+      );
     }))
 
     -- a segment alone

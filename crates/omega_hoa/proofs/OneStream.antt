@@ -12,9 +12,8 @@ use Rattle.omega_text.specs.declared.refusal.Refusal.{Refusal}
 use Rattle.omega_text.specs.declared.refusal.Refusal.TheVariants.{Text}
 use Rattle.omega_text.specs.declared.refusal.text.TextFault.{TextFault}
 use Rattle.omega_text.specs.declared.refusal.text.TextFault.TheVariants.{Lex, Number, Syntax, TooLong}
-use Rattle.omega_automaton.specs.Automaton.{Description}
 use Rattle.omega_hoa.specs.Laws.{AreAlike}
-use Rattle.omega_hoa.specs.Segment.{IsAutomatonOf, IsSegmentFault}
+use Rattle.omega_hoa.specs.Segment.{IsSegmentFault}
 use Rattle.omega_hoa.specs.Stream.{IsFaultInside, IsFaultOutside, IsItemOf, IsOpen, IsRefusedBehind, IsSegment, IsStream, IsStreamFault, Opens, is_end}
 use Rattle.omega_hoa.specs.declared.item.Item.{Item}
 use Rattle.omega_hoa.specs.declared.item.Item.TheVariants.{Automaton as AutomatonItem, Aborted}

@@ -1,5 +1,5 @@
 -- A text is that of one automaton, or is refused in one way.
-use Rattle.std.proofs.Common.{◌≡◌, ℕ, ◌<◌, ◌≤◌, ◌⊎◌, List, [], ◌∷◌, ◌++◌, length, refl, sym, ap, subst, ◌∙◌, inl, inr, arith, append-nil}
+use Rattle.std.proofs.Common.{◌≡◌, ℕ, ◌<◌, ◌≤◌, List, [], ◌∷◌, ◌++◌, length, refl, sym, ap, subst, ◌∙◌, inl, inr, arith, append-nil}
 use Rattle.omega_text.specs.Cut.{CutsAreOne, CutsHaveNoFault, FaultsAreOne, IsCut, IsFault}
 use Rattle.omega_text.specs.Lexeme.{Lexeme}
 use Rattle.omega_text.specs.Limits.{most_text}
@@ -12,7 +12,7 @@ use Rattle.omega_text.specs.declared.refusal.Refusal.TheVariants.{Text}
 use Rattle.omega_text.specs.declared.refusal.text.TextFault.{TextFault}
 use Rattle.omega_text.specs.declared.refusal.text.TextFault.TheVariants.{Syntax, TooLong}
 use Rattle.omega_automaton.specs.Automaton.{Description}
-use Rattle.omega_hoa.specs.Alone.{AreRefused, HasNoSegmentAt, IsAutomatonRefusal, IsAutomatonText, IsInGrammar, IsSegmentRefused}
+use Rattle.omega_hoa.specs.Alone.{AreRefused, HasNoSegmentAt, IsAutomatonRefusal, IsAutomatonText, IsSegmentRefused}
 use Rattle.omega_hoa.specs.Laws.{AreAlike}
 use Rattle.omega_hoa.specs.Segment.{IsAutomatonOf, IsSegmentFault}
 use Rattle.omega_hoa.specs.Stream.{IsSegment, Opens, is_end}
@@ -34,7 +34,7 @@ has_segment count at lexemes segment rest none whole same = elim none [
       | inl unended ↦ open_is_no_segment lexemes segment rest End refl unended.0 whole same
       | inr aborted ↦
           let parts = first_end aborted.0 whole.inside aborted.2 rest aborted.1 whole.last (open_unended aborted.0 aborted.4) (open_unended whole.inside whole.before)
-              (ap is_end aborted.5) (ap is_end whole.ends) (sym aborted.3 ∙ same ∙ segment_split End segment rest whole) in
+          (ap is_end aborted.5) (ap is_end whole.ends) (sym aborted.3 ∙ same ∙ segment_split End segment rest whole) in
           let clash : Abort ≡ End = sym aborted.5 ∙ ap (λ lexeme. lexeme.kind) parts.mark ∙ whole.ends in
           cc
     ]

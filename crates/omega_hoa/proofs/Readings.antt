@@ -1,7 +1,6 @@
 -- What the tokens of a segment are is one.
-use Rattle.std.proofs.Common.{◌≡◌, Option, Some, None, List, [], refl, sym, ap, subst, ◌∙◌, inl, inr}
+use Rattle.std.proofs.Common.{◌≡◌, Some, None, List, [], refl, sym, ap, subst, ◌∙◌, inl, inr}
 use Rattle.omega_text.specs.Lexeme.{Lexeme}
-use Rattle.omega_text.specs.Refusal.{number_of}
 use Rattle.omega_text.specs.declared.hoa.kind.HoaKind.{HoaKind}
 use Rattle.omega_text.specs.declared.refusal.Refusal.{Refusal}
 use Rattle.omega_text.specs.declared.refusal.Refusal.TheVariants.{Automaton as AutomatonRefusal, Game, Io, Memory, Task, Text}

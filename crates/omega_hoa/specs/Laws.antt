@@ -1,9 +1,13 @@
--- What holds of texts of one automaton and of streams, whatever the code does.
-use Rattle.std.specs.Prelude.{◌≡◌, ℕ, ◌⊎◌, List}
+-- What holds of texts of one automaton, of streams, and of streams in pieces, whatever the code does.
+use Rattle.std.specs.Prelude.{◌≡◌, ℕ, ◌⊎◌, List, Option, Some, None, MatchOption}
 use Rattle.omega_text.specs.Refusal.{number_of}
 use Rattle.omega_text.specs.declared.refusal.Refusal.{Refusal}
+use Rattle.omega_text.specs.declared.refusal.Refusal.TheVariants.{Text}
+use Rattle.omega_text.specs.declared.refusal.text.TextFault.TheVariants.{TooLong}
 use Rattle.omega_automaton.specs.Automaton.{Description}
 use Rattle.omega_hoa.specs.Alone.{IsAutomatonRefusal, IsAutomatonText}
+use Rattle.omega_hoa.specs.Feeding.{IsFed}
+use Rattle.omega_hoa.specs.Kept.{Kept}
 use Rattle.omega_hoa.specs.Stream.{IsStreamFault, IsStreamRefusal, IsStreamText}
 use Rattle.omega_hoa.specs.declared.item.Item.{Item}
 
@@ -43,3 +47,21 @@ StreamsAreUnrefused = (source : List ℕ) (items : List Item) (refusal : Refusal
 -- no text is neither
 abbrev pub StreamsOrRefused : Type 0
 StreamsOrRefused = (source : List ℕ) → ((items : List Item) → IsStreamText source items → ⊥) → ((refusal : Refusal) → IsStreamRefusal source refusal → ⊥) → ⊥
+
+-- what a stream answers at its end that was fed with these bytes, and gave these items: nothing where they are a stream, else what refuses them, or what refused them before
+abbrev pub IsAnsweredAtEnd : List ℕ → List Item → Kept → Option Refusal → Type 0
+IsAnsweredAtEnd seen items kept None = IsStreamText seen items
+IsAnsweredAtEnd seen items kept (Some refusal) = MatchOption kept.refused (IsStreamFault seen items refusal) (λ before. refusal ≡ before)
+
+-- two answers are the same, but for the place of 3
+abbrev pub AnswersAreAlike : Option Refusal → Option Refusal → Type 0
+AnswersAreAlike None None = Unit {0}
+AnswersAreAlike None (Some other) = ⊥
+AnswersAreAlike (Some one) None = ⊥
+AnswersAreAlike (Some one) (Some other) = AreAlike one other
+
+-- two streams that were fed with the same bytes, in whichever pieces, and of which none passed the limit, gave the same items and answer alike at their ends
+abbrev pub CutsChangeNothing : Type 0
+CutsChangeNothing = (seen : List ℕ) (items others : List Item) (kept left : Kept) (one other : Option Refusal) → IsFed seen items kept → IsFed seen others left
+    → (one ≡ Some (Text TooLong) → ⊥) → (other ≡ Some (Text TooLong) → ⊥) → IsAnsweredAtEnd seen items kept one → IsAnsweredAtEnd seen others left other
+    → (items ≡ others) × AnswersAreAlike one other

@@ -1,5 +1,5 @@
 //! What holds of texts of one automaton and of streams, whatever the code does: each call does nothing and states one law.
-ghost use Rattle.omega_hoa.specs.Laws.{AutomataAreOne, AutomataAreUnrefused, AutomataOrRefused, RefusalsAreOne, StreamFaultsAreOne, StreamsAreOne, StreamsAreUnrefused, StreamsOrRefused};
+ghost use Rattle.omega_hoa.specs.Laws.{AutomataAreOne, AutomataAreUnrefused, AutomataOrRefused, CutsChangeNothing, RefusalsAreOne, StreamFaultsAreOne, StreamsAreOne, StreamsAreUnrefused, StreamsOrRefused};
 
 use omega_automaton::{meanings_are_one, meanings_are_there};
 use omega_raw::raws_are_one;
@@ -44,7 +44,7 @@ pub fn automata_or_refused()
     meanings_are_there();
 }
 
-/// A text is a stream with at most one list of items. So in whichever pieces it is fed to a `Stream`, these are its items.
+/// A text is a stream with at most one list of items.
 pub fn streams_are_one()
     ensures { StreamsAreOne }
 {
@@ -54,7 +54,7 @@ pub fn streams_are_one()
 }
 
 /// A text that is no stream is refused behind at most one list of items, and has at most one refusal but for the place of 3
-/// inside a segment. So in whichever pieces it is fed to a `Stream`, these come before that refusal.
+/// inside a segment.
 pub fn stream_faults_are_one()
     ensures { StreamFaultsAreOne }
 {
@@ -79,4 +79,15 @@ pub fn streams_or_refused()
     HoaKind::goes_on_one_way();
     cut_or_fault::<HoaKind>();
     meanings_are_there();
+}
+
+/// In whichever pieces a text within the limit is fed to a `Stream`, its items are the same, and what is answered at its end is
+/// alike: nothing, or the same refusal but for the place of 3 inside a segment.
+pub fn pieces_change_nothing()
+    ensures { CutsChangeNothing }
+{
+    HoaKind::goes_on_one_way();
+    cuts_are_one::<HoaKind>();
+    raws_are_one();
+    meanings_are_one();
 }

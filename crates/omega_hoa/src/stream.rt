@@ -38,7 +38,9 @@ impl Model for Stream {
 }
 
 impl Stream {
+    ghost use Rattle.std.specs.Result.{result_err};
     ghost use Rattle.omega_hoa.specs.Feeding.{Appends, IsFed};
+    ghost use Rattle.omega_hoa.specs.Laws.{IsAnsweredAtEnd};
 
     /// Before the first byte. No memory is taken.
     pub fn new(alloc: Global) -> Stream
@@ -89,6 +91,7 @@ impl Stream {
         ensures refused_before { IfSome self.refused (λ refusal. result ≡ Err refusal) }
         ensures ok { OnOk result ((seen : List ℕ) (items : List Item) → IsFed seen items self → IsStreamText seen items) }
         ensures refused { self.refused ≡ None → IfErr result (λ refusal. (seen : List ℕ) (items : List Item) → IsFed seen items self → IsStreamFault seen items refusal) }
+        ensures answered { (seen : List ℕ) (items : List Item) → IsFed seen items self → IsAnsweredAtEnd seen items self (result_err result) }
     {
         match self.refused {
             Some(refusal) => Err(refusal),

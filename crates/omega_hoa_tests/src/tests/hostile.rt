@@ -27,7 +27,9 @@ fn conjoined(alloc: Global, atoms: usize) -> Result<String, AllocError> {
 
 // An automaton with aliases and one label.
 fn labelled(alloc: Global, aliases: &str, label: &str) -> Result<String, AllocError> {
-    format!(in alloc; "HOA: v1 States: 1 AP: 1 \"a\" {aliases} Acceptance: 0 t --BODY-- State: 0 [{label}] 0 --END--")
+    format!(in alloc;
+        "HOA: v1 States: 1 AP: 1 \"a\" {aliases} Acceptance: 0 t --BODY-- State: 0 [{label}] 0 --END--"
+    )
 }
 
 // What an automaton with a label is answered.
@@ -46,7 +48,11 @@ fn labels_are_at_most_256_deep(rt: HostRuntime) -> Result<(), Fail> {
     let alloc = rt.alloc();
     for (pairs, number) in [(255, 0), (256, 32)].iter() {
         let label = nested(alloc, "0", *pairs)?;
-        assert_eq!(rt; label_answer(alloc, "", label.as_str())?, alike(*number), "{pairs}");
+        assert_eq!(rt;
+            label_answer(alloc, "", label.as_str())?,
+            alike(*number),
+            "{pairs}"
+        );
     }
     Ok(())
 }
@@ -56,7 +62,11 @@ fn chains_are_at_most_256_deep(rt: HostRuntime) -> Result<(), Fail> {
     let alloc = rt.alloc();
     for (atoms, number) in [(256, 0), (257, 32)].iter() {
         let label = conjoined(alloc, *atoms)?;
-        assert_eq!(rt; label_answer(alloc, "", label.as_str())?, alike(*number), "{atoms}");
+        assert_eq!(rt;
+            label_answer(alloc, "", label.as_str())?,
+            alike(*number),
+            "{atoms}"
+        );
     }
     Ok(())
 }
@@ -148,7 +158,9 @@ fn names(alloc: Global, count: u32) -> Result<String, AllocError> {
 // What an automaton with so many propositions, and one state with these edges, is answered.
 fn with_propositions(alloc: Global, count: u32, edges: &str) -> Result<(Told, Told), AllocError> {
     let names = names(alloc, count)?;
-    let text = format!(in alloc; "HOA: v1 AP: {count}{names} Acceptance: 0 t --BODY-- State: 0 {edges} --END--")?;
+    let text = format!(in alloc;
+        "HOA: v1 AP: {count}{names} Acceptance: 0 t --BODY-- State: 0 {edges} --END--"
+    )?;
     Ok(both(alloc, text.as_bytes()))
 }
 
@@ -169,7 +181,10 @@ fn blanks(alloc: Global, count: usize) -> Result<Vec<u8>, AllocError> {
 #[test]
 fn texts_are_at_most_16777216_bytes(rt: HostRuntime) -> Result<(), Fail> {
     let most = blanks(rt.alloc(), 16_777_216)?;
-    assert_eq!(rt; told(read_one(rt.alloc(), most.as_slice())), (3, Some(16_777_216)));
+    assert_eq!(rt;
+        told(read_one(rt.alloc(), most.as_slice())),
+        (3, Some(16_777_216))
+    );
     assert_eq!(rt; told(read_stream(rt.alloc(), most.as_slice())), (0, None));
     let more = blanks(rt.alloc(), 16_777_217)?;
     assert_eq!(rt; both(rt.alloc(), more.as_slice()), alike(4));

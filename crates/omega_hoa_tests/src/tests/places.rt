@@ -35,7 +35,11 @@ fn places_count_from_the_first_byte(rt: HostRuntime) {
     for (text, place) in BROKEN.iter() {
         let want = (3, Some(*place));
         assert_eq!(rt; told(read_one(rt.alloc(), text.as_bytes())), want, "{text}");
-        assert_eq!(rt; told(read_stream(rt.alloc(), text.as_bytes())), want, "{text}");
+        assert_eq!(rt;
+            told(read_stream(rt.alloc(), text.as_bytes())),
+            want,
+            "{text}"
+        );
     }
 }
 

@@ -9,7 +9,10 @@ const SEGMENTS: [(&str, u32); 14] = [
     ("HOA: v1 Foo: 1 --BODY-- --END--", 22),
     ("HOA: v1 Acceptance: 0 t Foo: 1 foo: 1 --BODY-- --END--", 23),
     ("HOA: v1 Acceptance: 0 t foo: 1 --BODY-- --END--", 0),
-    ("HOA: v1 Start: 2147483647 Acceptance: 0 t --BODY-- --END--", 24),
+    (
+        "HOA: v1 Start: 2147483647 Acceptance: 0 t --BODY-- --END--",
+        24,
+    ),
     ("HOA: v1 Acceptance: 1 Inf(1) --BODY-- --END--", 25),
     (
         "HOA: v1 States: 1 Start: 0 AP: 1 \"a\" Acceptance: 0 t --BODY-- State: 0 0 0 --END--",
@@ -23,9 +26,18 @@ const SEGMENTS: [(&str, u32); 14] = [
         "HOA: v1 States: 2 Start: 0 acc-name: all Acceptance: 0 t --BODY-- State: 0 [t] 0&1 State: 1 --END--",
         0,
     ),
-    ("HOA: v1 States: 2147483647 Acceptance: 0 t --BODY-- --END--", 0),
-    ("HOA: v1 Acceptance: 2147483647 t --BODY-- State: 0 {2147483646} --END--", 0),
-    ("HOA: v1 Acceptance: 2147483647 t --BODY-- State: 0 {2147483647} --END--", 25),
+    (
+        "HOA: v1 States: 2147483647 Acceptance: 0 t --BODY-- --END--",
+        0,
+    ),
+    (
+        "HOA: v1 Acceptance: 2147483647 t --BODY-- State: 0 {2147483646} --END--",
+        0,
+    ),
+    (
+        "HOA: v1 Acceptance: 2147483647 t --BODY-- State: 0 {2147483647} --END--",
+        25,
+    ),
     ("HOA: v1 Acceptance: 1 Foo(0) --BODY-- --END--", 31),
 ];
 
@@ -45,7 +57,10 @@ pub(super) const ABORTED_FIRST: &str =
 fn an_aborted_segment_stands_before_an_automaton(rt: HostRuntime) -> Result<(), Fail> {
     let items = read_stream(rt.alloc(), ABORTED_FIRST.as_bytes())?;
     assert_eq!(rt; counts(items.as_slice()), (1, 1));
-    assert_eq!(rt; told(read_one(rt.alloc(), ABORTED_FIRST.as_bytes())), (3, Some(20)));
+    assert_eq!(rt;
+        told(read_one(rt.alloc(), ABORTED_FIRST.as_bytes())),
+        (3, Some(20))
+    );
     Ok(())
 }
 
@@ -57,7 +72,8 @@ fn nothing_is_a_stream_and_no_automaton(rt: HostRuntime) -> Result<(), Fail> {
     Ok(())
 }
 
-const ALIASED: &str = "HOA: v1 States: 1 Start: 0 AP: 1 \"a\" Alias: @b 0|t Acceptance: 1 Inf(0) acc-name: Buchi --BODY-- State: 0 [!@b&0] 0 {0 0} --END--";
+const ALIASED: &str =
+    "HOA: v1 States: 1 Start: 0 AP: 1 \"a\" Alias: @b 0|t Acceptance: 1 Inf(0) acc-name: Buchi --BODY-- State: 0 [!@b&0] 0 {0 0} --END--";
 
 // Its counts: states, propositions, sets, defined states and edges.
 fn sizes(automaton: &Automaton) -> [usize; 5] {
@@ -78,7 +94,8 @@ fn parts_of_an_automaton_are_read(rt: HostRuntime) -> Result<(), Fail> {
 }
 
 // The first text of the emptiness game.
-const LOOP: &str = "HOA: v1 States: 1 Start: 0 AP: 1 \"a\" acc-name: Buchi Acceptance: 1 Inf(0) --BODY-- State: 0 [0] 0 {0} --END--";
+const LOOP: &str =
+    "HOA: v1 States: 1 Start: 0 AP: 1 \"a\" acc-name: Buchi Acceptance: 1 Inf(0) --BODY-- State: 0 [0] 0 {0} --END--";
 
 fn is_lexical_or_syntax(told: Told) -> bool {
     told.0 == 1 || told.0 == 3

@@ -1,8 +1,8 @@
 -- Where the stream ends, its bytes are those of a whole stream, or are refused.
-use Rattle.std.proofs.Common.{◌≡◌, ◌+◌, length, sym, subst, arith}
+use Rattle.std.proofs.Common.{◌≡◌, ◌+◌, ◌∙◌, None, ap, length, sym, subst, arith}
 use Rattle.omega_hoa.specs.Feeding.{IsDivided, IsFed, IsTaken}
 use Rattle.omega_hoa.specs.Kept.{Kept}
-use Rattle.omega_hoa.proofs.Feeds.{taken_of}
+use Rattle.omega_hoa.proofs.Feeds.{answered_before, answered_now, answered_of, taken_of}
 use Rattle.omega_hoa.proofs.Ones.{err_says, ok_says}
 use Rattle.omega_hoa.proofs.stream.Stream.finish.Goals as goal
 
@@ -36,3 +36,17 @@ returns-clause-refused c = λ none. err_says c.end_outside.result _ _ (λ refusa
       finished = c.finish-settled.ensures.finishes seen taken.lexemes taken.read;
     }))
     c.end_outside.ensures.refused
+
+pub returns-in-Some-clause-answered : goal.returns-in-Some-clause-answered
+returns-in-Some-clause-answered c = λ seen items fed.
+    answered_before c.in-Some.refusal seen items c.args.self (sym (ap (λ kept. kept.refused) c.self.view_is) ∙ c.in-Some.is)
+
+pub returns-then-self-clause-answered : goal.returns-then-self-clause-answered
+returns-then-self-clause-answered c = λ seen items fed.
+    let none : c.args.self.refused ≡ None = sym (ap (λ kept. kept.refused) c.self.view_is) ∙ c.in-None.is in
+    answered_now c.end_inside.result seen items c.args.self none (returns-then-self-clause-refused c none seen items fed)
+
+pub returns-clause-answered : goal.returns-clause-answered
+returns-clause-answered c = λ seen items fed.
+    let none : c.args.self.refused ≡ None = sym (ap (λ kept. kept.refused) c.self.view_is) ∙ c.in-None.is in
+    answered_of c.end_outside.result seen items c.args.self none fed (returns-clause-ok c) (returns-clause-refused c none)
