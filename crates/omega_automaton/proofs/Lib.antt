@@ -7,3 +7,4 @@ pub mod Repeats
 pub mod Said
 pub mod Uniqueness
 pub mod Zipped
+pub mod validity

@@ -2,7 +2,6 @@
 #![tactic(auto)]
 
 mod alone;
-mod automaton;
 mod division;
 mod ending;
 mod item;
@@ -13,7 +12,8 @@ mod segment;
 mod stream;
 
 pub use alone::read_one;
-pub use automaton::Automaton;
 pub use item::Item;
+pub use omega_automaton::Automaton;
+pub use omega_text::Refusal;
 pub use reading::read_stream;
 pub use stream::Stream;

@@ -3,8 +3,7 @@ ghost use Rattle.omega_text.specs.Limits.{most_text};
 ghost use Rattle.omega_text.specs.declared.refusal.Refusal.TheVariants.{Memory, Text};
 ghost use Rattle.omega_text.specs.declared.refusal.text.TextFault.TheVariants.{TooLong};
 ghost use Rattle.omega_hoa.specs.declared.item.Item.{Item};
-ghost use Rattle.omega_hoa.specs.Stream.{IsStreamText};
-ghost use Rattle.omega_hoa.specs.dividing.Ending.{IsRefusedAtEnd};
+ghost use Rattle.omega_hoa.specs.Stream.{IsStreamFault, IsStreamText};
 ghost use Rattle.omega_hoa.specs.dividing.Next.{IsProgressSome, IsReadAs, IsRefusedFrom, IsRefusedThen};
 
 use crate::division::Division;
@@ -89,7 +88,7 @@ impl Stream {
     pub fn finish(self) -> Result<(), Refusal>
         ensures refused_before { IfSome self.refused (λ refusal. result ≡ Err refusal) }
         ensures ok { OnOk result ((seen : List ℕ) (items : List Item) → IsFed seen items self → IsStreamText seen items) }
-        ensures refused { self.refused ≡ None → IfErr result (λ refusal. (seen : List ℕ) (items : List Item) → IsFed seen items self → IsRefusedAtEnd seen items refusal) }
+        ensures refused { self.refused ≡ None → IfErr result (λ refusal. (seen : List ℕ) (items : List Item) → IsFed seen items self → IsStreamFault seen items refusal) }
     {
         match self.refused {
             Some(refusal) => Err(refusal),

@@ -1,9 +1,9 @@
 -- What a call reads behind the header of an item.
 use Rattle.std.specs.Prelude.{◌≡◌, ℕ, List, Result, IfOk}
 use Rattle.omega_raw.specs.Grammar.{IsItem, content_row, item_header, item_name}
-use Rattle.omega_raw.specs.Parts.{EndsItem}
-use Rattle.omega_raw.specs.Reading.{FirstIs, Found, Given}
-use Rattle.omega_raw.specs.Symbols.{Spells, Symbol, Tokens}
+use Rattle.omega_raw.specs.steps.Parts.{EndsItem}
+use Rattle.omega_raw.specs.steps.Reading.{Found, Given}
+use Rattle.omega_raw.specs.Symbols.{FirstIs, Spells, Symbol, Tokens}
 use Rattle.omega_raw.specs.declared.header.name.Header.{Header}
 use Rattle.omega_raw.specs.declared.header.name.Header.TheVariants as named
 use Rattle.omega_raw.specs.declared.raw_item.RawItem.{RawItem}

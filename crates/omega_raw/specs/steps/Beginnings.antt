@@ -3,9 +3,9 @@ use Rattle.std.specs.Prelude.{◌≡◌, ℕ, true, false, List, [], ◌∷◌, 
 use Rattle.omega_acc.specs.declared.acc_name.Parameter.{Parameter}
 use Rattle.omega_acc.specs.declared.acc_name.Parameter.TheVariants as parameter
 use Rattle.omega_raw.specs.Grammar.{IsConj, IsEdge, IsItem, IsState, conj_row, edge_row, item_row, label_row, optional, parameter_row, sig_row, state_row, value_row}
-use Rattle.omega_raw.specs.Parts.{EndsEdge, EndsItem, EndsState, is_edge, is_header, is_parameter, is_value}
-use Rattle.omega_raw.specs.Reading.{FirstIs, IsAny}
-use Rattle.omega_raw.specs.Symbols.{Symbol}
+use Rattle.omega_raw.specs.steps.Parts.{EndsEdge, EndsItem, EndsState, is_edge, is_header, is_parameter, is_value}
+use Rattle.omega_raw.specs.steps.Reading.{IsAny}
+use Rattle.omega_raw.specs.Symbols.{FirstIs, Symbol}
 use Rattle.omega_raw.specs.declared.header_value.HeaderValue.{HeaderValue}
 use Rattle.omega_raw.specs.declared.raw_edge.RawEdge.{RawEdge}
 use Rattle.omega_raw.specs.declared.raw_item.RawItem.{RawItem}

@@ -3,9 +3,8 @@ use Rattle.std.specs.Prelude.{◌≡◌, Bool, false, List, [], ◌∷◌, Resul
 use Rattle.omega_acc.specs.Depth.{IsMemory}
 use Rattle.omega_acc.specs.Symbols.{IsUnread}
 use Rattle.omega_text.specs.declared.hoa.kind.HoaKind.{HoaKind}
-use Rattle.omega_text.specs.declared.hoa.kind.HoaKind.TheVariants as kind
 use Rattle.omega_text.specs.declared.refusal.Refusal.{Refusal}
-use Rattle.omega_raw.specs.Symbols.{Spells, Symbol, Tokens, alias, formula, header, label, number, sign, text, word}
+use Rattle.omega_raw.specs.Symbols.{Spells, Symbol, Tokens}
 
 -- the next token is not of this kind
 abbrev pub NextIsNot : HoaKind → Tokens → Type 0
@@ -21,18 +20,6 @@ NextIs Holds (lexeme ∷ rest) = Holds lexeme.kind
 abbrev pub NextMayBe : (HoaKind → Type 0) → Tokens → Type 0
 NextMayBe Holds [] = Unit {0}
 NextMayBe Holds (lexeme ∷ rest) = Holds lexeme.kind
-
--- the first symbol is a token, and this holds of its kind
-abbrev pub FirstIs : (HoaKind → Type 0) → List Symbol → Type 0
-FirstIs Holds [] = ⊥
-FirstIs Holds (number n ∷ others) = Holds kind.Int
-FirstIs Holds (word bytes ∷ others) = Holds kind.Identifier
-FirstIs Holds (header bytes ∷ others) = Holds kind.HeaderName
-FirstIs Holds (alias bytes ∷ others) = Holds kind.AliasName
-FirstIs Holds (text bytes ∷ others) = Holds kind.String
-FirstIs Holds (sign kind ∷ others) = Holds kind
-FirstIs Holds (label tree ∷ others) = ⊥
-FirstIs Holds (formula tree ∷ others) = ⊥
 
 -- want of memory, or the fault of a syntax
 abbrev pub IsRefusal : Refusal → Type 0
