@@ -2,7 +2,6 @@
 use Rattle.std.proofs.Common.{◌≡◌, ℕ, ◌+◌, ◌≤◌, ◌<◌, ◌⊎◌, List, [], ◌∷◌, ◌++◌, Option, None, Some, length, refl, sym, ap, subst, ◌∙◌, inl, inr, arith, append_assoc, append-nil, length-append}
 use Rattle.std.proofs.lemmas.Bool.{cases_lt}
 use Rattle.std.specs.Prelude.{IfSome, MatchOption, Result, Err, Ok}
-use Rattle.omega_text.specs.Cases.{or_memory}
 use Rattle.omega_text.specs.Cut.{Cuts}
 use Rattle.omega_text.specs.Format.{Format, GoesOneWay}
 use Rattle.omega_text.specs.Lexeme.{Lexeme}
@@ -16,11 +15,9 @@ use Rattle.omega_text.specs.declared.refusal.text.TextFault.TheVariants.{TooLong
 use Rattle.omega_hoa.specs.Feeding.{Appends, IsFed, IsRefusedSoFar, IsTaken}
 use Rattle.omega_hoa.specs.Kept.{Kept}
 use Rattle.omega_hoa.specs.Stream.{IsItemOf, IsSegment, IsStream, IsStreamFault, IsStreamRefusal, IsStreamText}
-use Rattle.omega_hoa.specs.dividing.Ending.{IsRefusedAtEnd}
 use Rattle.omega_hoa.specs.dividing.Next.{IsRefusedThen}
 use Rattle.omega_hoa.specs.declared.item.Item.{Item}
 use Rattle.omega_hoa.specs.declared.item.Item.TheVariants.{Aborted, Automaton}
-use Rattle.omega_hoa.proofs.Ones.{of_memory}
 use Rattle.omega_hoa.proofs.Wholes.{errors_are_one}
 use Rattle.omega_feed.specs.Telling.{IsTelling, texts_from}
 use Rattle.omega_feed.specs.steps.Following.{AreRefusedBy, Tells}
@@ -122,26 +119,22 @@ module _ (text : ℕ → Item → List ℕ) (seen : List ℕ) (kept : Kept) (cou
       let tells = tells_of none in record { items = tells.items; read = ends tells.items tells.fed; all = tells.all }
 
   ends_refused_by : (refused : Option Refusal) (refusal : Refusal) → kept.refused ≡ refused → length seen ≤ most_text
-      → (kept.refused ≡ None → (items : List Item) → IsFed seen items kept → IsRefusedAtEnd seen items refusal)
+      → (kept.refused ≡ None → (items : List Item) → IsFed seen items kept → IsStreamFault seen items refusal)
       → IfSome refused (λ before. refusal ≡ before)
-      → or_memory (IsStreamRefusal seen) refusal
+      → IsStreamRefusal seen refusal
   ends_refused_by None refusal is short ends before =
-      let tells = tells_of is in
-      elim (ends is tells.items tells.fed) [
-        | inl memory ↦ subst (or_memory (IsStreamRefusal seen)) (sym memory) tt
-        | inr fault ↦ of_memory (IsStreamRefusal seen) refusal (inr (short, (tells.items, fault)))
-      ]
+      let tells = tells_of is in inr (short, (tells.items, ends is tells.items tells.fed))
   ends_refused_by (Some earlier) refusal is short ends before =
       let refused : AreRefusedBy seen earlier = subst (λ state. MatchOption state (Tells text seen kept count told) (AreRefusedBy seen)) is follows in
       let found = refused [] in
       let fault : IsStreamFault seen found.0 refusal = subst (IsStreamFault seen found.0) (sym before) (subst (λ source. IsStreamFault source found.0 earlier) (append-nil seen) found.1) in
-      of_memory (IsStreamRefusal seen) refusal (inr (short, (found.0, fault)))
+      inr (short, (found.0, fault))
 
   -- the text is refused at its end, or was before
   pub ends_refused : (refusal : Refusal) → length seen ≤ most_text
-      → (kept.refused ≡ None → (items : List Item) → IsFed seen items kept → IsRefusedAtEnd seen items refusal)
+      → (kept.refused ≡ None → (items : List Item) → IsFed seen items kept → IsStreamFault seen items refusal)
       → IfSome kept.refused (λ before. refusal ≡ before)
-      → or_memory (IsStreamRefusal seen) refusal
+      → IsStreamRefusal seen refusal
   ends_refused refusal short ends before = ends_refused_by kept.refused refusal refl short ends before
 
   -- ---- a piece more

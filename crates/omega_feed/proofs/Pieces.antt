@@ -9,7 +9,6 @@ use Rattle.omega_text.specs.declared.refusal.Refusal.{Refusal}
 use Rattle.omega_text.specs.declared.refusal.Refusal.TheVariants.{Automaton, Game, Io, Memory, Task, Text}
 use Rattle.omega_io.specs.Failures.{failures_of}
 use Rattle.omega_io.specs.Reading.{IsRead, ReadsText}
-use Rattle.omega_hoa.specs.Segment.{IsSegmentFault}
 use Rattle.omega_hoa.specs.Stream.{IsStreamRefusal}
 use Rattle.omega_hoa.specs.declared.item.Item.{Item}
 use Rattle.omega_feed.specs.declared.telling.Telling.{Telling}
@@ -42,18 +41,17 @@ reads_end before now after seen first then = subst (Consumes before after) (appe
 
 -- no text is refused for a read that failed
 no_io : (source : List ℕ) → IsStreamRefusal source Io → ⊥
-unfolding IsSegmentFault
 no_io source (inl (is, long)) = cc
 no_io source (inr (short, (items, fault))) = elim fault.refused [
   | inl outside ↦ outside.1
   | inr others ↦ elim others [
     | inl inside ↦ inside.1
-    | inr segment ↦ let is = segment.1 in cc
+    | inr segment ↦ segment.1
   ]
 ]
 
 -- so no read failed where the text is refused
-pub none_failed : {A : Type 0} (result : Result A Refusal) (source : List ℕ) → IfErr result (or_memory (IsStreamRefusal source)) → failures_of result ≡ 0
+pub none_failed : {A : Type 0} (result : Result A Refusal) (source : List ℕ) → IfErr result (IsStreamRefusal source) → failures_of result ≡ 0
 none_failed (Ok value) source refused = refl
 none_failed (Err (Text fault)) source refused = refl
 none_failed (Err (Game fault)) source refused = refl
@@ -64,7 +62,7 @@ none_failed (Err Io) source refused = absurd (no_io source refused)
 
 -- the input was read, and its text is refused
 pub reads_refused : {A : Type 0} (result : Result A Refusal) (before after : Option (List ℕ)) (source : List ℕ) → IsRead before after source
-    → IfErr result (or_memory (IsStreamRefusal source)) → IfErr result (or_memory (or_io (λ refusal. ReadsText before after (λ text. IsStreamRefusal text refusal))))
+    → IfErr result (IsStreamRefusal source) → IfErr result (or_memory (or_io (λ refusal. ReadsText before after (λ text. IsStreamRefusal text refusal))))
 reads_refused (Ok value) before after source read refused = tt
 reads_refused (Err (Text fault)) before after source read refused = record { text = source; read = read; holds = refused }
 reads_refused (Err (Game fault)) before after source read refused = record { text = source; read = read; holds = refused }
@@ -75,7 +73,7 @@ reads_refused (Err Io) before after source read refused = tt
 
 -- what is said of each text that was followed is said of this one
 pub at_text : {A : Type 0} (result : Result A Refusal) (text : ℕ → Item → List ℕ) (telling : Telling) (seen : List ℕ) → length seen ≤ most_text → Follows text seen telling
-    → IfErr result (λ refusal. (source : List ℕ) → length source ≤ most_text → Follows text source telling → or_memory (IsStreamRefusal source) refusal)
-    → IfErr result (or_memory (IsStreamRefusal seen))
+    → IfErr result (λ refusal. (source : List ℕ) → length source ≤ most_text → Follows text source telling → IsStreamRefusal source refusal)
+    → IfErr result (IsStreamRefusal seen)
 at_text (Ok value) text telling seen short follows says = tt
 at_text (Err refusal) text telling seen short follows says = says seen short follows

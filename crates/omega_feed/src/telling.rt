@@ -1,5 +1,4 @@
 ghost use Rattle.std.specs.Prelude.{◌≡◌, ◌++◌, ◌+◌, ◌^◌, ◌<◌, ◌≤◌, [], List, ℕ, length, IfErr, IfOk, IsOkUnless, OnOk};
-ghost use Rattle.omega_text.specs.Cases.{or_memory};
 ghost use Rattle.omega_text.specs.Limits.{most_text};
 ghost use Rattle.omega_text.specs.declared.refusal.Refusal.TheVariants.{Memory};
 ghost use Rattle.omega_hoa.specs.Stream.{IsStreamRefusal};
@@ -73,10 +72,10 @@ fn append_items<T: ItemText>(
     Ok(())
 }
 
-/// Ends the stream, and gives what was told of it. 1 to 3, 20 to 33 or 60: the refusal of the text, or memory.
+/// Ends the stream, and gives what was told of it. 1 to 3 or 20 to 33: the refusal of the text.
 pub(crate) fn end<T: ItemText>(telling: Telling) -> Result<Vec<u8>, Refusal>
     ensures told { IfOk result (λ told. (seen : List ℕ) → Follows T.text seen telling → IsTelling T.text seen told.items) }
-    ensures refused { IfErr result (λ refusal. (seen : List ℕ) → length seen ≤ most_text → Follows T.text seen telling → or_memory (IsStreamRefusal seen) refusal) }
+    ensures refused { IfErr result (λ refusal. (seen : List ℕ) → length seen ≤ most_text → Follows T.text seen telling → IsStreamRefusal seen refusal) }
 {
     let Telling {
         stream,

@@ -3,7 +3,6 @@ use Rattle.std.proofs.Common.{◌≡◌, ◌≤◌, length, refl, take, subst, a
 use Rattle.std.proofs.lemmas.List.{length-take-le}
 use Rattle.std.specs.Io.KnownBytes.{Consumes}
 use Rattle.std.specs.Prelude.{IfErr}
-use Rattle.omega_text.specs.Cases.{or_memory}
 use Rattle.omega_text.specs.Limits.{most_text}
 use Rattle.omega_io.specs.Failures.{failures_of}
 use Rattle.omega_hoa.specs.Stream.{IsStreamRefusal}
@@ -32,7 +31,7 @@ returns-then-count-eq0-clause-counted g c =
     let reading = c.loop-total.invariant.reading in
     let within : c.loop-total.total ≤ most_text = omega (arith, c.loop-total-test.true) in
     let short : length reading.seen ≤ most_text = omega (arith, within, reading.count) in
-    let says : IfErr c.end.result (or_memory (IsStreamRefusal reading.seen)) =
+    let says : IfErr c.end.result (IsStreamRefusal reading.seen) =
     at_text c.end.result g.T.ItemText.text c.loop-total.telling reading.seen short (reading.follows within) c.end.ensures.refused in
     let none : failures_of c.end.result ≡ 0 = none_failed c.end.result reading.seen says in
     omega (arith, none, c.in_ok-count.ensures.counted, c.loop-total.invariant.counted)
