@@ -35,7 +35,7 @@ IsPlayerText text player = IsNumberText 1 text (player_number player)
 -- the name of a format that is offered
 abbrev pub IsFormatText : List ℕ → Format → Type 0
 IsFormatText text Pg = text ≡ codes "pg"
-IsFormatText text Hoa = ⊥
+IsFormatText text Hoa = text ≡ codes "hoa"
 
 -- what `clap` says of a flag
 abbrev pub IsTruthText : List ℕ → Bool → Type 0

@@ -10,11 +10,11 @@ use Rattle.omega_command.specs.declared.line.Line.TheVariants as line
 -- the command is one that the program offers
 abbrev pub IsOffered : Command → Type 0
 IsOffered (Show Pg) = Unit {0}
-IsOffered (Show Hoa) = ⊥
+IsOffered (Show Hoa) = Unit {0}
 IsOffered (Check Pg) = Unit {0}
-IsOffered (Check Hoa) = ⊥
+IsOffered (Check Hoa) = Unit {0}
 IsOffered (Canon Pg) = Unit {0}
-IsOffered (Canon Hoa) = ⊥
+IsOffered (Canon Hoa) = Unit {0}
 IsOffered (Solve asked from) = Unit {0}
 IsOffered (Search from) = Unit {0}
 IsOffered (Verify game) = Unit {0}

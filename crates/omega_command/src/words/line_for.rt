@@ -65,6 +65,8 @@ fn format_in<'a>(options: &Options<'a>) -> Result<Format, Mistake<'a>>
     };
     if text == "pg" {
         Ok(Format::Pg)
+    } else if text == "hoa" {
+        Ok(Format::Hoa)
     } else {
         Err(Mistake::Value(OptionName::Format, text, Reason::NoFormat))
     }
