@@ -35,7 +35,7 @@ Answers (Canon Pg) budget text exit output = (exit ≡ Done) × IsCanonAnswer te
 Answers (Canon Hoa) budget text exit output = ⊥
 Answers (Solve player from) budget text exit output = (exit ≡ Done) × IsSolveAnswer text (asked_for player) from budget output
 Answers (Search from) budget text exit output = (exit ≡ Done) × IsSolveAnswer text way.Search from budget output
-Answers (Verify game) budget text exit output = IsVerifyAnswer game text exit output
+Answers (Verify game explain) budget text exit output = IsVerifyAnswer game explain text exit output
 Answers Empty budget text exit output = ⊥
 Answers Game budget text exit output = ⊥
 
@@ -49,7 +49,7 @@ Refuses (Canon Pg) budget text refusal = IsRefusal text refusal
 Refuses (Canon Hoa) budget text refusal = ⊥
 Refuses (Solve player from) budget text refusal = IsSolveRefusal text (asked_for player) from budget refusal
 Refuses (Search from) budget text refusal = IsSolveRefusal text way.Search from budget refusal
-Refuses (Verify game) budget text refusal = IsVerifyRefusal game text refusal
+Refuses (Verify game explain) budget text refusal = IsVerifyRefusal game text refusal
 Refuses Empty budget text refusal = ⊥
 Refuses Game budget text refusal = ⊥
 

@@ -56,9 +56,9 @@ pub fn respond<R: Input>(
             )?;
             Ok((Exit::Done, made))
         }
-        Command::Verify { game } => {
+        Command::Verify { game, explain } => {
             let text = read_all(alloc, input)?;
-            verify_solution(alloc, game.as_slice(), text)
+            verify_solution(alloc, game.as_slice(), text, *explain)
         }
         Command::Show(Format::Hoa) => unreachable!(),
         Command::Check(Format::Hoa) => unreachable!(),

@@ -49,6 +49,14 @@ pub fn search_option<'a>(alloc: Global) -> Arg<'a> {
         .help("Solve by a search whose answer is judged, which is far quicker on large games")
 }
 
+/// The flag that asks why a solution is not right.
+pub fn explain_option<'a>(alloc: Global) -> Arg<'a> {
+    Arg::new(alloc, "explain")
+        .long("explain")
+        .action(ArgAction::SetTrue)
+        .help("Write after `no` a walk on which a player loses")
+}
+
 /// The option that bounds the work.
 pub fn budget_option<'a>(alloc: Global) -> Arg<'a> {
     Arg::new(alloc, "budget")

@@ -1,5 +1,5 @@
 -- A place of a losing priority that is reached and recurs gives a lasso that shows that the strategy does not win.
-use Rattle.std.proofs.Common.{◌≡◌, ℕ, ◌<◌, ◌≤◌, IsTrue, Option, List, [], ◌∷◌, ◌++◌, length, Contains, All, sym, ◌∙◌, subst}
+use Rattle.std.proofs.Common.{ℕ, ◌<◌, IsTrue, Option, List, length, All, sym, subst}
 use Rattle.std.proofs.lemmas.List.Elements.{All-contains}
 use Rattle.omega_game.specs.declared.player.Player.{Player}
 use Rattle.omega_game.specs.declared.lasso.Lasso.{Lasso}

@@ -1,11 +1,9 @@
 -- The ways on which a search in breadth met places are low paths, and those that come back are cycles of a walk.
-use Rattle.std.proofs.Common.{◌≡◌, ℕ, ◌+◌, ◌<◌, ◌≤◌, ◌⊎◌, inl, inr, IsTrue, Option, Some, None, List, [], ◌∷◌, ◌++◌, length, get_or, Contains, refl, sym, ◌∙◌, ap, subst, arith, append_assoc, reverse}
+use Rattle.std.proofs.Common.{◌≡◌, ℕ, ◌+◌, ◌<◌, ◌≤◌, ◌⊎◌, inl, inr, Option, Some, List, [], ◌∷◌, ◌++◌, length, get_or, Contains, refl, sym, ◌∙◌, ap, subst, arith, append_assoc, reverse}
 use Rattle.std.proofs.lemmas.Bool.{cases_lt}
 use Rattle.std.proofs.lemmas.List.{get_or_default, reverse-append}
-use Rattle.omega_game.specs.declared.player.Player.{Player}
-use Rattle.omega_game.specs.Game.{Node, IsGame, priority_at}
-use Rattle.omega_game.specs.Winning.{end_of}
-use Rattle.omega_game.specs.checking.Reaching.{left_at, IsLowPath, IsReached}
+use Rattle.omega_game.specs.Game.{Node, priority_at}
+use Rattle.omega_game.specs.checking.Reaching.{left_at}
 use Rattle.omega_game.specs.refuting.Ways.{origin_at, IsTree, IsWay, root, onward, LeadsTo}
 use Rattle.omega_game.proofs.walks.Marking.{path_on, end_on}
 
