@@ -55,7 +55,7 @@ const PIECES: [(&[&str], &[Told], (usize, usize)); 12] = [
         &[(0, None), (0, None), (0, None), (0, None)],
         (0, 1),
     ),
-    // A fault of meaning, of syntax and of tokens behind an automaton, each in the call that settles it.
+    // A fault of meaning and one of syntax behind an automaton, each in the call that completes its segment.
     (
         &[
             "HOA: v1 Acceptance: 0 t --BODY-- --END-- HOA: v2 --BODY-- --END",
