@@ -186,10 +186,35 @@ fn names_the_file_of_the_game(rt: HostRuntime) -> Result<(), Fail> {
         words.push(String::from_str(rt.alloc(), word)?)?;
     }
     let is_named = match read_words(rt.alloc(), words.as_slice())? {
-        Line::Verify { file } => file.as_str() == "my game.pg",
+        Line::Verify { file, explain } => file.as_str() == "my game.pg" && !explain,
         _ => false,
     };
     assert!(rt; is_named);
+    Ok(())
+}
+
+/// Whether a command line asks for a `no` to be explained, none where it does not ask to verify.
+fn explains(alloc: Global, line: &str) -> Result<Option<bool>, Fail> {
+    let words = words_of(alloc, line)?;
+    match read_words(alloc, words.as_slice())? {
+        Line::Verify { explain, .. } => Ok(Some(explain)),
+        _ => Ok(None),
+    }
+}
+
+#[test]
+fn asks_for_an_explanation(rt: HostRuntime) -> Result<(), Fail> {
+    assert_eq!(rt;
+        explains(rt.alloc(), "omega verify --game g --explain")?,
+        Some(true)
+    );
+    assert_eq!(rt;
+        explains(rt.alloc(), "omega verify --explain --game g")?,
+        Some(true)
+    );
+    assert_eq!(rt; explains(rt.alloc(), "omega verify --game g")?, Some(false));
+    assert_eq!(rt; explains(rt.alloc(), "omega verify --explain")?, None);
+    assert_eq!(rt; explains(rt.alloc(), "omega solve --explain")?, None);
     Ok(())
 }
 
