@@ -1,0 +1,2 @@
+-- Lemmas of emptiness: infinite runs.
+pub mod runs
