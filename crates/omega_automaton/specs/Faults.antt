@@ -1,6 +1,6 @@
 -- When each meaning fault of an automaton text applies, each by itself, and which one the text has (docs/formats.md,
 -- meaning of an automaton text).
-use Rattle.std.specs.Prelude.{ℕ, ◌+◌, ◌^◌, Bool, false, not, ◌&&◌, ◌||◌, ◌==◌, nat_lt, nat_le, nat_eq, List, [], ◌∷◌, length, map, sum_by, count_by, find, max, min, Option, Some, None, is_some, is_none, option_map, option_and_then, unwrap_or, codes}
+use Rattle.std.specs.Prelude.{ℕ, ◌+◌, ◌^◌, Bool, false, true, not, ◌&&◌, ◌||◌, ◌==◌, nat_lt, nat_le, nat_eq, List, [], ◌∷◌, length, map, sum_by, count_by, find, max, min, Option, Some, None, is_some, is_none, option_map, option_and_then, unwrap_or, codes}
 use Rattle.std.specs.List.{filter_map, list_all, list_any}
 use Rattle.std.specs.Str.{bytes_eq}
 use Rattle.omega_text.specs.Limits.{most_number}
@@ -52,9 +52,14 @@ begins_capital (byte ∷ rest) = nat_le 65 byte && nat_le byte 90
 unfoldable pub has_unknown_capital : RawAutomaton → Bool
 has_unknown_capital raw = list_any (λ item. passes (λ header. begins_capital header.name) (unknown_in item)) raw.items
 
--- whether a state of the body mentions a state that passes a test: by its own number or as a target of an edge
-abbrev pub mentions : (ℕ → Bool) → RawState → Bool
-mentions test state = test state.number || list_any (λ edge. list_any test edge.targets) state.edges
+-- whether states that a start or an edge lists are out of range: not all below a count, or none at all, which no text writes
+abbrev pub are_out_of_range : ℕ → List ℕ → Bool
+are_out_of_range count [] = true
+are_out_of_range count (state ∷ states) = list_any (nat_le count) (state ∷ states)
+
+-- whether a state of the body is out of range: it is not below a count, or an edge of it lists states that are out of range
+abbrev pub is_out_of_range : ℕ → RawState → Bool
+is_out_of_range count state = nat_le count state.number || list_any (λ edge. are_out_of_range count edge.targets) state.edges
 
 -- the greatest of what is given for each item of a list, 0 where there is none
 abbrev pub greatest_of : {X : Type 0} → (X → ℕ) → List X → ℕ
@@ -81,11 +86,11 @@ mentioned_count raw = min most_number (max (greatest_of item_bound raw.items) (g
 abbrev pub state_count : RawAutomaton → ℕ
 state_count raw = unwrap_or (first_said states_in raw.items) (mentioned_count raw)
 
--- 24: whether a state that is mentioned is not below the count of states
+-- 24: whether a state that is mentioned is not below the count of states, or a start or an edge lists none
 unfoldable pub has_state_out_of_range : RawAutomaton → Bool
 has_state_out_of_range raw =
-    list_any (λ item. passes (list_any (nat_le (state_count raw))) (start_in item)) raw.items
-    || list_any (mentions (nat_le (state_count raw))) raw.states
+    list_any (λ item. passes (are_out_of_range (state_count raw)) (start_in item)) raw.items
+    || list_any (is_out_of_range (state_count raw)) raw.states
 
 -- whether a state of the body or an edge of it has a mark that passes a test
 abbrev pub is_marked : (ℕ → Bool) → RawState → Bool

@@ -3,7 +3,7 @@ use Rattle.std.specs.Prelude.{◌≡◌, ◌<◌, true, false, Some, None}
 use Rattle.omega_text.specs.Refusal.{automaton_number}
 use Rattle.omega_text.specs.declared.refusal.automaton.AutomatonFault.{AutomatonFault}
 use Rattle.omega_raw.specs.declared.raw_automaton.RawAutomaton.{RawAutomaton}
-use Rattle.omega_automaton.specs.Automaton.{Description}
+use Rattle.omega_automaton.specs.Automaton.{Description, IsAutomaton}
 use Rattle.omega_automaton.specs.Faults.{applies, fault_of}
 use Rattle.omega_automaton.specs.Meaning.{Means}
 
@@ -24,3 +24,11 @@ MeaningsAreOne = (raw : RawAutomaton) (a b : Description) → Means raw a → Me
 -- what means an automaton has no fault
 abbrev pub MeaningsHaveNoFault : Type 0
 MeaningsHaveNoFault = (raw : RawAutomaton) (a : Description) (fault : AutomatonFault) → Means raw a → applies raw fault ≡ false
+
+-- where there is no fault there is a meaning: an automaton that is written has one fault or means one automaton
+abbrev pub MeaningsAreThere : Type 0
+MeaningsAreThere = (raw : RawAutomaton) → fault_of raw ≡ None → (a : Description) × Means raw a
+
+-- what an automaton that is written means is an automaton: numbers below their counts, each state defined at most once, and the limits
+abbrev pub MeaningsAreAutomata : Type 0
+MeaningsAreAutomata = (raw : RawAutomaton) (a : Description) → Means raw a → IsAutomaton a

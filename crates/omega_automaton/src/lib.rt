@@ -14,10 +14,14 @@ mod tool;
 pub use automaton::Automaton;
 pub use edge::Edge;
 pub use header::Header;
-pub use laws::{faults_are_least, meanings_are_one, meanings_have_no_fault, no_fault_is_none};
+pub use laws::{
+    faults_are_least, meanings_are_automata, meanings_are_one, meanings_are_there,
+    meanings_have_no_fault, no_fault_is_none,
+};
 pub use limits::{MOST_PROPOSITIONS, MOST_TOTAL_SIZE, automaton_limits_are_stated};
+pub use making::automaton_of;
 pub use omega_acc::{Acc, AccName, Label, Parameter};
-pub use omega_raw::HeaderValue;
+pub use omega_raw::{HeaderValue, RawAutomaton};
 pub use omega_text::{AutomatonFault, Refusal, Seq};
 pub use state::State;
 pub use tool::Tool;

@@ -1,33 +1,33 @@
 ghost use Rattle.std.specs.Prelude.{◌≡◌, ◌+◌, ◌≤◌, ◌^◌, max, min, unwrap_or, [], nat_le};
 ghost use Rattle.std.specs.List.{list_any};
-ghost use Rattle.omega_automaton.specs.Faults.{bound_of as bound_in, greatest_of, has_state_out_of_range as state_out_of_range, item_bound as bound_of_item, mentioned_count as count_mentioned, mentions, passes, state_bound as bound_of_state, state_count as count_of_states};
+ghost use Rattle.omega_automaton.specs.Faults.{bound_of as bound_in, greatest_of, has_state_out_of_range as state_out_of_range, are_out_of_range as out_of_range, item_bound as bound_of_item, is_out_of_range as state_is_out_of_range, mentioned_count as count_mentioned, passes, state_bound as bound_of_state, state_count as count_of_states};
 ghost use Rattle.omega_automaton.specs.Items.{first_said, start_in, states_in};
 
 use omega_raw::{RawAutomaton, RawEdge, RawItem, RawState};
 use omega_text::MOST_NUMBER;
 
-/// Whether a state that is mentioned is not below the count of states (refusal 24).
+/// Whether a state that is mentioned is not below the count of states, or a start or an edge lists none (refusal 24).
 #[tactic(auto, unfolding(crate::specs::Faults::has_state_out_of_range))]
 pub(crate) fn has_state_out_of_range(raw: &RawAutomaton) -> bool
     ensures { result ≡ state_out_of_range raw.now }
 {
     let count = state_count(raw);
-    any_start_beyond(raw.items.as_slice(), count)
-        || any_mentioned_beyond(raw.states.as_slice(), count)
+    any_start_out_of_range(raw.items.as_slice(), count)
+        || any_state_out_of_range(raw.states.as_slice(), count)
 }
 
-/// Whether one of the items is a start with a state that is not below a count.
-fn any_start_beyond(items: &[RawItem], count: u32) -> bool
-    ensures { result ≡ list_any (λ item. passes (list_any (nat_le count)) (start_in item)) items.now }
+/// Whether one of the items is a start whose states are out of range.
+fn any_start_out_of_range(items: &[RawItem], count: u32) -> bool
+    ensures { result ≡ list_any (λ item. passes (out_of_range count) (start_in item)) items.now }
 {
-    items.iter().any(|item| starts_beyond(item, count))
+    items.iter().any(|item| is_start_out_of_range(item, count))
 }
 
-/// Whether one of the states mentions a state that is not below a count.
-fn any_mentioned_beyond(states: &[RawState], count: u32) -> bool
-    ensures { result ≡ list_any (mentions (nat_le count)) states.now }
+/// Whether one of the states of the body is out of range.
+fn any_state_out_of_range(states: &[RawState], count: u32) -> bool
+    ensures { result ≡ list_any (state_is_out_of_range count) states.now }
 {
-    states.iter().any(|state| mentions_beyond(state, count))
+    states.iter().any(|state| is_out_of_range(state, count))
 }
 
 /// Whether one of the numbers is not below a count.
@@ -37,30 +37,37 @@ pub(crate) fn any_beyond(numbers: &[u32], count: u32) -> bool
     numbers.iter().any(|number| count <= *number)
 }
 
-/// Whether an item is a start with a state that is not below a count.
-fn starts_beyond(item: &RawItem, count: u32) -> bool
-    ensures { result ≡ passes (list_any (nat_le count)) (start_in item.now) }
+/// Whether states that a start or an edge lists are not all below a count, or none at all, which no text writes.
+fn are_out_of_range(states: &[u32], count: u32) -> bool
+    ensures { result ≡ out_of_range count states.now }
+{
+    states.is_empty() || any_beyond(states, count)
+}
+
+/// Whether an item is a start whose states are out of range.
+fn is_start_out_of_range(item: &RawItem, count: u32) -> bool
+    ensures { result ≡ passes (out_of_range count) (start_in item.now) }
 {
     match item {
-        RawItem::Start(states) => any_beyond(states.as_slice(), count),
+        RawItem::Start(states) => are_out_of_range(states.as_slice(), count),
         _ => false,
     }
 }
 
-/// Whether a state of the body mentions one that is not below a count.
-fn mentions_beyond(state: &RawState, count: u32) -> bool
-    ensures { result ≡ mentions (nat_le count) state.now }
+/// Whether a state of the body is not below a count, or an edge of it lists states that are out of range.
+fn is_out_of_range(state: &RawState, count: u32) -> bool
+    ensures { result ≡ state_is_out_of_range count state.now }
 {
-    count <= state.number || lead_beyond(state.edges.as_slice(), count)
+    count <= state.number || any_edge_out_of_range(state.edges.as_slice(), count)
 }
 
-/// Whether one of the edges leads to a state that is not below a count.
-fn lead_beyond(edges: &[RawEdge], count: u32) -> bool
-    ensures { result ≡ list_any (λ edge. list_any (nat_le count) edge.targets) edges.now }
+/// Whether one of the edges lists states that are out of range.
+fn any_edge_out_of_range(edges: &[RawEdge], count: u32) -> bool
+    ensures { result ≡ list_any (λ edge. out_of_range count edge.targets) edges.now }
 {
     edges
         .iter()
-        .any(|edge| any_beyond(edge.targets.as_slice(), count))
+        .any(|edge| are_out_of_range(edge.targets.as_slice(), count))
 }
 
 /// The count of states: that of `States:`, or by the states mentioned, where a count over the greatest number of a text is
