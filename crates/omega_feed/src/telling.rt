@@ -57,11 +57,7 @@ pub(crate) fn take_piece<T: ItemText>(
 }
 
 /// Tells of items, of which the first has this number. 60 alone.
-fn append_items<T: ItemText>(
-    first: usize,
-    items: &[Item],
-    out: &mut Vec<u8>,
-) -> Result<(), Refusal>
+fn append_items<T: ItemText>(first: usize, items: &[Item], out: &mut Vec<u8>) -> Result<(), Refusal>
     requires { first + length items.now < 2 ^ 64 }
     ensures told { OnOk result (out.new.items ≡ out.old.items ++ texts_from T.text first items.now) }
     ensures memory { IsOkUnless result Memory }
