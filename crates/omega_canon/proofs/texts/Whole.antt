@@ -9,7 +9,7 @@ use Rattle.omega_acc.specs.Symbols.{IsNoOperator}
 use Rattle.omega_acc.specs.WritingLaws.{acc_written}
 use Rattle.omega_acc.specs.declared.acc_name.AccName.{AccName}
 use Rattle.omega_raw.specs.Grammar.{IsEdge, IsItem, IsState, each, item_row, spelled, state_row}
-use Rattle.omega_raw.specs.Reading.{FirstIs}
+use Rattle.omega_raw.specs.Symbols.{FirstIs}
 use Rattle.omega_raw.specs.Symbols.{Symbol, sign}
 use Rattle.omega_raw.specs.declared.raw_item.RawItem.{RawItem}
 use Rattle.omega_raw.specs.declared.raw_item.RawItem.TheVariants as item
