@@ -4,6 +4,7 @@ ghost use Rattle.omega_empty.specs.EmptinessGame.{sink_id, span};
 ghost use Rattle.omega_empty.specs.layout.Ready.{IsReady};
 
 use crate::edge_ranges::EdgeRange;
+use crate::kinds::counters_of;
 use omega_acc::AccKind;
 use omega_automaton::Automaton;
 
@@ -23,10 +24,7 @@ impl Judged<'_> {
     pub(crate) fn counters(&self) -> u32
         ensures { result ≡ counters self.now.kind }
     {
-        match self.kind {
-            AccKind::Parity(_) => 1,
-            AccKind::GenBuchi(sets) => sets,
-        }
+        counters_of(self.kind)
     }
 
     /// How many identifiers a counter has.
