@@ -1,6 +1,6 @@
 -- Steps from a state's node that player 0 wins: by any strategy that wins, an edge's node and then that of the state that it enters.
-use Rattle.std.proofs.Common.{◌≡◌, ℕ, ◌%◌, ◌<◌, ◌⊎◌, inl, inr, [], ◌∷◌, List, Option, sym, ap, ◌∙◌, arith, eq-eqb}
-use Rattle.omega_automaton.specs.Automaton.{BodyEdge, Description, IsAutomaton}
+use Rattle.std.proofs.Common.{◌≡◌, ℕ, ◌%◌, ◌⊎◌, inl, inr, [], ◌∷◌, List, Option, sym, ap, ◌∙◌, arith, eq-eqb}
+use Rattle.omega_automaton.specs.Automaton.{Description, IsAutomaton}
 use Rattle.omega_game.specs.Game.{Node}
 use Rattle.omega_game.specs.Winning.{IsClosedWalk, Leaves, Wins, greatest_on}
 use Rattle.omega_game.specs.declared.player.Player.TheVariants.{Zero}
@@ -9,7 +9,7 @@ use Rattle.omega_empty.specs.EmptinessGame.{IsEmptinessGame}
 use Rattle.omega_empty.proofs.playing.Places.{same_place}
 use Rattle.omega_empty.proofs.meaning.Accepting.{single}
 use Rattle.omega_empty.proofs.meaning.Reading.{sink_greatest}
-use Rattle.omega_empty.proofs.meaning.Steps.{AtEdge, AtSink, AtState, Entering, Leaving, leaves_edge, leaves_sink, leaves_state}
+use Rattle.omega_empty.proofs.meaning.Steps.{AtSink, AtState, Entering, Leaving, leaves_edge, leaves_sink, leaves_state}
 
 module _ (a : Description) (game : List Node) (automaton : IsAutomaton a) (is : IsEmptinessGame a game) (choices : List (Option ℕ)) where
   -- two steps from a state's node pass an edge that leaves the state, and lead to the node of the state that it enters, which is won too
