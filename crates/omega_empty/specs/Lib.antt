@@ -7,4 +7,5 @@ pub mod EmptinessGame
 pub mod Refusing
 pub mod Runs
 pub mod Laws
+pub mod GameLaws
 pub mod layout

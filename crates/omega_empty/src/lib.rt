@@ -3,6 +3,7 @@
 
 mod branching;
 mod edge_ranges;
+mod game_laws;
 mod games;
 mod judged;
 mod kinds;
@@ -11,6 +12,7 @@ mod marks;
 mod nodes;
 mod usable;
 
+pub use game_laws::{unwon_is_empty, won_walks_accept};
 pub use games::emptiness_game;
 pub use laws::{accepting_lassos_are_won, accepting_runs_have_lassos, lassos_are_accepting_runs};
 pub use omega_automaton::{Automaton, Refusal, Seq};

@@ -1,0 +1,24 @@
+//! Laws of the emptiness game, the other way: what player 0 wins gives accepting lassos.
+
+ghost use Rattle.omega_empty.specs.GameLaws.{UnwonIsEmpty, WonWalksAccept};
+
+use omega_acc::{buchi_is_every_set, parity_is_priority};
+use omega_region::regions_cover;
+
+/// A walk from a start's node, at the first counter, to a node that is no edge's, and a closed walk from there whose
+/// greatest priority is even, pass the edges of an accepting lasso.
+pub fn won_walks_accept()
+    ensures { WonWalksAccept }
+{
+    parity_is_priority();
+    buchi_is_every_set();
+}
+
+/// Player 0 wins no start's node, at the first counter, exactly if the automaton has no accepting lasso.
+pub fn unwon_is_empty()
+    ensures { UnwonIsEmpty }
+{
+    parity_is_priority();
+    buchi_is_every_set();
+    regions_cover();
+}
