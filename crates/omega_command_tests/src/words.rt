@@ -128,7 +128,10 @@ static HELP: [(&str, &str); 25] = [
     ("solve --help", "--search"),
     ("solve --player 0 -h", "player 0 lifts 1"),
     ("-h", "6  the answer of `omega verify` is no"),
-    ("verify --help", "Usage: omega verify --game <FILE>"),
+    (
+        "verify --help",
+        "Usage: omega verify [OPTIONS] --game <FILE>",
+    ),
     ("verify -h", "53 BadSolution"),
 ];
 
@@ -205,16 +208,16 @@ fn explains(alloc: Global, line: &str) -> Result<Option<bool>, Fail> {
 #[test]
 fn asks_for_an_explanation(rt: HostRuntime) -> Result<(), Fail> {
     assert_eq!(rt;
-        explains(rt.alloc(), "omega verify --game g --explain")?,
+        explains(rt.alloc(), "verify --game g --explain")?,
         Some(true)
     );
     assert_eq!(rt;
-        explains(rt.alloc(), "omega verify --explain --game g")?,
+        explains(rt.alloc(), "verify --explain --game g")?,
         Some(true)
     );
-    assert_eq!(rt; explains(rt.alloc(), "omega verify --game g")?, Some(false));
-    assert_eq!(rt; explains(rt.alloc(), "omega verify --explain")?, None);
-    assert_eq!(rt; explains(rt.alloc(), "omega solve --explain")?, None);
+    assert_eq!(rt; explains(rt.alloc(), "verify --game g")?, Some(false));
+    assert_eq!(rt; explains(rt.alloc(), "verify --explain")?, None);
+    assert_eq!(rt; explains(rt.alloc(), "solve --explain")?, None);
     Ok(())
 }
 
