@@ -1,0 +1,35 @@
+-- one counter more, and at the end the table, whose specifications have no fault
+use Rattle.std.proofs.Common.{◌≡◌, ℕ, List, ap, ◌∙◌, subst, arith}
+use Rattle.std.specs.Prelude.{IfOk}
+use Rattle.omega_game.specs.Building.{IsGameOf}
+use Rattle.omega_game.specs.declared.node_spec.NodeSpec.{NodeSpec}
+use Rattle.omega_empty.specs.Counters.{counters}
+use Rattle.omega_empty.specs.EmptinessGame.{table}
+use Rattle.omega_empty.proofs.making.Faultless.{memory_refused, table_faultless}
+use Rattle.omega_empty.proofs.making.Rows.{counters_more, table_made}
+use Rattle.omega_empty.proofs.games.built.Goals as goal
+
+pub loop-counter-preserved : goal.loop-counter-preserved
+loop-counter-preserved c =
+    counters_more c.args.judged.now.kind c.args.judged.now.automaton.now c.args.judged.now.usable.items c.loop-counter.counter c.loop-counter.builder c.add_counter.new.builder
+    c.loop-counter.invariant c.in_ok-add_counter.ensures.ok
+
+pub returns-clause-game : goal.returns-clause-game
+returns-clause-game c =
+    let judged = c.args.judged.now in
+    let all : c.loop-counter.counter ≡ counters judged.kind = omega (arith, c.counters-counter-end.ensures, c.loop-counter.auto.counter-end) in
+    let made : c.add_node.new.self ≡ table judged.kind judged.automaton.now judged.usable.items =
+    table_made judged.kind judged.automaton.now judged.usable.items c.loop-counter.counter c.sink-sink.result c.loop-counter.builder c.add_node.new.self
+    c.loop-counter.invariant all c.sink-sink.ensures c.in_ok-add_node.ensures.ok in
+    subst (λ (specs : List NodeSpec). IfOk c.finish.result (IsGameOf specs)) made c.finish.ensures.game
+
+pub returns-clause-memory : goal.returns-clause-memory
+returns-clause-memory c =
+    let judged = c.args.judged.now in
+    let all : c.loop-counter.counter ≡ counters judged.kind = omega (arith, c.counters-counter-end.ensures, c.loop-counter.auto.counter-end) in
+    let made : c.add_node.new.self ≡ table judged.kind judged.automaton.now judged.usable.items =
+    table_made judged.kind judged.automaton.now judged.usable.items c.loop-counter.counter c.sink-sink.result c.loop-counter.builder c.add_node.new.self
+    c.loop-counter.invariant all c.sink-sink.ensures c.in_ok-add_node.ensures.ok in
+    memory_refused c.finish.result c.add_node.new.self
+    (table_faultless judged.kind judged.automaton.now judged.usable.items c.add_node.new.self made c.requires.automaton c.requires.plain c.requires.fits)
+    c.finish.ensures.refused

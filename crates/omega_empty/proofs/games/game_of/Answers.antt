@@ -1,0 +1,19 @@
+-- all that was judged is ready
+use Rattle.std.proofs.Common.{◌≡◌, false, arith}
+use Rattle.omega_empty.specs.EmptinessGame.{has_branch}
+use Rattle.omega_empty.proofs.making.Plain.{few_identifiers, small_kind}
+use Rattle.omega_empty.proofs.games.game_of.Goals as goal
+
+pub built-requires : goal.built-requires
+built-requires c =
+    let plain : has_branch c.args.automaton.now ≡ false = cc in
+    record {
+      automaton = c.keeps_limits.ensures;
+      kind_is = c.requires.kind;
+      small = small_kind c.args.automaton.now c.args.kind c.keeps_limits.ensures c.requires.kind;
+      fits = c.requires.fits;
+      few = few_identifiers c.args.automaton.now c.args.kind c.requires.kind c.requires.fits;
+      plain = plain;
+      usable_are = c.in_ok-usable.ensures.usable;
+      ranges_are = c.in_ok-ranges.ensures.ranges;
+    }

@@ -1,0 +1,10 @@
+use Rattle.std.proofs.Common.{◌≡◌, ◌++◌, length, take}
+use Rattle.std.specs.List.{flat_map}
+use Rattle.omega_automaton.specs.Automaton.{edges_from}
+use Rattle.omega_empty.specs.EmptinessGame.{edge_nodes}
+use Rattle.omega_empty.proofs.nodes.add_edges.Given as goal
+
+abbrev pub invariant-loop-state : goal.invariant-loop-state
+invariant-loop-state l =
+    (l.number ≡ length (flat_map edges_from (take l.state-index l.judged.automaton.now.defined)))
+    × (l.builder ≡ l.initial.builder ++ edge_nodes l.judged.kind l.judged.automaton.now l.judged.usable.items l.counter 0 (flat_map edges_from (take l.state-index l.judged.automaton.now.defined)))

@@ -1,0 +1,40 @@
+-- one edge more
+use Rattle.std.proofs.Common.{◌≡◌, ℕ, ◌+◌, ◌++◌, ◌<◌, Bool, List, [], ◌∷◌, length, get_or, take, sym, ap, ◌∙◌, subst, append_assoc, arith}
+use borrow.Author.Count.{below_more}
+use Rattle.std.proofs.lemmas.Result.{err_from_is_err_and}
+use Rattle.std.proofs.lemmas.List.Elements.{at_read}
+use Rattle.omega_automaton.specs.Automaton.{BodyEdge, edges_from}
+use Rattle.omega_automaton.specs.declared.edge.Edge.{Edge}
+use Rattle.omega_empty.specs.layout.Judging.{AreJudged, IsNarrow}
+use Rattle.omega_empty.proofs.making.Flat.{wide_edge_refused}
+use Rattle.omega_empty.proofs.making.Judged.{judged_on, judged_one}
+use Rattle.omega_empty.proofs.making.Rows.{edges_take}
+use Rattle.omega_empty.proofs.usable.judge_edges.Goals as goal
+
+pub returns-in_err-judged-clause-refused : goal.returns-in_err-judged-clause-refused
+returns-in_err-judged-clause-refused c =
+    let here : c.edge-item.result ≡ get_or c.args.state.now.edges c.loop-edge.edge-index c.edge-item.result = cc in
+    let below : c.loop-edge.edge-index < length c.args.state.now.edges = omega (arith, ap length c.as_slice-edge-items.ensures) in
+    let p = err_from_is_err_and c.from_residual-in_err-judged.result c.from_residual-in_err-judged.ensures.1 in
+    rw (p.1, p.2) (wide_edge_refused c.args.state.now c.loop-edge.edge-index c.edge-item.result below here _ c.in_err-judged.ensures.refused)
+
+pub loop-edge-preserved : goal.loop-edge-preserved
+loop-edge-preserved c =
+    let index : ℕ = c.loop-edge.edge-index in
+    let edge : Edge = c.edge-item.result in
+    let here : c.edge-item.result ≡ get_or c.args.state.now.edges index c.edge-item.result = cc in
+    let below : index < length c.args.state.now.edges = omega (arith, ap length c.as_slice-edge-items.ensures) in
+    let so_far = c.loop-edge.invariant.0 in
+    let one : BodyEdge = record { source = c.args.state.now; edge = edge } in
+    let P : List BodyEdge → Type 0 = λ edges. AreJudged edges (so_far.0 ++ c.in_ok-judged.judged ∷ []) in (
+      (
+        so_far.0 ++ c.in_ok-judged.judged ∷ [],
+        c.in_ok-push.ensures.items ∙ ap (λ (list : List Bool). list ++ c.in_ok-judged.judged ∷ []) so_far.1
+            ∙ append_assoc c.args.usable.now.items so_far.0 (c.in_ok-judged.judged ∷ []),
+        subst P (sym (edges_take c.args.state.now index edge below here))
+            (judged_on (take index (edges_from c.args.state.now)) so_far.0 (one ∷ []) (c.in_ok-judged.judged ∷ []) so_far.2
+            (judged_one one c.in_ok-judged.judged c.in_ok-judged.ensures.judged)),
+      ),
+      below_more (λ k. (d : Edge) → IsNarrow (get_or c.args.state.now.edges k d).label) index c.loop-edge.invariant.1
+          (at_read c.args.state.now.edges (λ (e : Edge). IsNarrow e.label) index edge below here c.in_ok-judged.ensures.narrow),
+    )

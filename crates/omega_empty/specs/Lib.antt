@@ -1,0 +1,10 @@
+-- Emptiness of automata: what public contracts cite.
+pub use Rattle.omega_text.specs.Cases
+pub use Rattle.omega_text.specs.Refusal
+pub mod Lasso
+pub mod Counters
+pub mod EmptinessGame
+pub mod Refusing
+pub mod Runs
+pub mod Laws
+pub mod layout

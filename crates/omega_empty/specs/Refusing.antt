@@ -1,0 +1,72 @@
+-- Which refusal of the emptiness game applies: the least by number of 13, 40, 41 and 42, or want of memory.
+use Rattle.std.specs.Prelude.{◌≡◌, ◌⊎◌, ℕ, ◌+◌, ◌*◌, ◌<◌, ◌≤◌, true, false, Contains, length, IfSome, Option, Some}
+use Rattle.omega_text.specs.Cases.{never, or_game, or_memory, or_task}
+use Rattle.omega_text.specs.declared.refusal.Refusal.{Refusal}
+use Rattle.omega_text.specs.declared.refusal.game.GameFault.{GameFault}
+use Rattle.omega_text.specs.declared.refusal.game.GameFault.TheVariants.{TooManyNodes}
+use Rattle.omega_text.specs.declared.refusal.task.TaskFault.{TaskFault}
+use Rattle.omega_text.specs.declared.refusal.task.TaskFault.TheVariants.{BadSolution, Budget, NotParity, TooManyPropositions, TooWide, UniversalBranch, UnknownNode}
+use Rattle.omega_acc.specs.Label.{LabelTree}
+use Rattle.omega_acc.specs.Limits.{most_mentioned}
+use Rattle.omega_acc.specs.Satisfiable.{mentioned}
+use Rattle.omega_acc.specs.declared.kind.AccKind.{AccKind}
+use Rattle.omega_automaton.specs.Automaton.{BodyEdge, Description, edges_of}
+use Rattle.omega_automaton.specs.declared.state.State.{State}
+use Rattle.omega_game.specs.Limits.{most_nodes}
+use Rattle.omega_empty.specs.Counters.{counters}
+use Rattle.omega_empty.specs.EmptinessGame.{HasKind, has_branch, span}
+
+-- the automaton has no acceptance kind whose emptiness is decided
+abbrev pub IsUndecided : Description → Type 0
+IsUndecided a = (kind : AccKind) → HasKind a kind → ⊥
+
+-- the automaton has an acceptance kind whose emptiness is decided
+abbrev pub IsDecided : Description → Type 0
+IsDecided a = (kind : AccKind) × HasKind a kind
+
+-- how many counters an automaton needs: those of its kind, and one where it has none
+abbrev pub NeedsCounters : Description → ℕ → Type 0
+NeedsCounters a count = ((kind : AccKind) × HasKind a kind × (count ≡ counters kind)) ⊎ (IsUndecided a × (count ≡ 1))
+
+-- 13: the identifiers, the sink's with them, are more than a game may have nodes
+abbrev pub IsTooLarge : Description → Type 0
+IsTooLarge a = (count : ℕ) × NeedsCounters a count × (most_nodes < count * span a + 1)
+
+-- the identifiers are no more than a game may have nodes
+abbrev pub Fits : Description → Type 0
+Fits a = (count : ℕ) × NeedsCounters a count × (count * span a + 1 ≤ most_nodes)
+
+-- the label of a state or of an edge
+abbrev pub IsLabelOf : Description → LabelTree → Type 0
+IsLabelOf a label =
+    ((state : State) × Contains a.defined state × (state.label ≡ Some label))
+    ⊎ ((edge : BodyEdge) × Contains (edges_of a) edge × (edge.edge.label ≡ Some label))
+
+-- some label mentions more propositions than the limit
+abbrev pub HasWideLabel : Description → Type 0
+HasWideLabel a = (label : LabelTree) × IsLabelOf a label × (most_mentioned < length (mentioned label))
+
+-- each label mentions no more propositions than the limit
+abbrev pub HasNarrowLabels : Description → Type 0
+HasNarrowLabels a = (label : LabelTree) → IsLabelOf a label → length (mentioned label) ≤ most_mentioned
+
+-- none of 13, 40, 41 and 42 applies
+pub record IsGiven (a : Description) : Type 0 where
+  pub fits : Fits a
+  pub decided : IsDecided a
+  pub plain : has_branch a ≡ false
+  pub narrow : HasNarrowLabels a
+
+-- 40, 41 or 42: it applies, and no fault of a lesser number does
+abbrev pub IsTaskFault : Description → TaskFault → Type 0
+IsTaskFault a NotParity = Fits a × IsUndecided a
+IsTaskFault a UniversalBranch = Fits a × IsDecided a × (has_branch a ≡ true)
+IsTaskFault a TooManyPropositions = Fits a × IsDecided a × (has_branch a ≡ false) × HasWideLabel a
+IsTaskFault a TooWide = ⊥
+IsTaskFault a Budget = ⊥
+IsTaskFault a BadSolution = ⊥
+IsTaskFault a UnknownNode = ⊥
+
+-- the refusal of the emptiness game
+abbrev pub IsGameRefusal : Description → Refusal → Type 0
+IsGameRefusal a = or_game (λ fault. (fault ≡ TooManyNodes) × IsTooLarge a) (or_task (IsTaskFault a) (or_memory never))

@@ -1,0 +1,81 @@
+ghost use Rattle.std.specs.Prelude.{◌≡◌, ◌++◌, ◌<◌, ◌≤◌, All};
+ghost use Rattle.omega_acc.specs.Acceptance.{holds};
+ghost use Rattle.omega_acc.specs.Kind.{priority_of};
+ghost use Rattle.omega_acc.specs.Limits.{most_depth};
+ghost use Rattle.omega_text.specs.Limits.{most_number};
+ghost use Rattle.omega_empty.specs.Counters.{counter_after, counters, priority_at_counter};
+ghost use Rattle.omega_empty.specs.layout.Marks.{AreMarksOf, IsSmall};
+
+use omega_acc::{AccKind, ParityKind, priority};
+use omega_automaton::{Edge, State};
+
+/// The priority of an edge at a counter.
+pub(crate) fn edge_priority(kind: AccKind, counter: u32, state: &State, edge: &Edge) -> u32
+    requires counter { counter < counters kind }
+    requires small { IsSmall kind }
+    requires own { AreMarksOf kind state.now.marks }
+    requires marks { AreMarksOf kind edge.now.marks }
+    ensures value { result ≡ priority_at_counter kind counter (state.now.marks ++ edge.now.marks) }
+    ensures writable { result ≤ most_number }
+{
+    match kind {
+        AccKind::Parity(kind) => parity_priority(kind, state, edge),
+        AccKind::GenBuchi(sets) => {
+            if is_held(counter, state, edge) && counter + 1 == sets {
+                2
+            } else {
+                1
+            }
+        }
+    }
+}
+
+/// The counter behind an edge at a counter.
+pub(crate) fn counter_after(kind: AccKind, counter: u32, state: &State, edge: &Edge) -> u32
+    requires { counter < counters kind }
+    ensures { result ≡ counter_after kind counter (state.now.marks ++ edge.now.marks) }
+{
+    match kind {
+        AccKind::Parity(_) => counter,
+        AccKind::GenBuchi(sets) => {
+            if !is_held(counter, state, edge) {
+                counter
+            } else if counter + 1 == sets {
+                0
+            } else {
+                counter + 1
+            }
+        }
+    }
+}
+
+/// Whether a set is among the marks of an edge of a state.
+#[tactic(auto, using(crate::proofs::making::MarkLists::holds_on))]
+fn is_held(set: u32, state: &State, edge: &Edge) -> bool
+    ensures { result ≡ holds set (state.now.marks ++ edge.now.marks) }
+{
+    let own = holds(set, state.marks.as_slice());
+    let other = holds(set, edge.marks.as_slice());
+    own || other
+}
+
+/// Whether a set is among marks.
+fn holds(set: u32, marks: &[u32]) -> bool
+    ensures { result ≡ holds set marks.now }
+{
+    marks.iter().any(|mark| *mark == set)
+}
+
+/// The priority of an edge of a state for a parity kind: the greater one of those of its marks and the state's.
+#[tactic(auto, using(crate::proofs::making::MarkLists::priority_on, crate::proofs::making::MarkLists::priority_low))]
+fn parity_priority(kind: ParityKind, state: &State, edge: &Edge) -> u32
+    requires small { kind.count ≤ most_depth }
+    requires own { All (λ mark. mark < kind.count) state.now.marks }
+    requires marks { All (λ mark. mark < kind.count) edge.now.marks }
+    ensures value { result ≡ priority_of kind (state.now.marks ++ edge.now.marks) }
+    ensures writable { result ≤ most_number }
+{
+    let own = priority(kind, state.marks.as_slice());
+    let other = priority(kind, edge.marks.as_slice());
+    own.max(other)
+}
