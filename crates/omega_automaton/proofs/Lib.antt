@@ -1,10 +1,16 @@
 pub mod AliasNames
+pub mod DefinitionLemmas
+pub mod DraftLemmas
 pub mod FaultLemmas
+pub mod GatheringLemmas
 pub mod Greatest
 pub mod MarkLemmas
+pub mod OrderLemmas
 pub mod Powers
 pub mod Repeats
 pub mod Said
+pub mod SoundLemmas
+pub mod TotalLemmas
 pub mod Uniqueness
 pub mod Zipped
 pub mod validity

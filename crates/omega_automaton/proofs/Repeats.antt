@@ -7,7 +7,7 @@ use Rattle.std.proofs.lemmas.Bool.{false≢true}
 use Rattle.omega_automaton.specs.Automaton.{has_repeat}
 
 -- four tests in another order
-shuffled : (a b c d : Bool) → ((a || b) || (c || d)) ≡ ((a || c) || (b || d))
+pub shuffled : (a b c d : Bool) → ((a || b) || (c || d)) ≡ ((a || c) || (b || d))
 shuffled true b c d = refl
 shuffled false true true d = refl
 shuffled false true false d = refl
@@ -15,7 +15,7 @@ shuffled false false true d = refl
 shuffled false false false d = refl
 
 -- a test or nothing
-nothing_more : (b : Bool) → (b || false) ≡ b
+pub nothing_more : (b : Bool) → (b || false) ≡ b
 nothing_more true = refl
 nothing_more false = refl
 
@@ -30,17 +30,17 @@ has_repeat-push same (x ∷ xs) y =
     ∙ shuffled (list_any (λ later. same later x) xs) (same y x) (has_repeat same xs) (list_any (same y) xs))
 
 -- either of two that hold
-or_true : (a b c : Bool) → (b ≡ true → c ≡ true) → (a || b) ≡ true → (a || c) ≡ true
+pub or_true : (a b c : Bool) → (b ≡ true → c ≡ true) → (a || b) ≡ true → (a || c) ≡ true
 or_true true b c more h = refl
 or_true false b c more h = more h
 
 -- more items make no test fail
-list_any-front : {X : Type 0} (test : X → Bool) (xs ys : List X) → list_any test xs ≡ true → list_any test (xs ++ ys) ≡ true
+pub list_any-front : {X : Type 0} (test : X → Bool) (xs ys : List X) → list_any test xs ≡ true → list_any test (xs ++ ys) ≡ true
 list_any-front test [] ys h = absurd (false≢true h)
 list_any-front test (x ∷ xs) ys h = or_true (test x) (list_any test xs) (list_any test (xs ++ ys)) (list_any-front test xs ys) h
 
 -- both of two that hold or not
-or_both : (a b c d : Bool) → (a ≡ true → c ≡ true) → (b ≡ true → d ≡ true) → (a || b) ≡ true → (c || d) ≡ true
+pub or_both : (a b c d : Bool) → (a ≡ true → c ≡ true) → (b ≡ true → d ≡ true) → (a || b) ≡ true → (c || d) ≡ true
 or_both true b c d first second h = rw (first refl) refl
 or_both false b true d first second h = refl
 or_both false b false d first second h = second h
@@ -58,7 +58,7 @@ has_repeat-take same xs i h =
     subst (λ ys. has_repeat same ys ≡ true) (take-append-drop i xs) (has_repeat-front same (take i xs) (drop i xs) h)
 
 -- a test or one that holds
-or_last : (b : Bool) → (b || true) ≡ true
+pub or_last : (b : Bool) → (b || true) ≡ true
 or_last true = refl
 or_last false = refl
 

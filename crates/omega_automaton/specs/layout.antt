@@ -4,3 +4,4 @@ pub mod Trials
 pub mod Gathered
 pub mod Order
 pub mod Definitions
+pub mod Draft

@@ -1,11 +1,14 @@
-ghost use Rattle.std.specs.Prelude.{◌≡◌, option_map};
+ghost use Rattle.std.specs.Prelude.{◌≡◌, length, option_map};
+ghost use Rattle.std.specs.List.{flat_map};
 ghost use Rattle.std.specs.Option.{option_copied};
 
 use crate::header::Header;
+use crate::making::Gathered;
 use crate::state::State;
 use crate::tool::Tool;
 use omega_acc::{Acc, AccName};
 use omega_text::Seq;
+use std::alloc::Global;
 use std::marker::Model;
 
 /// An omega-automaton of the Hanoi format (HOA v1).
@@ -46,7 +49,48 @@ impl Model for Automaton {
 }
 
 impl Automaton {
-    ghost use Rattle.omega_automaton.specs.Automaton.{IsAutomaton, edge_count};
+    ghost use Rattle.omega_automaton.specs.Automaton.{IsAutomaton, edge_count, edges_from};
+    ghost use Rattle.omega_automaton.specs.layout.Draft.{described};
+
+    /// The automaton of what was gathered and of the parts made of it.
+    pub(crate) fn of_parts(
+        alloc: Global,
+        gathered: Gathered,
+        states: u32,
+        sets: u32,
+        acceptance: Acc,
+        defined: Seq<State>,
+        edges: u32,
+    ) -> Automaton
+        requires automaton { IsAutomaton (described gathered states sets acceptance defined) }
+        requires counted { edges ≡ length (flat_map edges_from defined) }
+        ensures { result ≡ described gathered states sets acceptance defined }
+    {
+        let Gathered {
+            tool,
+            name,
+            starts,
+            propositions,
+            acc_name,
+            acceptance: _written,
+            properties,
+            unknown,
+        } = gathered;
+        Automaton {
+            tool,
+            name,
+            state_count: states,
+            starts: Seq::from_vec(starts),
+            propositions: propositions.unwrap_or(Seq::new(alloc)),
+            acc_name,
+            set_count: sets,
+            acceptance,
+            properties: Seq::from_vec(properties),
+            unknown: Seq::from_vec(unknown),
+            defined,
+            edge_count: edges,
+        }
+    }
 
     /// What each automaton keeps: numbers below their counts, each state defined at most once, and the limits. Does
     /// nothing: it hands on what the type keeps.

@@ -1,6 +1,7 @@
 //! Which meaning faults of an automaton text apply (docs/formats.md, meaning of an automaton text): a file a subject.
 
 mod acceptance;
+mod expansions;
 mod header;
 mod implicit;
 mod labels;
@@ -9,12 +10,13 @@ mod propositions;
 mod repeats;
 mod sets;
 mod states;
+mod total;
 mod trial;
 mod version;
 
 pub(crate) use acceptance::has_deep_acceptance;
+pub(crate) use expansions::last_fault;
 pub(crate) use order::{early_fault, late_fault};
-pub(crate) use propositions::proposition_count;
 pub(crate) use sets::set_count;
 pub(crate) use states::state_count;
-pub(crate) use trial::{Trial, any_fails, fails};
+pub(crate) use trial::{Trial, fails};

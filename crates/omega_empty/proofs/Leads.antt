@@ -1,8 +1,8 @@
 -- Edges that lead from a state to a state: joined, and in laps.
-use Rattle.std.proofs.Common.{◌≡◌, ℕ, zero, suc, ◌+◌, ◌<◌, ◌≤◌, ◌⊎◌, inl, inr, Bool, true, false, not, ◌||◌, List, [], ◌∷◌, ◌++◌, length, map, sym, ap, refl, ◌∙◌, subst, arith}
-use Rattle.omega_acc.specs.Acceptance.{AccTree, accepts, conjunction, constant, disjunction, fin, inf, occurs}
+use Rattle.std.proofs.Common.{◌≡◌, ℕ, zero, suc, Bool, true, false, ◌||◌, List, [], ◌∷◌, ◌++◌, sym, ap, refl, ◌∙◌, subst}
+use Rattle.omega_acc.specs.Acceptance.{occurs}
 use Rattle.omega_automaton.specs.Automaton.{Description}
-use Rattle.omega_empty.specs.Lasso.{IsStep, Leads, marks_at}
+use Rattle.omega_empty.specs.Lasso.{Leads}
 use Rattle.omega_empty.specs.Runs.{meets}
 
 -- one list of edges and then another

@@ -1,8 +1,7 @@
 -- Which refusal of the emptiness game applies: the least by number of 13, 40, 41 and 42, or want of memory.
-use Rattle.std.specs.Prelude.{◌≡◌, ◌⊎◌, ℕ, ◌+◌, ◌*◌, ◌<◌, ◌≤◌, true, false, Contains, length, IfSome, Option, Some}
+use Rattle.std.specs.Prelude.{◌≡◌, ◌⊎◌, ℕ, ◌+◌, ◌*◌, ◌<◌, ◌≤◌, true, false, Contains, length, Some}
 use Rattle.omega_text.specs.Cases.{never, or_game, or_memory, or_task}
 use Rattle.omega_text.specs.declared.refusal.Refusal.{Refusal}
-use Rattle.omega_text.specs.declared.refusal.game.GameFault.{GameFault}
 use Rattle.omega_text.specs.declared.refusal.game.GameFault.TheVariants.{TooManyNodes}
 use Rattle.omega_text.specs.declared.refusal.task.TaskFault.{TaskFault}
 use Rattle.omega_text.specs.declared.refusal.task.TaskFault.TheVariants.{BadSolution, Budget, NotParity, TooManyPropositions, TooWide, UniversalBranch, UnknownNode}

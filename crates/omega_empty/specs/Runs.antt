@@ -1,5 +1,5 @@
 -- Infinite runs of automata, and that accepting runs and accepting lassos are the same question (HOA v1, acceptance).
-use Rattle.std.specs.Prelude.{◌≡◌, ◌⊎◌, ℕ, ◌+◌, ◌≤◌, Bool, not, true, false, IsTrue, if◌then◌else◌, List}
+use Rattle.std.specs.Prelude.{◌≡◌, ◌⊎◌, ℕ, ◌+◌, ◌≤◌, Bool, not, false, IsTrue, if◌then◌else◌, List}
 use Rattle.omega_acc.specs.Acceptance.{AccTree, conjunction, constant, disjunction, fin, holds, inf}
 use Rattle.omega_automaton.specs.Automaton.{Description}
 use Rattle.omega_empty.specs.Lasso.{IsAcceptingLasso, IsStart, IsStep, marks_at}

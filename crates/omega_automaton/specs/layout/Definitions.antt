@@ -1,13 +1,17 @@
 -- What is kept of the aliases of a header, one more at a time.
-use Rattle.std.specs.Prelude.{◌≡◌, ℕ, Bool, false, true, ◌||◌, List, [], ◌∷◌, ◌++◌, is_none}
+use Rattle.std.specs.Prelude.{◌≡◌, ℕ, Bool, false, true, ◌||◌, List, [], ◌∷◌, ◌++◌, map, is_none, MatchOption}
 use Rattle.std.specs.List.{list_any}
 use Rattle.std.specs.Str.{bytes_eq}
 use Rattle.omega_text.specs.Cases.{never, or_automaton, or_memory}
 use Rattle.omega_text.specs.declared.refusal.Refusal.{Refusal}
 use Rattle.omega_text.specs.declared.refusal.automaton.AutomatonFault.TheVariants.{Alias}
-use Rattle.omega_acc.specs.Expanding.{Defined, expansion}
+use Rattle.omega_acc.specs.Depth.{IsMemory}
+use Rattle.omega_acc.specs.Expanding.{Defined, entries_of, expansion}
 use Rattle.omega_acc.specs.RawLabel.{RawLabelTree}
+use Rattle.omega_raw.specs.declared.raw_item.RawItem.{RawItem}
+use Rattle.omega_automaton.specs.Automaton.{has_repeat}
 use Rattle.omega_automaton.specs.Faults.{is_deep, is_large}
+use Rattle.omega_automaton.specs.Items.{alias_in}
 use Rattle.omega_automaton.specs.declared.making.definitions.Definitions.{Definitions}
 
 -- whether an alias has the name
@@ -26,3 +30,27 @@ pub record HasDefined (old : Definitions) (name : List ℕ) (body : RawLabelTree
 abbrev pub IsUndefinable : Definitions → List ℕ → RawLabelTree → Refusal → Type 0
 IsUndefinable old name body =
     or_automaton (λ fault. (fault ≡ Alias) × ((is_named old.aliases name || is_none (expansion old.aliases body)) ≡ true)) (or_memory never)
+
+-- one more item was met: an alias was put last, and of another item nothing is kept
+abbrev pub HasMet : Definitions → RawItem → Definitions → Type 0
+HasMet old item new = MatchOption (alias_in item) (new ≡ old) (λ defined. HasDefined old defined.name defined.body new)
+
+-- the item is an alias that cannot be put last, or want of memory
+abbrev pub IsUnmet : Definitions → RawItem → Refusal → Type 0
+IsUnmet old item refusal = MatchOption (alias_in item) (IsMemory refusal) (λ defined. IsUndefinable old defined.name defined.body refusal)
+
+-- whether two definitions have one name or one means nothing
+abbrev pub has_wrong_definition : List Defined → Bool
+has_wrong_definition definitions =
+    has_repeat bytes_eq (map (λ defined. defined.name) definitions) || list_any (λ entry. is_none entry.meaning) (entries_of [] definitions)
+
+-- definitions were put in the order written: none is wrong, and what is too deep or too large is noted
+pub record AreNoted (written : List Defined) (all : Definitions) : Type 0 where
+  pub aliases : all.aliases ≡ written
+  pub sound : has_wrong_definition written ≡ false
+  pub deep : all.deep ≡ list_any (λ entry. is_deep entry.meaning) (entries_of [] written)
+  pub large : all.large ≡ list_any (λ entry. is_large entry.meaning) (entries_of [] written)
+
+-- one of the definitions is wrong, or want of memory
+abbrev pub IsUnnoted : List Defined → Refusal → Type 0
+IsUnnoted written = or_automaton (λ fault. (fault ≡ Alias) × (has_wrong_definition written ≡ true)) (or_memory never)

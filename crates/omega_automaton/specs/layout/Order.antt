@@ -1,9 +1,15 @@
--- The faults in the order in which they are asked for: those before aliases, and those between aliases and deep expressions.
-use Rattle.std.specs.Prelude.{[], ◌∷◌, Option, find}
+-- The faults in the order in which they are asked for: those before aliases, those between aliases and deep expressions, and
+-- the others.
+use Rattle.std.specs.Prelude.{Bool, ◌||◌, List, [], ◌∷◌, Option, None, Some, find, if◌then◌else◌, is_none, nat_lt, sum_by}
+use Rattle.std.specs.Option.{option_or}
 use Rattle.omega_text.specs.declared.refusal.automaton.AutomatonFault.{AutomatonFault}
-use Rattle.omega_text.specs.declared.refusal.automaton.AutomatonFault.TheVariants.{AcceptanceAtom, ImplicitCount, MissingAcceptance, MixedLabels, Proposition, RepeatedHeader, SetRange, StateRange, StateTwice, UnknownHeader, Version}
+use Rattle.omega_text.specs.declared.refusal.automaton.AutomatonFault.TheVariants.{AcceptanceAtom, Alias, Expansion, ImplicitCount, MissingAcceptance, MixedLabels, Proposition, RepeatedHeader, SetRange, StateRange, StateTwice, TooDeep, UnknownHeader, Version}
 use Rattle.omega_raw.specs.declared.raw_automaton.RawAutomaton.{RawAutomaton}
-use Rattle.omega_automaton.specs.Faults.{applies}
+use Rattle.omega_raw.specs.declared.raw_state.RawState.{RawState}
+use Rattle.omega_automaton.specs.Faults.{applies, is_deep, is_large, label_total}
+use Rattle.omega_automaton.specs.Limits.{most_total_size}
+use Rattle.omega_automaton.specs.declared.making.definitions.Definitions.{Definitions}
+use Rattle.omega_automaton.specs.layout.Trials.{labels_pass}
 
 -- the least fault before that of aliases
 abbrev pub early_fault : RawAutomaton → Option AutomatonFault
@@ -13,3 +19,22 @@ early_fault raw =
 -- the least fault behind that of aliases and before those of depth and size
 abbrev pub late_fault : RawAutomaton → Option AutomatonFault
 late_fault raw = find (applies raw) (StateTwice ∷ MixedLabels ∷ ImplicitCount ∷ AcceptanceAtom ∷ [])
+
+-- whether an acceptance, a definition or a label is too deep
+abbrev pub is_any_deep : Definitions → List RawState → Bool → Bool
+is_any_deep definitions states acceptance = acceptance || (definitions.deep || labels_pass is_deep definitions.aliases states)
+
+-- whether a definition or a label is too large, or all labels together
+abbrev pub is_any_large : Definitions → List RawState → Bool
+is_any_large definitions states =
+    (definitions.large || labels_pass is_large definitions.aliases states)
+    || nat_lt most_total_size (sum_by (label_total definitions.aliases) states)
+
+-- the least fault from that of aliases on, where no definition has it: by the labels, the least of those up to depth, and
+-- whether an acceptance is too deep
+abbrev pub last_fault : Definitions → List RawState → Option AutomatonFault → Bool → Option AutomatonFault
+last_fault definitions states late acceptance =
+    if labels_pass is_none definitions.aliases states then Some Alias
+    else option_or late
+    (if is_any_deep definitions states acceptance then Some TooDeep
+    else (if is_any_large definitions states then Some Expansion else None))

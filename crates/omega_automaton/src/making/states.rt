@@ -1,7 +1,10 @@
-ghost use Rattle.std.specs.Prelude.{IfErr, IfOk};
-ghost use Rattle.std.specs.List.{AllZip};
+ghost use Rattle.std.specs.Prelude.{◌≡◌, false, IfErr, IfOk};
+ghost use Rattle.std.specs.List.{AllZip, list_any};
 ghost use Rattle.omega_acc.specs.Depth.{IsMemory};
+ghost use Rattle.omega_acc.specs.Expanding.{IsExpansion, expansion};
+ghost use Rattle.omega_automaton.specs.Faults.{is_labelled, passes};
 ghost use Rattle.omega_automaton.specs.Meaning.{IsEdgeOf, IsLabelOf, IsStateOf};
+ghost use Rattle.omega_automaton.specs.layout.Trials.{is_faulty, labels_pass};
 
 use crate::edge::Edge;
 use crate::making::marks::marks_of;
@@ -11,12 +14,13 @@ use omega_raw::{RawEdge, RawState};
 use omega_text::{Refusal, Seq};
 use std::alloc::Global;
 
-/// The states of the body with their aliases replaced. Their labels have no fault, so that memory alone can be wanting.
+/// The states of the body with their aliases replaced. Their labels have no fault.
 pub(crate) fn states_of(
     alloc: Global,
     aliases: &Aliases,
     states: Seq<RawState>,
 ) -> Result<Seq<State>, Refusal>
+    requires { labels_pass is_faulty aliases.now states ≡ false }
     ensures ok { IfOk result (λ made. AllZip (IsStateOf aliases.now) states made) }
     ensures err { IfErr result IsMemory }
 {
@@ -30,6 +34,7 @@ pub(crate) fn states_of(
 
 /// A state of the body with its aliases replaced.
 fn state_of(alloc: Global, aliases: &Aliases, state: RawState) -> Result<State, Refusal>
+    requires { is_labelled (λ label. is_faulty (expansion aliases.now label)) state ≡ false }
     ensures ok { IfOk result (λ made. IsStateOf aliases.now state made) }
     ensures err { IfErr result IsMemory }
 {
@@ -53,6 +58,7 @@ fn state_of(alloc: Global, aliases: &Aliases, state: RawState) -> Result<State, 
 
 /// The edges of a state with their aliases replaced.
 fn edges_of(alloc: Global, aliases: &Aliases, edges: Seq<RawEdge>) -> Result<Seq<Edge>, Refusal>
+    requires { list_any (λ edge. passes (λ label. is_faulty (expansion aliases.now label)) edge.label) edges ≡ false }
     ensures ok { IfOk result (λ made. AllZip (IsEdgeOf aliases.now) edges made) }
     ensures err { IfErr result IsMemory }
 {
@@ -66,6 +72,7 @@ fn edges_of(alloc: Global, aliases: &Aliases, edges: Seq<RawEdge>) -> Result<Seq
 
 /// An edge with its aliases replaced.
 fn edge_of(alloc: Global, aliases: &Aliases, edge: RawEdge) -> Result<Edge, Refusal>
+    requires { passes (λ label. is_faulty (expansion aliases.now label)) edge.label ≡ false }
     ensures ok { IfOk result (λ made. IsEdgeOf aliases.now edge made) }
     ensures err { IfErr result IsMemory }
 {
@@ -88,14 +95,21 @@ fn label_of(
     aliases: &Aliases,
     label: Option<RawLabel>,
 ) -> Result<Option<Label>, Refusal>
+    requires { passes (λ label. is_faulty (expansion aliases.now label)) label ≡ false }
     ensures ok { IfOk result (λ made. IsLabelOf aliases.now label made) }
     ensures err { IfErr result IsMemory }
 {
     match label {
-        Some(label) => match expand(alloc, &label, aliases) {
-            Ok(label) => Ok(Some(label)),
-            Err(_) => Err(Refusal::Memory),
-        },
+        Some(label) => Ok(Some(sound_label(alloc, aliases, &label)?)),
         None => Ok(None),
     }
+}
+
+/// A label without a fault with its aliases replaced, so that memory alone can be wanting.
+fn sound_label(alloc: Global, aliases: &Aliases, label: &RawLabel) -> Result<Label, Refusal>
+    requires { is_faulty (expansion aliases.now label.now) ≡ false }
+    ensures ok { IfOk result (λ made. IsExpansion aliases.now label.now made) }
+    ensures err { IfErr result IsMemory }
+{
+    expand(alloc, label, aliases)
 }

@@ -1,8 +1,7 @@
 -- The specifications of the table have no fault, so that only want of memory refuses its game.
-use Rattle.std.proofs.Common.{◌≡◌, ℕ, ◌+◌, ◌*◌, ◌<◌, ◌≤◌, Bool, true, false, ltb, List, length, All, Result, Ok, Err, sym, ap, refl, ◌∙◌, subst, arith}
-use Rattle.std.specs.Prelude.{IfErr, IsOkUnless, Option, None, Some, Contains}
-use Rattle.std.specs.List.{list_any}
-use Rattle.std.proofs.lemmas.Bool.{le-ltb, or_parts}
+use Rattle.std.proofs.Common.{◌≡◌, ◌+◌, ◌*◌, ◌≤◌, Bool, false, ltb, List, length, All, Result, Ok, Err, sym, ap, refl, ◌∙◌, subst, arith}
+use Rattle.std.specs.Prelude.{IfErr, IsOkUnless, None, Contains}
+use Rattle.std.proofs.lemmas.Bool.{le-ltb}
 use Rattle.std.proofs.lemmas.List.Elements.{All-contains_itself, All-weaker}
 use Rattle.omega_text.specs.declared.refusal.Refusal.{Refusal}
 use Rattle.omega_text.specs.declared.refusal.Refusal.TheVariants.{Memory}
@@ -17,7 +16,7 @@ use Rattle.omega_game.specs.Game.{Node}
 use Rattle.omega_game.specs.Limits.{most_nodes, most_successors}
 use Rattle.omega_game.specs.declared.node_spec.NodeSpec.{NodeSpec}
 use Rattle.omega_empty.specs.Counters.{counters}
-use Rattle.omega_empty.specs.EmptinessGame.{has_branch, span, state_branches, table}
+use Rattle.omega_empty.specs.EmptinessGame.{has_branch, span, table}
 use Rattle.omega_empty.proofs.making.Flat.{IsListed, listed_flat}
 use Rattle.omega_empty.proofs.making.Named.{table_defined}
 use Rattle.omega_empty.proofs.making.Plain.{single_target}

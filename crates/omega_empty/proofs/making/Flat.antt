@@ -1,6 +1,5 @@
 -- The edges of all states, and the labels that are among them.
-use Rattle.std.proofs.Common.{◌≡◌, ℕ, zero, suc, ◌+◌, ◌<◌, ◌≤◌, ◌⊎◌, inl, inr, List, [], ◌∷◌, ◌++◌, length, map, get_or, Contains, Option, Some, sym, ap, refl, ◌∙◌, subst, arith}
-use Rattle.std.specs.Prelude.{IfSome}
+use Rattle.std.proofs.Common.{◌≡◌, ℕ, zero, suc, ◌<◌, ◌≤◌, inl, inr, List, [], ◌∷◌, ◌++◌, length, map, get_or, Contains, Option, Some, sym, ap, subst, arith}
 use Rattle.std.specs.List.{flat_map}
 use Rattle.std.proofs.lemmas.List.Elements.{Contains-append_cases, Contains-append_left, Contains-append_right}
 use Rattle.omega_text.specs.Cases.{never, or_memory, or_task}
@@ -10,7 +9,7 @@ use Rattle.omega_text.specs.declared.refusal.task.TaskFault.TheVariants.{TooMany
 use Rattle.omega_acc.specs.Label.{LabelTree}
 use Rattle.omega_acc.specs.Limits.{most_mentioned}
 use Rattle.omega_acc.specs.Satisfiable.{mentioned}
-use Rattle.omega_automaton.specs.Automaton.{BodyEdge, Description, edges_from, edges_of}
+use Rattle.omega_automaton.specs.Automaton.{BodyEdge, Description, edges_from}
 use Rattle.omega_automaton.specs.declared.edge.Edge.{Edge}
 use Rattle.omega_automaton.specs.declared.state.State.{State}
 use Rattle.omega_empty.specs.Refusing.{HasNarrowLabels, HasWideLabel, IsLabelOf}

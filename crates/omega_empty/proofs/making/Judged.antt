@@ -1,7 +1,7 @@
 -- Edges that were judged one by one.
-use Rattle.std.proofs.Common.{◌≡◌, ◌↔◌, ℕ, zero, suc, ◌+◌, ◌<◌, ◌≤◌, ◌⊎◌, inl, inr, Bool, true, false, List, [], ◌∷◌, ◌++◌, length, take, get_or, Option, Some, None, sym, ap, refl, ◌∙◌, subst, arith}
-use Rattle.std.specs.Prelude.{IfSome, IsTrue, slice_get}
-use Rattle.omega_automaton.specs.Automaton.{BodyEdge, Description, edge_at, edges_of}
+use Rattle.std.proofs.Common.{◌≡◌, ◌↔◌, ℕ, zero, suc, Bool, true, List, [], ◌∷◌, ◌++◌, length, Some, None, ap, refl, subst}
+use Rattle.std.specs.Prelude.{IsTrue, slice_get}
+use Rattle.omega_automaton.specs.Automaton.{BodyEdge, Description, edges_of}
 use Rattle.omega_empty.specs.EmptinessGame.{AreUsable}
 use Rattle.omega_empty.specs.Lasso.{IsUsable}
 use Rattle.omega_empty.specs.layout.Judging.{AreJudged}

@@ -7,7 +7,6 @@ use Rattle.std.proofs.lemmas.List.Elements.{filter-append}
 use Rattle.omega_game.specs.Building.{with_last, with_successor}
 use Rattle.omega_game.specs.declared.node_spec.NodeSpec.{NodeSpec}
 use Rattle.omega_empty.specs.EmptinessGame.{is_usable, plain_node}
-use Rattle.omega_empty.specs.declared.edge_ranges.EdgeRange.{EdgeRange}
 use Rattle.omega_empty.specs.layout.Nodes.{begun, linked}
 use Rattle.omega_empty.specs.layout.Ranges.{usable_in}
 

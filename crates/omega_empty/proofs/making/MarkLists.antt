@@ -1,8 +1,8 @@
 -- Marks of a state and of an edge together: their priority is the greater one, and it is small.
-use Rattle.std.proofs.Common.{◌≡◌, ℕ, zero, suc, ◌+◌, ◌-◌, ◌<◌, ◌≤◌, ◌||◌, Bool, true, false, cond, nat_eq, List, [], ◌∷◌, ◌++◌, length, max, min, All, sym, ap, refl, ◌∙◌, subst, arith}
+use Rattle.std.proofs.Common.{◌≡◌, ℕ, zero, suc, ◌+◌, ◌-◌, ◌<◌, ◌≤◌, ◌||◌, Bool, true, false, cond, nat_eq, List, [], ◌∷◌, ◌++◌, length, max, min, All, ap, refl, ◌∙◌, arith}
 use Rattle.std.proofs.lemmas.List.Folds.{list_any-append}
 use Rattle.std.proofs.lemmas.List.Elements.{All-head, All-tail}
-use Rattle.omega_acc.specs.Acceptance.{AccTree, acc_depth, conjunction, disjunction, fin, holds, inf}
+use Rattle.omega_acc.specs.Acceptance.{acc_depth, conjunction, disjunction, fin, holds, inf}
 use Rattle.omega_acc.specs.Kind.{beyond, formula_of, has_parity, least_from, least_mark, parity_formula, priority_by, priority_of, sets_left}
 use Rattle.omega_acc.specs.declared.kind.Order.{Order}
 use Rattle.omega_acc.specs.declared.kind.Order.TheVariants.{Max, Min}

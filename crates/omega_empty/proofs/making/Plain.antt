@@ -1,5 +1,5 @@
 -- States and edges of an automaton of a kind: one target each, and marks of the kind.
-use Rattle.std.proofs.Common.{◌≡◌, ℕ, zero, suc, ◌+◌, ◌*◌, ◌<◌, ◌≤◌, Bool, true, false, ltb, List, [], ◌∷◌, length, All, Contains, get_or, sym, ap, refl, ◌∙◌, subst, arith, add-one}
+use Rattle.std.proofs.Common.{◌≡◌, ℕ, zero, suc, ◌+◌, ◌*◌, ◌<◌, ◌≤◌, Bool, false, ltb, List, [], ◌∷◌, length, All, Contains, get_or, sym, ap, refl, ◌∙◌, subst, arith, add-one}
 use Rattle.std.specs.List.{list_any}
 use Rattle.std.proofs.lemmas.Bool.{ltb-false, or_parts}
 use Rattle.std.proofs.Math.Nat.{add-mul, one-mul}
@@ -8,14 +8,14 @@ use Rattle.omega_acc.specs.Names.{IsAcceptanceRow}
 use Rattle.omega_acc.specs.declared.kind.AccKind.{AccKind}
 use Rattle.omega_acc.specs.declared.kind.AccKind.TheVariants as kinds
 use Rattle.omega_acc.specs.declared.acc_name.AccName.{AccName}
-use Rattle.omega_automaton.specs.Automaton.{AreBelow, AreMarks, AreTargets, Description, IsAutomaton, IsEdge, IsState}
+use Rattle.omega_automaton.specs.Automaton.{AreBelow, Description, IsAutomaton, IsEdge, IsState}
 use Rattle.omega_automaton.specs.declared.edge.Edge.{Edge}
 use Rattle.omega_automaton.specs.declared.state.State.{State}
 use Rattle.omega_game.specs.Limits.{most_nodes}
 use Rattle.omega_empty.specs.Counters.{counters}
 use Rattle.omega_empty.specs.EmptinessGame.{HasKind, has_branch, span, state_branches}
 use Rattle.omega_empty.specs.layout.Marks.{AreMarksOf, IsSmall}
-use Rattle.omega_empty.specs.layout.Ready.{IsPlainEdge, IsPlainState}
+use Rattle.omega_empty.specs.layout.Ready.{IsPlainState}
 use Rattle.omega_empty.proofs.making.MarkLists.{count_shallow}
 
 -- a test that passes nowhere fails at each place

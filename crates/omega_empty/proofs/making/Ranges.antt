@@ -1,16 +1,16 @@
 -- Where the edges of each state stand, state by state.
-use Rattle.std.proofs.Common.{◌≡◌, ◌≢◌, ℕ, zero, suc, ◌+◌, ◌-◌, ◌<◌, ◌≤◌, ◌⊎◌, inl, inr, ◌&&◌, Bool, true, false, cond, eqb, List, [], ◌∷◌, ◌++◌, length, map, take, get_or, set, sym, ap, refl, ◌∙◌, subst, arith, add-zero, zero-add, length-append, replicate, nat_eq}
+use Rattle.std.proofs.Common.{◌≡◌, ◌≢◌, ℕ, zero, suc, ◌+◌, ◌-◌, ◌<◌, ◌≤◌, ◌⊎◌, inl, inr, ◌&&◌, Bool, true, false, cond, eqb, List, [], ◌∷◌, ◌++◌, length, map, take, get_or, set, sym, ap, refl, ◌∙◌, subst, arith, add-zero, length-append, replicate, nat_eq}
 use Rattle.std.specs.Prelude.{filter}
 use Rattle.std.specs.List.{flat_map, list_any, range_with_len}
 use Rattle.std.proofs.lemmas.Bool.{cases_eq, eq-eqb, eqb-false, ne_eqb, or_parts}
 use Rattle.std.proofs.lemmas.Grind.{flat_map-append}
 use Rattle.std.proofs.lemmas.List.{append-nil, get_or-replicate, get_or-set_other, get_or-set_same, length-map, take_more}
-use Rattle.omega_automaton.specs.Automaton.{BodyEdge, Description, edges_from, has_repeat}
+use Rattle.omega_automaton.specs.Automaton.{BodyEdge, edges_from, has_repeat}
 use Rattle.omega_automaton.specs.declared.edge.Edge.{Edge}
 use Rattle.omega_automaton.specs.declared.state.State.{State}
 use Rattle.omega_empty.specs.EmptinessGame.{is_usable, leaving}
 use Rattle.omega_empty.specs.declared.edge_ranges.EdgeRange.{EdgeRange}
-use Rattle.omega_empty.specs.layout.Ranges.{IsRangeOf, no_range, range_of, usable_in}
+use Rattle.omega_empty.specs.layout.Ranges.{IsRangeOf, no_range, range_of}
 
 module _ (usable : List Bool) (s : ℕ) where
   -- those that leave a state, of some edges and then of others

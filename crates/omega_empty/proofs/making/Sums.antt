@@ -1,13 +1,13 @@
 -- The table lists at most two successors for each identifier.
-use Rattle.std.proofs.Common.{◌≡◌, ◌≢◌, ℕ, zero, suc, ◌+◌, ◌*◌, ◌<◌, ◌≤◌, ◌⊎◌, inl, inr, ◌&&◌, Bool, true, false, cond, eqb, List, [], ◌∷◌, ◌++◌, length, map, All, sym, ap, refl, ◌∙◌, subst, arith, add-one}
-use Rattle.std.specs.List.{flat_map, range_with_len, sum_by}
+use Rattle.std.proofs.Common.{◌≡◌, ℕ, zero, suc, ◌+◌, ◌*◌, ◌<◌, ◌≤◌, ◌⊎◌, inl, inr, ◌&&◌, Bool, true, false, cond, eqb, List, [], ◌∷◌, length, map, All, sym, ap, refl, ◌∙◌, arith, add-one}
+use Rattle.std.specs.List.{flat_map, range_with_len}
 use Rattle.std.proofs.Math.Nat.{add-mul, one-mul}
 use Rattle.std.proofs.lemmas.Bool.{and_parts, cases_Bool, eqb-true}
 use Rattle.std.proofs.lemmas.List.{length-map}
 use Rattle.std.proofs.lemmas.List.Elements.{All-head, All-tail}
 use Rattle.std.proofs.lemmas.List.Sums.{sum_by-append, sum_by-cons}
 use Rattle.omega_acc.specs.declared.kind.AccKind.{AccKind}
-use Rattle.omega_automaton.specs.Automaton.{BodyEdge, Description, edge_count, edges_of}
+use Rattle.omega_automaton.specs.Automaton.{BodyEdge, Description, edges_of}
 use Rattle.omega_game.specs.Building.{listed_successors}
 use Rattle.omega_game.specs.declared.node_spec.NodeSpec.{NodeSpec}
 use Rattle.omega_empty.specs.Counters.{counter_after, counters}

@@ -1,5 +1,5 @@
 -- Laps of a cycle: what they bring a counter to, and that they are accepted as the cycle is.
-use Rattle.std.proofs.Common.{◌≡◌, ℕ, zero, suc, ◌+◌, ◌<◌, ◌≤◌, Bool, true, false, not, ◌&&◌, ◌||◌, List, [], ◌∷◌, ◌++◌, length, map, sym, ap, refl, ◌∙◌, subst, arith, append_assoc, length-append}
+use Rattle.std.proofs.Common.{◌≡◌, ℕ, zero, suc, ◌+◌, ◌<◌, Bool, not, ◌&&◌, ◌||◌, List, [], ◌∷◌, ◌++◌, length, map, ap, refl, ◌∙◌, arith, append_assoc, length-append}
 use Rattle.std.proofs.lemmas.List.{map-append}
 use Rattle.omega_acc.specs.Acceptance.{AccTree, accepts, conjunction, constant, disjunction, fin, inf, occurs}
 use Rattle.omega_acc.specs.declared.kind.AccKind.{AccKind}

@@ -1,8 +1,8 @@
 -- The places of an emptiness game: each stands for a state at a counter, an edge at a counter or the sink, and edges of the automaton lead from place to place.
-use Rattle.std.proofs.Common.{◌≡◌, ◌≢◌, ℕ, zero, suc, ◌+◌, ◌*◌, ◌<◌, ◌≤◌, ◌⊎◌, inl, inr, Bool, true, false, List, [], ◌∷◌, ◌++◌, length, map, max, get_or, All, Contains, Option, Some, None, sym, ap, refl, ◌∙◌, subst, arith, zero-add}
-use Rattle.std.specs.Prelude.{IfSome, slice_get, option_map}
+use Rattle.std.proofs.Common.{◌≡◌, ℕ, zero, suc, ◌+◌, ◌<◌, inl, inr, Bool, true, List, [], ◌∷◌, length, map, get_or, Contains, Option, Some, None, sym, ap, refl, ◌∙◌, subst, arith, zero-add}
+use Rattle.std.specs.Prelude.{slice_get, option_map}
 use Rattle.std.specs.Option.{unwrap_or}
-use Rattle.std.specs.List.Sorted.{IsPermutation, IsStrictlyIncreasing}
+use Rattle.std.specs.List.Sorted.{IsStrictlyIncreasing}
 use Rattle.std.proofs.lemmas.Bool.{cases_order}
 use Rattle.std.proofs.lemmas.List.Elements.{All-append, All-nil}
 use Rattle.std.proofs.lemmas.List.Kept.{AllPairs-from_increasing}
@@ -16,13 +16,12 @@ use Rattle.omega_automaton.specs.declared.edge.Edge.{Edge}
 use Rattle.omega_automaton.specs.declared.state.State.{State}
 use Rattle.omega_game.proofs.elements.Membership.{map-Contains}
 use Rattle.omega_game.specs.Building.{IsGameOf, specified}
-use Rattle.omega_game.specs.Game.{HasEdge, IsGame, Node, identifier_at, identifiers, node_at, no_node, owner_at, priority_at, successors_at}
+use Rattle.omega_game.specs.Game.{HasEdge, Node, identifier_at, identifiers, node_at, owner_at, priority_at, successors_at}
 use Rattle.omega_game.specs.Winning.{IsWalk, Leaves, end_of, greatest_on}
 use Rattle.omega_game.specs.declared.node_spec.NodeSpec.{NodeSpec}
-use Rattle.omega_game.specs.declared.player.Player.{Player}
 use Rattle.omega_game.specs.declared.player.Player.TheVariants.{Zero, One}
 use Rattle.omega_empty.specs.Counters.{counter_after, counters, priority_at_counter}
-use Rattle.omega_empty.specs.EmptinessGame.{AreUsable, edge_id, edge_node, is_usable, leaving, or_sink, sink_id, span, state_id, state_node, table}
+use Rattle.omega_empty.specs.EmptinessGame.{AreUsable, edge_id, edge_node, is_usable, leaving, or_sink, sink_id, state_id, state_node, table}
 use Rattle.omega_empty.specs.Lasso.{IsStep, Leads, marks_at, marks_of}
 use Rattle.omega_empty.proofs.Counters.{counter_after_below, counter_behind, priorities_from}
 use Rattle.omega_empty.proofs.making.Flat.{IsListed, listed_flat}

@@ -1,5 +1,5 @@
 -- What stands in the table: the node of a state, of a usable edge, or the sink, each known by its identifier.
-use Rattle.std.proofs.Common.{◌≡◌, ◌≢◌, ℕ, zero, suc, ◌+◌, ◌-◌, ◌*◌, ◌<◌, ◌≤◌, ◌⊎◌, inl, inr, ◌&&◌, Bool, true, false, cond, eqb, List, [], ◌∷◌, ◌++◌, length, map, get_or, Contains, Option, Some, sym, ap, refl, ◌∙◌, subst, arith, add-zero, zero-add}
+use Rattle.std.proofs.Common.{◌≡◌, ℕ, zero, suc, ◌+◌, ◌*◌, ◌<◌, ◌≤◌, ◌⊎◌, inl, inr, ◌&&◌, Bool, true, false, cond, eqb, List, [], ◌∷◌, map, Contains, Some, sym, ap, refl, ◌∙◌, subst, arith, add-zero, zero-add}
 use Rattle.std.specs.Prelude.{slice_get}
 use Rattle.std.specs.List.{flat_map, range_with_len}
 use Rattle.std.proofs.lemmas.Bool.{and_from, cases_order, eq-eqb}

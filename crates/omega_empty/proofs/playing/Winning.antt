@@ -1,5 +1,5 @@
 -- Where the automaton has an accepting lasso, player 0 wins: player 1 cannot, since laps of the cycle close a walk that loses for player 1.
-use Rattle.std.proofs.Common.{◌≡◌, ℕ, zero, suc, ◌+◌, ◌-◌, ◌*◌, ◌%◌, ◌<◌, ◌≤◌, ◌⊎◌, inl, inr, true, List, [], ◌∷◌, ◌++◌, length, map, All, Option, sym, ap, refl, ◌∙◌, subst, arith, append_assoc, zero-add}
+use Rattle.std.proofs.Common.{◌≡◌, ℕ, ◌+◌, ◌-◌, ◌%◌, ◌<◌, inl, inr, true, List, [], ◌∷◌, ◌++◌, length, map, All, Option, sym, ap, ◌∙◌, subst, arith, append_assoc, zero-add}
 use Rattle.std.specs.Prelude.{slice_index_or}
 use Rattle.std.proofs.Math.Nat.{zero-mul}
 use Rattle.std.proofs.lemmas.Bool.{eq-eqb}
@@ -11,7 +11,7 @@ use Rattle.omega_acc.specs.KindLaws.{BuchiIsEverySet, ParityIsPriority}
 use Rattle.omega_acc.specs.declared.kind.AccKind.{AccKind}
 use Rattle.omega_acc.specs.declared.kind.AccKind.TheVariants as kinds
 use Rattle.omega_automaton.specs.Automaton.{AreBelow, Description, IsAutomaton}
-use Rattle.omega_game.specs.Game.{Node, identifier_at}
+use Rattle.omega_game.specs.Game.{Node}
 use Rattle.omega_game.specs.Winning.{InRegion, Wins, end_of, greatest_on}
 use Rattle.omega_game.specs.declared.player.Player.TheVariants.{Zero, One}
 use Rattle.omega_region.proofs.Pigeonhole.{Repeats, repeats}
@@ -23,7 +23,7 @@ use Rattle.omega_empty.specs.Laws.{AcceptingLassosAreWon}
 use Rattle.omega_empty.proofs.Counters.{AreWithin, closed_accepts, counter_behind, counter_behind_below, formula_of, priorities_from}
 use Rattle.omega_empty.proofs.Leads.{laps, laps_lead, leads_on}
 use Rattle.omega_empty.proofs.playing.Lapping.{counter_on, laps_accept, laps_longer, laps_on}
-use Rattle.omega_empty.proofs.playing.Places.{Stands, Walks, marks_low, same_place, walks}
+use Rattle.omega_empty.proofs.playing.Places.{Stands, marks_low, same_place, walks}
 
 -- the formula of the automaton is that of its kind, and its marks are within
 formula_is : (a : Description) (kind : AccKind) → HasKind a kind → a.acceptance ≡ formula_of kind

@@ -1,9 +1,9 @@
 -- Edges and then others for ever: what the others meet comes for ever, and what they do not meet at last comes never.
-use Rattle.std.proofs.Common.{◌≡◌, ℕ, zero, suc, ◌+◌, ◌<◌, ◌≤◌, ◌⊎◌, inl, inr, Bool, true, false, not, ◌||◌, List, [], ◌∷◌, length, map, sym, ap, refl, ◌∙◌, subst, arith}
+use Rattle.std.proofs.Common.{◌≡◌, ℕ, zero, suc, ◌≤◌, inl, inr, Bool, true, false, ◌||◌, List, [], ◌∷◌, length, map, sym, ap, refl, ◌∙◌, arith}
 use Rattle.std.specs.List.{list_any}
 use Rattle.std.proofs.lemmas.Bool.{and_parts, or_cases, or_parts, not-true}
 use Rattle.omega_acc.specs.Acceptance.{AccTree, accepts, conjunction, constant, disjunction, fin, inf, occurs}
-use Rattle.omega_empty.specs.Runs.{AtLastNever, ForEver, Satisfies, meets}
+use Rattle.omega_empty.specs.Runs.{Satisfies, meets}
 
 -- numbers in order, and then c and those behind it for ever
 abbrev pub ever : ℕ → List ℕ → List ℕ → ℕ → ℕ

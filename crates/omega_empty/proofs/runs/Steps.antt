@@ -1,12 +1,12 @@
 -- From an accepting run to a lasso, and from a lasso to a run.
-use Rattle.std.proofs.Common.{◌≡◌, ℕ, zero, suc, ◌+◌, ◌-◌, ◌<◌, ◌≤◌, true, List, [], ◌∷◌, length, map, max, Option, Some, sym, ap, refl, ◌∙◌, subst, arith, add-one, le_refl, ◌⊎◌, inl, inr}
+use Rattle.std.proofs.Common.{◌≡◌, ℕ, zero, suc, ◌+◌, ◌-◌, ◌<◌, ◌≤◌, true, List, [], ◌∷◌, length, map, max, Some, sym, ap, refl, ◌∙◌, subst, arith, add-one, le_refl, inl, inr}
 use Rattle.std.proofs.lemmas.Bool.{cases_lt}
 use Rattle.std.proofs.lemmas.Option.{slice_get_within}
 use Rattle.omega_acc.specs.Acceptance.{accepts}
 use Rattle.omega_automaton.specs.Automaton.{BodyEdge, Description, edge_at, edge_count, edges_of}
 use Rattle.omega_region.proofs.Pigeonhole.{Repeats, repeats}
-use Rattle.omega_empty.specs.Lasso.{IsAcceptingLasso, IsLasso, IsStart, IsStep, Leads, marks_at}
-use Rattle.omega_empty.specs.Runs.{AcceptingRunsHaveLassos, IsAcceptingRun, IsRun, LassosAreAcceptingRuns, Satisfies}
+use Rattle.omega_empty.specs.Lasso.{IsAcceptingLasso, IsStart, IsStep, Leads, marks_at}
+use Rattle.omega_empty.specs.Runs.{AcceptingRunsHaveLassos, IsAcceptingRun, LassosAreAcceptingRuns}
 use Rattle.omega_empty.proofs.runs.Forever.{ever, ever_satisfies}
 use Rattle.omega_empty.proofs.runs.Segments.{enough, segment, segment_accepts, settled}
 

@@ -1,7 +1,7 @@
 -- Where the edges of a state stand among all edges: the numbers from a first up to an end.
 use Rattle.std.specs.Prelude.{◌≡◌, ℕ, ◌-◌, ◌<◌, ◌≤◌, Bool, List, length, filter, slice_index_or}
 use Rattle.std.specs.List.{range_with_len}
-use Rattle.omega_automaton.specs.Automaton.{BodyEdge, Description, edge_count, edges_of}
+use Rattle.omega_automaton.specs.Automaton.{BodyEdge, Description, edges_of}
 use Rattle.omega_empty.specs.EmptinessGame.{is_usable, leaving}
 use Rattle.omega_empty.specs.declared.edge_ranges.EdgeRange.{EdgeRange}
 

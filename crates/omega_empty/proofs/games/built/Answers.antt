@@ -1,5 +1,5 @@
 -- one counter more, and at the end the table, whose specifications have no fault
-use Rattle.std.proofs.Common.{◌≡◌, ℕ, List, ap, ◌∙◌, subst, arith}
+use Rattle.std.proofs.Common.{◌≡◌, List, subst, arith}
 use Rattle.std.specs.Prelude.{IfOk}
 use Rattle.omega_game.specs.Building.{IsGameOf}
 use Rattle.omega_game.specs.declared.node_spec.NodeSpec.{NodeSpec}

@@ -1,5 +1,5 @@
 -- all that was judged is ready
-use Rattle.std.proofs.Common.{◌≡◌, false, arith}
+use Rattle.std.proofs.Common.{◌≡◌, false}
 use Rattle.omega_empty.specs.EmptinessGame.{has_branch}
 use Rattle.omega_empty.proofs.making.Plain.{few_identifiers, small_kind}
 use Rattle.omega_empty.proofs.games.game_of.Goals as goal

@@ -1,6 +1,5 @@
 -- one edge more
-use Rattle.std.proofs.Common.{◌≡◌, ℕ, ◌+◌, ◌<◌, ◌++◌, length, get_or, ap, ◌∙◌, arith}
-use Rattle.omega_automaton.specs.declared.edge.Edge.{Edge}
+use Rattle.std.proofs.Common.{◌≡◌, ℕ, ◌<◌, ◌++◌, length, get_or, ap, ◌∙◌, arith}
 use Rattle.omega_empty.proofs.making.Rows.{edges_more, one_node}
 use Rattle.omega_empty.proofs.nodes.add_edges_of.Goals as goal
 

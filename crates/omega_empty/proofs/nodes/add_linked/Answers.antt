@@ -1,5 +1,5 @@
 -- a number that is not usable changes nothing, and a usable one is linked
-use Rattle.std.proofs.Common.{◌≡◌, ◌≤◌, true, false, ◌∙◌, sym, arith}
+use Rattle.std.proofs.Common.{◌≡◌, ◌≤◌, true, false, arith}
 use Rattle.omega_empty.specs.EmptinessGame.{is_usable}
 use Rattle.omega_empty.proofs.making.Linking.{passed, taken}
 use Rattle.omega_empty.proofs.nodes.add_linked.Goals as goal

@@ -1,11 +1,9 @@
 -- the state's node was linked to its usable edges, or is linked to the sink
-use Rattle.std.proofs.Common.{◌≡◌, ℕ, ◌+◌, ◌*◌, ◌<◌, length, true, false, sym, ap, ◌∙◌, subst, arith}
+use Rattle.std.proofs.Common.{◌+◌, ◌*◌, ap, ◌∙◌}
 use Rattle.std.proofs.lemmas.Bool.{both_ways}
-use Rattle.std.proofs.lemmas.List.{get_or_read}
 use Rattle.omega_automaton.specs.Automaton.{edges_of}
 use Rattle.omega_empty.specs.EmptinessGame.{span}
-use Rattle.omega_empty.specs.declared.edge_ranges.EdgeRange.{EdgeRange}
-use Rattle.omega_empty.specs.layout.Ranges.{IsRangeOf, no_range, range_of}
+use Rattle.omega_empty.specs.layout.Ranges.{IsRangeOf}
 use Rattle.omega_empty.proofs.making.Rows.{linked_state, range_read, unlinked_state}
 use Rattle.omega_empty.proofs.nodes.add_state.Goals as goal
 

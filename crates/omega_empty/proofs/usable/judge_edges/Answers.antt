@@ -1,5 +1,5 @@
 -- one edge more
-use Rattle.std.proofs.Common.{◌≡◌, ℕ, ◌+◌, ◌++◌, ◌<◌, Bool, List, [], ◌∷◌, length, get_or, take, sym, ap, ◌∙◌, subst, append_assoc, arith}
+use Rattle.std.proofs.Common.{◌≡◌, ℕ, ◌++◌, ◌<◌, Bool, List, [], ◌∷◌, length, get_or, take, sym, ap, ◌∙◌, subst, append_assoc, arith}
 use borrow.Author.Count.{below_more}
 use Rattle.std.proofs.lemmas.Result.{err_from_is_err_and}
 use Rattle.std.proofs.lemmas.List.Elements.{at_read}

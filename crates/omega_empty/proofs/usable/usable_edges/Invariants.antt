@@ -1,4 +1,4 @@
-use Rattle.std.proofs.Common.{◌≡◌, ℕ, ◌<◌, take, get_or}
+use Rattle.std.proofs.Common.{ℕ, ◌<◌, take, get_or}
 use Rattle.std.specs.List.{flat_map}
 use Rattle.omega_automaton.specs.Automaton.{edges_from}
 use Rattle.omega_automaton.specs.declared.state.State.{State}

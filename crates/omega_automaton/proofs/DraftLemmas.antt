@@ -1,0 +1,85 @@
+-- What a draft means, and which refusals say that there is none.
+use Rattle.std.proofs.Common.{◌≡◌, ℕ, false, List, [], Option, Some, None, option_map, option_and_then, unwrap_or, refl, ap, sym, ◌∙◌, subst}
+use Rattle.std.specs.List.{AllZip}
+use Rattle.omega_text.specs.declared.refusal.Refusal.{Refusal}
+use Rattle.omega_text.specs.declared.refusal.Refusal.TheVariants.{Automaton, Game, Io, Memory, Task, Text}
+use Rattle.omega_acc.specs.AccMeaning.{acc_meant}
+use Rattle.omega_acc.specs.Acceptance.{AccTree}
+use Rattle.omega_acc.specs.Depth.{IsMemory}
+use Rattle.omega_acc.specs.RawAcc.{RawAccTree}
+use Rattle.omega_raw.specs.declared.raw_automaton.RawAutomaton.{RawAutomaton}
+use Rattle.omega_automaton.specs.Automaton.{IsAutomaton}
+use Rattle.omega_automaton.specs.Faults.{definitions_of, fault_of}
+use Rattle.omega_automaton.specs.Items.{Accepted, acceptance_in, first_said}
+use Rattle.omega_automaton.specs.Meaning.{IsMeaningless, IsStateOf, Means}
+use Rattle.omega_automaton.specs.declared.making.draft.Draft.{Draft}
+use Rattle.omega_automaton.specs.declared.state.State.{State}
+use Rattle.omega_automaton.specs.layout.Definitions.{IsUnnoted}
+use Rattle.omega_automaton.specs.layout.Draft.{IsDraftOf, IsSoundAcceptance, described}
+use Rattle.omega_automaton.specs.layout.Order.{early_fault}
+use Rattle.omega_automaton.specs.layout.Trials.{is_faulty, labels_pass}
+use Rattle.omega_automaton.proofs.OrderLemmas.{alias_is}
+use Rattle.omega_automaton.proofs.SoundLemmas.{acceptance_sound, body_sound}
+use Rattle.omega_automaton.proofs.validity.Automata.{means_is_automaton}
+
+-- what a formula means that is part of something
+and_then-map : {X Y Z : Type 0} (f : X → Y) (g : Y → Option Z) (o : Option X) → option_and_then (λ x. g (f x)) o ≡ option_and_then g (option_map f o)
+and_then-map f g None = refl
+and_then-map f g (Some x) = refl
+
+-- the value that is made of a draft is what is meant
+pub draft_means : (raw : RawAutomaton) (draft : Draft) (acceptance : AccTree) (defined : List State) → IsDraftOf raw draft
+    → AllZip (IsStateOf draft.aliases) draft.states defined → option_and_then acc_meant draft.gathered.acceptance ≡ Some acceptance
+    → Means raw (described draft.gathered draft.state_count draft.set_count acceptance defined)
+draft_means raw draft acceptance defined is zipped meant = record {
+  faultless = is.faultless;
+  tool = is.gathered.tool;
+  name = is.gathered.name;
+  states = is.counted;
+  starts = is.gathered.starts;
+  propositions = ap (λ o. unwrap_or o []) is.gathered.propositions;
+  acc_name = is.gathered.acc_name;
+  sets = is.sets;
+  acceptance =
+      and_then-map (λ (accepted : Accepted). accepted.formula) acc_meant (first_said acceptance_in raw.items)
+      ∙ (ap (option_and_then acc_meant) (sym is.gathered.acceptance) ∙ meant);
+  properties = is.gathered.properties;
+  unknown = is.gathered.unknown;
+  defined =
+      subst (λ aliases. AllZip (IsStateOf aliases) raw.states defined) is.aliases
+      (subst (λ states. AllZip (IsStateOf draft.aliases) states defined) is.states zipped);
+}
+
+-- the value that is made of a draft is an automaton
+pub draft_is_automaton : (raw : RawAutomaton) (draft : Draft) (acceptance : AccTree) (defined : List State) → IsDraftOf raw draft
+    → AllZip (IsStateOf draft.aliases) draft.states defined → option_and_then acc_meant draft.gathered.acceptance ≡ Some acceptance
+    → IsAutomaton (described draft.gathered draft.state_count draft.set_count acceptance defined)
+draft_is_automaton raw draft acceptance defined is zipped meant =
+    means_is_automaton raw (described draft.gathered draft.state_count draft.set_count acceptance defined) (draft_means raw draft acceptance defined is zipped meant)
+
+-- the labels of a draft have no fault
+pub draft_sound : (raw : RawAutomaton) (draft : Draft) → IsDraftOf raw draft → labels_pass is_faulty draft.aliases draft.states ≡ false
+draft_sound raw draft is =
+    ap (λ x. labels_pass is_faulty x draft.states) is.aliases ∙ (ap (λ x. labels_pass is_faulty (definitions_of raw) x) is.states ∙ body_sound raw is.faultless)
+
+-- the acceptance of a draft is there and has no fault
+pub draft_accepts : (raw : RawAutomaton) (draft : Draft) → IsDraftOf raw draft → IsSoundAcceptance draft.gathered.acceptance
+draft_accepts raw draft is = subst (λ (o : Option RawAccTree). IsSoundAcceptance o) (sym is.gathered.acceptance) (acceptance_sound raw is.faultless)
+
+-- want of memory is no fault
+pub memory-meaningless : (raw : RawAutomaton) (refusal : Refusal) → IsMemory refusal → IsMeaningless raw refusal
+memory-meaningless raw (Text fault) refused = refused
+memory-meaningless raw (Game fault) refused = refused
+memory-meaningless raw (Automaton fault) refused = absurd refused
+memory-meaningless raw (Task fault) refused = refused
+memory-meaningless raw Memory refused = refused
+memory-meaningless raw Io refused = refused
+
+-- a wrong definition is the fault where no lesser one applies
+pub unnoted-meaningless : (raw : RawAutomaton) (refusal : Refusal) → early_fault raw ≡ None → IsUnnoted (definitions_of raw) refusal → IsMeaningless raw refusal
+unnoted-meaningless raw (Text fault) none refused = refused
+unnoted-meaningless raw (Game fault) none refused = refused
+unnoted-meaningless raw (Automaton fault) none refused = rw refused.0 (alias_is raw none refused.1)
+unnoted-meaningless raw (Task fault) none refused = refused
+unnoted-meaningless raw Memory none refused = refused
+unnoted-meaningless raw Io none refused = refused

@@ -1,0 +1,41 @@
+-- The draft of an automaton: what is written and has no fault, its items gathered, and the value that is made of it.
+use Rattle.std.specs.Prelude.{◌≡◌, ℕ, List, [], Option, None, MatchOption, unwrap_or}
+use Rattle.omega_acc.specs.Acceptance.{AccTree}
+use Rattle.omega_acc.specs.AccMeaning.{fault_of_acc}
+use Rattle.omega_acc.specs.RawAcc.{RawAccTree}
+use Rattle.omega_raw.specs.declared.raw_automaton.RawAutomaton.{RawAutomaton}
+use Rattle.omega_automaton.specs.Automaton.{Description}
+use Rattle.omega_automaton.specs.Faults.{definitions_of, fault_of, set_count, state_count}
+use Rattle.omega_automaton.specs.declared.making.draft.Draft.{Draft}
+use Rattle.omega_automaton.specs.declared.making.gathered.Gathered.{Gathered}
+use Rattle.omega_automaton.specs.declared.state.State.{State}
+use Rattle.omega_automaton.specs.layout.Gathered.{HasGathered}
+
+-- the draft of an automaton that is written and has no fault
+pub record IsDraftOf (raw : RawAutomaton) (draft : Draft) : Type 0 where
+  pub faultless : fault_of raw ≡ None
+  pub gathered : HasGathered raw.items draft.gathered
+  pub aliases : draft.aliases ≡ definitions_of raw
+  pub states : draft.states ≡ raw.states
+  pub counted : draft.state_count ≡ state_count raw
+  pub sets : draft.set_count ≡ set_count raw
+
+-- a formula is there and has no fault
+abbrev pub IsSoundAcceptance : Option RawAccTree → Type 0
+IsSoundAcceptance written = MatchOption written ⊥ (λ formula. fault_of_acc formula ≡ None)
+
+-- the automaton of what was gathered and of the parts made of it
+abbrev pub described : Gathered → ℕ → ℕ → AccTree → List State → Description
+described gathered states sets acceptance defined = record {
+  tool = gathered.tool;
+  name = gathered.name;
+  states = states;
+  starts = gathered.starts.items;
+  propositions = unwrap_or gathered.propositions [];
+  acc_name = gathered.acc_name;
+  sets = sets;
+  acceptance = acceptance;
+  properties = gathered.properties.items;
+  unknown = gathered.unknown.items;
+  defined = defined;
+}

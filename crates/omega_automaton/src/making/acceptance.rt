@@ -1,0 +1,20 @@
+ghost use Rattle.std.specs.Prelude.{◌≡◌, option_and_then, IfErr, IfOk};
+ghost use Rattle.omega_acc.specs.AccMeaning.{acc_meant};
+ghost use Rattle.omega_acc.specs.Depth.{IsMemory};
+ghost use Rattle.omega_automaton.specs.layout.Draft.{IsSoundAcceptance};
+
+use omega_acc::{Acc, RawAcc};
+use omega_text::Refusal;
+use std::alloc::Global;
+
+/// What a formula means that is there and has no fault.
+pub(crate) fn acceptance_of(alloc: Global, written: &Option<RawAcc>) -> Result<Acc, Refusal>
+    requires { IsSoundAcceptance written.now }
+    ensures ok { IfOk result (λ acceptance. option_and_then acc_meant written.now ≡ Some acceptance) }
+    ensures err { IfErr result IsMemory }
+{
+    match written {
+        Some(formula) => formula.formula(alloc),
+        None => unreachable!(),
+    }
+}

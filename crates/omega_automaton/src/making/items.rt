@@ -1,0 +1,45 @@
+ghost use Rattle.std.specs.Prelude.{IfErr, IfOk, OnOk};
+ghost use Rattle.std.specs.List.{filter_map};
+ghost use Rattle.omega_automaton.specs.Items.{alias_in};
+ghost use Rattle.omega_automaton.specs.layout.Definitions.{AreNoted, HasMet, IsUnmet, IsUnnoted};
+ghost use Rattle.omega_automaton.specs.layout.Gathered.{HasGathered, HasTaken};
+
+use crate::making::definitions::{Definitions, define};
+use crate::making::gathered::Gathered;
+use omega_raw::RawItem;
+use omega_text::{Refusal, Seq};
+use std::alloc::Global;
+
+/// What the items of a header say. Refusal 27 where two aliases have one name, or one reaches an alias that has no item
+/// before it.
+pub(crate) fn gather(alloc: Global, items: Seq<RawItem>) -> Result<(Gathered, Definitions), Refusal>
+    ensures gathered { IfOk result (λ header. HasGathered items header.0) }
+    ensures noted { IfOk result (λ header. AreNoted (filter_map alias_in items) header.1) }
+    ensures err { IfErr result (IsUnnoted (filter_map alias_in items)) }
+{
+    let mut gathered = Gathered::new(alloc);
+    let mut definitions = Definitions::new(alloc);
+    for item in items.into_vec() {
+        gather_one(alloc, &mut gathered, &mut definitions, item)?;
+    }
+    Ok((gathered, definitions))
+}
+
+/// Takes one more item. Refusal 27 where it is an alias whose name is there already or that reaches an undefined one.
+fn gather_one(
+    alloc: Global,
+    gathered: &mut Gathered,
+    definitions: &mut Definitions,
+    item: RawItem,
+) -> Result<(), Refusal>
+    ensures gathered { OnOk result (HasTaken gathered.old item gathered.new) }
+    ensures met { OnOk result (HasMet definitions.old item definitions.new) }
+    ensures err { IfErr result (IsUnmet definitions.old item) }
+{
+    match item {
+        RawItem::Alias { name, definition } => {
+            define(alloc, definitions, name.as_slice(), definition)
+        }
+        other => gathered.take(other),
+    }
+}
