@@ -1,8 +1,11 @@
 //! What each subcommand answers to the texts that it reads.
 #![tactic(auto)]
 
+mod automaton_text;
 mod canon;
 mod check;
+mod empty;
+mod game;
 mod game_text;
 mod player_text;
 mod show;
@@ -11,6 +14,7 @@ mod verify;
 
 pub use canon::pg::canon_game;
 pub use check::pg::check_game;
+pub use game::write_emptiness_game;
 pub use omega_io::Exit;
 pub use omega_solve::{MeasureTable, PackedTable, Player, Refusal, Schedule, Worklist};
 pub use show::pg::show_game;
