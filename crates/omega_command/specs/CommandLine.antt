@@ -96,8 +96,7 @@ Asks subcommand options (line.Run (command.Search from) budget) =
     (subcommand ≡ codes "solve") × GivesFlag (text_of name.Search options) true × (text_of name.Player options ≡ None)
     × Gives (IsNumberText most_number) (text_of name.From options) from × GivesBudget (text_of name.Budget options) budget
 Asks subcommand options (line.Run (command.Verify game) budget) = ⊥
-Asks subcommand options (line.Run command.Empty budget) =
-    (subcommand ≡ codes "empty") × GivesBudget (text_of name.Budget options) budget
+Asks subcommand options (line.Run command.Empty budget) = ⊥
 Asks subcommand options (line.Run command.Game budget) = (subcommand ≡ codes "game") × (budget ≡ most_lifts)
 Asks subcommand options (line.Verify file) =
     (subcommand ≡ codes "verify") × (text_of name.Game options ≡ Some (string_bytes file))
@@ -111,7 +110,7 @@ abbrev pub HasOption : List ℕ → OptionName → Type 0
 HasOption subcommand name.Format = (subcommand ≡ codes "show") ⊎ (subcommand ≡ codes "check") ⊎ (subcommand ≡ codes "canon")
 HasOption subcommand name.Player = subcommand ≡ codes "solve"
 HasOption subcommand name.From = subcommand ≡ codes "solve"
-HasOption subcommand name.Budget = (subcommand ≡ codes "solve") ⊎ (subcommand ≡ codes "empty")
+HasOption subcommand name.Budget = subcommand ≡ codes "solve"
 HasOption subcommand name.Search = subcommand ≡ codes "solve"
 HasOption subcommand name.Game = subcommand ≡ codes "verify"
 
@@ -149,7 +148,6 @@ pub record IsUnknown (subcommand : List ℕ) : Type 0 where
   pub canon : subcommand ≢ codes "canon"
   pub solve : subcommand ≢ codes "solve"
   pub verify : subcommand ≢ codes "verify"
-  pub empty : subcommand ≢ codes "empty"
   pub game : subcommand ≢ codes "game"
 
 -- two options of `solve` that are not given together: the search is for both players

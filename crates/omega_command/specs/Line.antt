@@ -18,7 +18,7 @@ IsOffered (Canon Hoa) = Unit {0}
 IsOffered (Solve asked from) = Unit {0}
 IsOffered (Search from) = Unit {0}
 IsOffered (Verify game) = Unit {0}
-IsOffered Empty = Unit {0}
+IsOffered Empty = ⊥
 IsOffered Game = Unit {0}
 
 -- what the line asks for can be done: its command is offered, with a budget that a solver takes

@@ -1,6 +1,5 @@
 mod canon;
 mod check;
-mod empty;
 mod game;
 mod options;
 pub mod program;

@@ -3,11 +3,11 @@ use std::alloc::Global;
 use std::test::Fail;
 
 /// Command lines that are at fault, and what the text says of each.
-static FAULTS: [(&str, &str); 46] = [
+static FAULTS: [(&str, &str); 43] = [
     ("", "requires a subcommand"),
     ("frobnicate", "unrecognized subcommand 'frobnicate'"),
     ("help", "unrecognized subcommand 'help'"),
-    ("emptiness", "unrecognized subcommand 'emptiness'"),
+    ("empty", "unrecognized subcommand 'empty'"),
     ("games", "unrecognized subcommand 'games'"),
     ("--version", "unexpected argument '--version'"),
     ("-V", "unexpected argument '-V'"),
@@ -90,16 +90,7 @@ static FAULTS: [(&str, &str); 46] = [
     ),
     ("solve --search --search", "cannot be used multiple times"),
     ("verify --game a --search", "unexpected argument '--search'"),
-    ("empty --format hoa", "unexpected argument '--format'"),
-    ("empty --player 0", "unexpected argument '--player'"),
-    (
-        "empty --budget 1099511627777",
-        "is not in 0..=1099511627776",
-    ),
-    (
-        "empty --budget x",
-        "invalid value 'x' for '--budget <N>'",
-    ),
+    ("game --format hoa", "unexpected argument '--format'"),
     ("game --budget 1", "unexpected argument '--budget'"),
     ("game a.hoa", "unexpected argument 'a.hoa'"),
     ("verify", "--game <FILE>"),
@@ -113,7 +104,7 @@ static FAULTS: [(&str, &str); 46] = [
 ];
 
 /// Requests for help, and what the text says.
-static HELP: [(&str, &str); 35] = [
+static HELP: [(&str, &str); 32] = [
     ("--help", "Usage: omega <COMMAND>"),
     ("-h", "3  the budget is used up"),
     ("--help", "0 1 0 1; 1 2 1 0"),
@@ -142,13 +133,10 @@ static HELP: [(&str, &str); 35] = [
     ("-h", "6  the answer of `omega verify` is no"),
     ("verify --help", "Usage: omega verify --game <FILE>"),
     ("verify -h", "53 BadSolution"),
-    ("empty --help", "Usage: omega empty [OPTIONS]"),
-    ("empty --help", "--budget <N>"),
-    ("empty --help", "stem 1"),
-    ("empty -h", "accepting lasso"),
-    ("empty -h", "generalized-Buchi K"),
-    ("empty -h", "40 NotParity"),
-    ("empty -h", "omega game | omega show --format pg"),
+    ("game -h", "accepting lasso"),
+    ("game -h", "generalized-Buchi K"),
+    ("game -h", "40 NotParity"),
+    ("game -h", "omega game | omega show --format pg"),
     ("game --help", "Usage: omega game"),
     ("game --help", "0 0 0 2,3;"),
     ("game -h", "the sink"),
@@ -233,28 +221,6 @@ fn asks_for_the_search(rt: HostRuntime) -> Result<(), Fail> {
         ("solve --from 3 --search --budget 5", Some(Some(3))),
     ] {
         assert_eq!(rt; search_of(rt.alloc(), words)?, asked, "{words}");
-    }
-    Ok(())
-}
-
-/// The budget of a command line that asks whether an automaton accepts nothing.
-fn emptiness_budget_of(alloc: Global, line: &str) -> Result<Option<u64>, Fail> {
-    let words = words_of(alloc, line)?;
-    match read_words(alloc, words.as_slice())? {
-        Line::Run(Command::Empty, budget) => Ok(Some(budget)),
-        _ => Ok(None),
-    }
-}
-
-#[test]
-fn asks_for_emptiness(rt: HostRuntime) -> Result<(), Fail> {
-    for (words, budget) in [
-        ("empty", Some(1_099_511_627_776)),
-        ("empty --budget 0", Some(0)),
-        ("empty --budget=7", Some(7)),
-        ("game", None),
-    ] {
-        assert_eq!(rt; emptiness_budget_of(rt.alloc(), words)?, budget, "{words}");
     }
     Ok(())
 }

@@ -44,9 +44,6 @@ pub fn line_for<'a>(
             Err(_) => Err(Mistake::Memory),
         };
     }
-    if subcommand == "empty" {
-        return Ok(Line::Run(Command::Empty, budget_in(options)?));
-    }
     if subcommand == "game" {
         return Ok(Line::Run(Command::Game, MOST_LIFTS));
     }
