@@ -99,15 +99,9 @@ Asks subcommand options (line.Run (command.Search from) budget) =
     × Gives (IsNumberText most_number) (text_of name.From options) from × GivesBudget (text_of name.Budget options) budget
 Asks subcommand options (line.Run (command.Verify game explain) budget) = ⊥
 Asks subcommand options (line.Run command.Empty budget) = ⊥
-<<<<<<< HEAD
-Asks subcommand options (line.Run command.Game budget) = ⊥
+Asks subcommand options (line.Run command.Game budget) = (subcommand ≡ codes "game") × (budget ≡ most_lifts)
 Asks subcommand options (line.Verify file explain) =
     (subcommand ≡ codes "verify") × (text_of name.Game options ≡ Some (string_bytes file)) × GivesFlag (text_of name.Explain options) explain
-=======
-Asks subcommand options (line.Run command.Game budget) = (subcommand ≡ codes "game") × (budget ≡ most_lifts)
-Asks subcommand options (line.Verify file) =
-    (subcommand ≡ codes "verify") × (text_of name.Game options ≡ Some (string_bytes file))
->>>>>>> w-emptyprog
 Asks subcommand options (line.Help text) = ⊥
 Asks subcommand options (line.Fault text) = ⊥
 

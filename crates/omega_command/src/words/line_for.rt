@@ -1,8 +1,4 @@
-<<<<<<< HEAD
-ghost use Rattle.std.specs.Prelude.{◌≡◌, Bool, Some, IfOk, IfErr, MatchOption};
-=======
-ghost use Rattle.std.specs.Prelude.{◌≡◌, Some, IfOk, IfErr, codes};
->>>>>>> w-emptyprog
+ghost use Rattle.std.specs.Prelude.{◌≡◌, Bool, Some, IfOk, IfErr, MatchOption, codes};
 ghost use Rattle.omega_text.specs.Limits.{most_number};
 ghost use Rattle.omega_command.specs.CommandLine.{Asks, Gives, GivesBudget, GivesFlag, IsFaulty, IsFormatText, IsMistake, IsNumberText, IsPlayerText, IsTruthText, text_of};
 ghost use Rattle.omega_command.specs.declared.words.options.OptionName.TheVariants as name;
