@@ -4,9 +4,13 @@ compared with.
 Nothing here is quick, and nothing is shared with the program.
 """
 import re
+import sys
 from dataclasses import dataclass, field
 
 from games import MOST_NUMBER, WHITE, Refused
+
+# Expressions somewhat deeper than the limit are read by recursion.
+sys.setrecursionlimit(20_000)
 
 MOST_PROPOSITIONS, MOST_DEPTH, MOST_SIZE, MOST_TOTAL_SIZE = 1024, 256, 65_536, 16_777_216
 MARKS = (b"--BODY--", b"--END--", b"--ABORT--")

@@ -127,7 +127,6 @@ def deep_rows():
     yield "the most propositions", named(1024) + b" --BODY-- --END--", None
     yield "a proposition too many", named(1025) + b" --BODY-- --END--", "26 Proposition"
     yield "one edge for the most propositions", named(1024) + b" --BODY-- State: 0 0 --END--", "30 ImplicitCount"
-    total = labelled(b"@a12") [: -len(b" --END--")]
     full = doubled(12).replace(b" --END--", b"")
     yield "all labels together", full + b"".join(b" State: [@a12] %d" % k for k in range(1, 1024)) + b" --END--", None
     yield "all labels together and more", full + b"".join(
@@ -148,9 +147,10 @@ def huge_texts():
         text = front + sign * million + back
         yield f"a million {sign.decode()}", text, f"3 Syntax at {text.rindex(b']')}"
     yield "a million &", front + b"t" + b"&" * million + back, f"3 Syntax at {len(front) + 2}"
-    yield "a million pairs", front + b"(" * million + b"t" + b")" * million + back, "32 TooDeep"
-    yield "a million negations", front + b"!" * million + b"t" + back, "32 TooDeep"
-    yield "a million atoms", front + b"|".join([b"t"] * million) + back, "32 TooDeep"
+    whole = b"] 0 --END--"
+    yield "a million pairs", front + b"(" * million + b"t" + b")" * million + whole, "32 TooDeep"
+    yield "a million negations", front + b"!" * million + b"t" + whole, "32 TooDeep"
+    yield "a million atoms", front + b"|".join([b"t"] * million) + whole, "32 TooDeep"
     yield "a million comments opened", b"HOA: " + b"/*" * million, "1 Lex at 5"
     yield "a string without end", b'HOA: "' + b"a" * million, "1 Lex at 5"
     for sign in (b"[", b"{"):
