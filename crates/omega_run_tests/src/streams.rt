@@ -167,11 +167,23 @@ fn many(alloc: Global, count: u32) -> Result<String, Fail> {
     Ok(text)
 }
 
-/// What a command writes of a text of the Hanoi format that comes in portions of at most so many bytes.
-fn written(alloc: Global, command: &Command, text: &[u8], most: usize) -> Result<Vec<u8>, Refusal> {
+/// What `canon` writes of a text of the Hanoi format that comes in portions of at most so many bytes.
+fn copied(alloc: Global, text: &[u8], most: usize) -> Result<Vec<u8>, Refusal> {
     let mut input = FromRead::new(Portions { rest: text, most });
     let mut output = ToWrite::new(Vec::new(alloc));
-    match run_command(alloc, command, &mut input, &mut output, 0)? {
+    let command = Command::Canon(Format::Hoa);
+    match run_command(alloc, &command, &mut input, &mut output, 0)? {
+        Exit::Done => Ok(output.into_inner()),
+        Exit::No => Err(Refusal::Io),
+    }
+}
+
+/// The same of `show`.
+fn shown(alloc: Global, text: &[u8], most: usize) -> Result<Vec<u8>, Refusal> {
+    let mut input = FromRead::new(Portions { rest: text, most });
+    let mut output = ToWrite::new(Vec::new(alloc));
+    let command = Command::Show(Format::Hoa);
+    match run_command(alloc, &command, &mut input, &mut output, 0)? {
         Exit::Done => Ok(output.into_inner()),
         Exit::No => Err(Refusal::Io),
     }
@@ -182,12 +194,7 @@ fn portions_make_no_difference(rt: HostRuntime) -> Result<(), Fail> {
     let text = many(rt.alloc(), 50)?;
     assert!(rt; text.len() > 4096);
     for most in [1, 7, 4095, 4096, 4097, 1_000_000] {
-        let copy = written(
-            rt.alloc(),
-            &Command::Canon(Format::Hoa),
-            text.as_bytes(),
-            most,
-        )?;
+        let copy = copied(rt.alloc(), text.as_bytes(), most)?;
         assert!(rt; copy.as_slice() == text.as_bytes(), "{most} at a time");
     }
     Ok(())
@@ -198,12 +205,7 @@ fn portions_make_no_difference_to_a_refusal(rt: HostRuntime) -> Result<(), Fail>
     let mut text = many(rt.alloc(), 50)?;
     text.push_str("HOA: v1 )")?;
     for most in [1, 4096, 1_000_000] {
-        let outcome = written(
-            rt.alloc(),
-            &Command::Show(Format::Hoa),
-            text.as_bytes(),
-            most,
-        );
+        let outcome = shown(rt.alloc(), text.as_bytes(), most);
         assert!(rt;
             matches!(&outcome, Err(refusal) if refusal.number() == 3),
             "{most} at a time"
