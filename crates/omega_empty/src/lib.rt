@@ -2,6 +2,7 @@
 #![tactic(auto)]
 
 mod branching;
+mod deciding;
 mod edge_ranges;
 mod game_laws;
 mod games;
@@ -11,8 +12,11 @@ mod laws;
 mod marks;
 mod nodes;
 mod usable;
+mod verdict;
 
+pub use deciding::emptiness;
 pub use game_laws::{unwon_is_empty, won_walks_accept};
 pub use games::emptiness_game;
 pub use laws::{accepting_lassos_are_won, accepting_runs_have_lassos, lassos_are_accepting_runs};
 pub use omega_automaton::{Automaton, Refusal, Seq};
+pub use verdict::Verdict;
