@@ -14,12 +14,22 @@ GAPS = b'parity 9; 9 3 1 4; 4 2 0 9,4 "a";'
 CARRY = b"0 1 0 0; 1 0 0 1; 2 3 0 2; 3 1 1 2,0;"
 CHOICE = b"0 0 0 1,2; 1 1 1 0; 2 2 1 0;"
 
+BUCHI = b'HOA: v1 States: 1 Start: 0 AP: 1 "a" acc-name: Buchi Acceptance: 1 Inf(0) --BODY-- State: 0 [0] 0 {0} --END--'
+ABORTED = b"HOA: ( & 7 nonsense --ABORT-- /*a/*b*/c*/ HOA: v1 Acceptance: 0 t --BODY-- --END--"
+ALIASES = (b'HOA: v1 AP: 1 "a" Acceptance: 0 t Alias: @a0 0&0 Alias: @a1 @a0&@a0 Alias: @a2 @a1&@a1 --BODY-- '
+           b"State: [@a2] 0 --END--")
+WRITTEN = (b'HOA: v1 States: 1 Start: 0 AP: 1 "a" Alias: @b 0|t Acceptance: 1 Inf(0) acc-name: Buchi --BODY-- State: 0 '
+           b"[!@b&0] 0 {0 0} --END--")
+
 # Words, the text on standard input, and the text in the file of `--game` where there is one.
 RUNS = [
     *((["solve", *more], text, None)
       for text in (TWO, GAPS, CARRY, CHOICE)
       for more in ([], ["--search"], ["--player", "0"], ["--player", "1"], ["--from", "0"], ["--budget", "3"])),
     *(([name, "--format", "pg"], text, None) for text in (TWO, GAPS, CHOICE) for name in ("show", "check", "canon")),
+    *(([name, "--format", "hoa"], text, None) for text in (BUCHI, ABORTED, ALIASES, WRITTEN, BUCHI * 3)
+      for name in ("show", "check", "canon")),
+    (["check", "--format", "hoa"], b"HOA: v1 --BODY-- --END--", None),
     (["verify", "--game"], b"paritysol 2; 0 0 2; 1 0; 2 0;", CHOICE),
     (["verify", "--game"], b"paritysol 2; 0 0 1; 1 0; 2 0;", CHOICE),
     (["verify", "--game"], b"paritysol 2; 0 0;", CHOICE),

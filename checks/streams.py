@@ -23,6 +23,8 @@ def statuses():
     yield "a refused text", fault_of(["check", "--format", "pg"], b"", 1, b"", b"omega: 3 Syntax at 0\n")
     yield "a budget that is used up", fault_of(
         ["solve", "--player", "1", "--budget", "1"], CHOICE, 3, b"", b"omega: 51 Budget\n")
+    yield "automata accepted", fault_of(["check", "--format", "hoa"], b"", 0, b"accepted\n")
+    yield "a refused text of automata", fault_of(["check", "--format", "hoa"], b"x", 1, b"", b"omega: 3 Syntax at 0\n")
     yield "a solution verified", fault_with_file(["verify", "--game"], CHOICE, SOLUTION, 0, b"yes\n")
     yield "a game file that is not there", fault_of(
         ["verify", "--game", os.path.join(tempfile.gettempdir(), "no", "such", "game")], SOLUTION, 5, b"", b"omega: 61 Io\n")
@@ -31,7 +33,7 @@ def statuses():
 
 
 def command_lines():
-    for words in ([], [b"frobnicate"], [b"solve", b"--player", b"2"], [b"show"], [b"check", b"--format", b"hoa"]):
+    for words in ([], [b"frobnicate"], [b"solve", b"--player", b"2"], [b"show"], [b"check", b"--format", b"dot"]):
         came = run(words)
         good = came.returncode == 2 and not came.stdout and came.stderr.startswith(b"error: ")
         yield f"a fault of the command line: {words}", None if good else f"{came.returncode} {shown(came.stdout)} {shown(came.stderr)}"

@@ -1,4 +1,5 @@
 -- Lemmas by theme.
+pub mod Explaining
 pub mod Identifiers
 pub mod Places
 pub mod Solutions

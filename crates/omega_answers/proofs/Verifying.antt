@@ -33,7 +33,7 @@ given-flag : (player : Player) (winners : List Player) (v : ℕ) → v < length 
 given-flag player winners v h = get_or-map (is_given player) winners v Zero false h
 
 -- a place is given to the player exactly where the player is the winner
-given-Contains : (player : Player) (winners : List Player) (v : ℕ)
+pub given-Contains : (player : Player) (winners : List Player) (v : ℕ)
     → Contains (given_to player winners) v ↔ ((v < length winners) × (get_or winners v Zero ≡ player))
 given-Contains player winners v =
     let flags = map (is_given player) winners in
@@ -73,7 +73,7 @@ given-wins nodes solution player choices entries same = (
 )
 
 -- both players' choices win as given
-both-win : (nodes : List Node) (solution : Solution) → WinsGiven nodes solution Zero → WinsGiven nodes solution One
+pub both-win : (nodes : List Node) (solution : Solution) → WinsGiven nodes solution Zero → WinsGiven nodes solution One
     → WinsAsGiven nodes solution
 both-win nodes solution zero one Zero = zero
 both-win nodes solution zero one One = one
@@ -93,13 +93,13 @@ one-decides nodes solution zero one e wins wins' =
 
 -- the verdict is as the choices win
 verdict_by : (nodes : List Node) (solution : Solution) (is_right : Bool) → IsTrue is_right ↔ WinsAsGiven nodes solution
-    → IsVerdict nodes solution (verdict_exit is_right) (verdict_text is_right)
+    → IsVerdict nodes solution false (verdict_exit is_right) (verdict_text is_right)
 verdict_by nodes solution true wins = (wins.0 refl, refl)
 verdict_by nodes solution false wins = (λ all. let t : false ≡ true = wins.1 all in cc, refl)
 
 pub verdict-answers : (game_text text : List ℕ) (exit : Exit) (output : List ℕ) (nodes : List Node) (solution : Solution) (is_right : Bool)
     → IsGameText game_text nodes → IsSolutionText nodes text solution → IsTrue is_right ↔ WinsAsGiven nodes solution
-    → exit ≡ verdict_exit is_right → output ≡ verdict_text is_right → IsVerifyAnswer game_text text exit output
+    → exit ≡ verdict_exit is_right → output ≡ verdict_text is_right → IsVerifyAnswer game_text false text exit output
 verdict-answers game_text text exit output nodes solution is_right game read wins ends written = record {
   game = nodes;
   game_read = game;

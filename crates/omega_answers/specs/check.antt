@@ -1,2 +1,3 @@
 -- What `check` answers, format by format.
+pub mod Hoa
 pub mod Pg

@@ -1,2 +1,3 @@
 -- What `show` answers, format by format.
+pub mod Hoa
 pub mod Pg

@@ -1,1 +1,2 @@
+pub mod hoa;
 pub mod pg;

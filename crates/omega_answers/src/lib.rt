@@ -9,10 +9,13 @@ mod show;
 mod solve;
 mod verify;
 
+pub use canon::hoa::canon_stream;
 pub use canon::pg::canon_game;
+pub use check::hoa::check_stream;
 pub use check::pg::check_game;
 pub use omega_io::Exit;
 pub use omega_solve::{MeasureTable, PackedTable, Player, Refusal, Schedule, Worklist};
+pub use show::hoa::show_stream;
 pub use show::pg::show_game;
 pub use solve::asked::Asked;
 pub use solve::solve_game;

@@ -9,23 +9,31 @@ ghost use Rattle.omega_answers.specs.Verify.{IsVerifyAnswer, IsVerifyRefusal};
 ghost use Rattle.omega_answers.specs.solve.Solution.{WinsAsGiven, WinsGiven};
 ghost use Rattle.omega_answers.specs.steps.Verdict.{given_to, is_given, verdict_exit, verdict_text};
 
+mod explaining;
+
+use explaining::explained;
 use omega_game::{Game, Player, Refusal, Strategy, check_strategy};
 use omega_io::Exit;
 use omega_pg::{Solution, read_game, read_solution};
 use std::alloc::Global;
 
 /// Says whether the choices of the solution that a text stands for win, without solving its game, which has a text of
-/// its own. The refusal of the game text, or else that of the solution text: 1 to 4, 10 to 14, 53 or 60.
+/// its own; where they do not, also why, if that is asked for. The refusal of the game text, or else that of the solution
+/// text: 1 to 4, 10 to 14, 53 or 60.
 pub fn verify_solution(
     alloc: Global,
     game: &[u8],
     text: Vec<u8>,
+    explain: bool,
 ) -> Result<(Exit, Vec<u8>), Refusal>
-    ensures answer { IfOk result (λ made. IsVerifyAnswer game.now text.items made.0 made.1.items) }
+    ensures answer { IfOk result (λ made. IsVerifyAnswer game.now explain text.items made.0 made.1.items) }
     ensures refused { IfErr result (or_memory (IsVerifyRefusal game.now text.items)) }
 {
     let game = read_game(alloc, game)?;
     let solution = solution_in(alloc, &game, text)?;
+    if explain {
+        return explained(alloc, &game, &solution);
+    }
     let is_right = wins_as_given(alloc, &game, &solution)?;
     verdict(alloc, is_right)
 }
@@ -80,7 +88,7 @@ fn wins_given(
 }
 
 /// The choices of a player.
-fn strategy_of(solution: &Solution, player: Player) -> &Strategy
+pub(crate) fn strategy_of(solution: &Solution, player: Player) -> &Strategy
     ensures { result.now.choice ≡ choices_of solution.now player }
 {
     match player {
@@ -90,7 +98,11 @@ fn strategy_of(solution: &Solution, player: Player) -> &Strategy
 }
 
 /// The places of the nodes given to a player. 60 alone.
-fn given_to(alloc: Global, player: Player, winners: &[Player]) -> Result<Vec<u32>, Refusal>
+pub(crate) fn given_to(
+    alloc: Global,
+    player: Player,
+    winners: &[Player],
+) -> Result<Vec<u32>, Refusal>
     requires { length winners.now ≤ most_nodes }
     ensures places { IfOk result (λ places. places.items ≡ given_to player winners.now) }
     ensures memory { IsOkUnless result Memory }

@@ -1,10 +1,9 @@
 -- The definitions of aliases, one more at a time: what they mean, and whether one of them is wrong.
-use Rattle.std.proofs.Common.{◌≡◌, ℕ, ◌+◌, ◌<◌, Bool, true, false, ◌||◌, List, [], ◌∷◌, ◌++◌, Option, Some, None, MatchOption, length, get_or, take, drop, map, is_none, append-nil, append_assoc, refl, ap, sym, ◌∙◌, subst}
-use Rattle.std.specs.List.{filter_map, list_any}
+use Rattle.std.proofs.Common.{◌≡◌, ◌+◌, Bool, true, false, ◌||◌, List, [], ◌∷◌, ◌++◌, Option, Some, None, MatchOption, map, is_none, append-nil, append_assoc, refl, ap, sym, ◌∙◌, subst}
+use Rattle.std.specs.List.{list_any}
 use Rattle.std.specs.Option.{option_to_list}
 use Rattle.std.specs.Str.{bytes_eq}
-use Rattle.std.proofs.lemmas.List.{map-append, take_more, take-append-drop}
-use Rattle.std.proofs.lemmas.List.Elements.{filter_map-append}
+use Rattle.std.proofs.lemmas.List.{map-append}
 use Rattle.std.proofs.lemmas.List.Folds.{list_any-append}
 use Rattle.omega_text.specs.declared.refusal.Refusal.{Refusal}
 use Rattle.omega_text.specs.declared.refusal.Refusal.TheVariants.{Automaton, Game, Io, Memory, Task, Text}
@@ -57,7 +56,7 @@ wrong-push ds d =
     (list_any (λ (entry : Entry). is_none entry.meaning) (entries_of [] ds)) (is_none (expansion ds d.body)))
 
 -- what is wrong in a front is so in the whole
-pub wrong-front : (xs ys : List Defined) → has_wrong_definition xs ≡ true → has_wrong_definition (xs ++ ys) ≡ true
+wrong-front : (xs ys : List Defined) → has_wrong_definition xs ≡ true → has_wrong_definition (xs ++ ys) ≡ true
 wrong-front xs ys h =
     or_both (has_repeat bytes_eq (map (λ (x : Defined). x.name) xs)) (list_any (λ (entry : Entry). is_none entry.meaning) (entries_of [] xs))
     (has_repeat bytes_eq (map (λ (x : Defined). x.name) (xs ++ ys))) (list_any (λ (entry : Entry). is_none entry.meaning) (entries_of [] (xs ++ ys)))

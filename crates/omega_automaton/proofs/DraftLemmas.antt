@@ -1,15 +1,14 @@
 -- What a draft means, and which refusals say that there is none.
-use Rattle.std.proofs.Common.{◌≡◌, ℕ, false, List, [], Option, Some, None, option_map, option_and_then, unwrap_or, refl, ap, sym, ◌∙◌, subst}
+use Rattle.std.proofs.Common.{◌≡◌, false, List, [], Option, Some, None, option_map, option_and_then, unwrap_or, refl, ap, sym, ◌∙◌, subst}
 use Rattle.std.specs.List.{AllZip}
 use Rattle.omega_text.specs.declared.refusal.Refusal.{Refusal}
 use Rattle.omega_text.specs.declared.refusal.Refusal.TheVariants.{Automaton, Game, Io, Memory, Task, Text}
 use Rattle.omega_acc.specs.AccMeaning.{acc_meant}
 use Rattle.omega_acc.specs.Acceptance.{AccTree}
-use Rattle.omega_acc.specs.Depth.{IsMemory}
 use Rattle.omega_acc.specs.RawAcc.{RawAccTree}
 use Rattle.omega_raw.specs.declared.raw_automaton.RawAutomaton.{RawAutomaton}
 use Rattle.omega_automaton.specs.Automaton.{IsAutomaton}
-use Rattle.omega_automaton.specs.Faults.{definitions_of, fault_of}
+use Rattle.omega_automaton.specs.Faults.{definitions_of}
 use Rattle.omega_automaton.specs.Items.{Accepted, acceptance_in, first_said}
 use Rattle.omega_automaton.specs.Meaning.{IsMeaningless, IsStateOf, Means}
 use Rattle.omega_automaton.specs.declared.making.draft.Draft.{Draft}
@@ -65,15 +64,6 @@ draft_sound raw draft is =
 -- the acceptance of a draft is there and has no fault
 pub draft_accepts : (raw : RawAutomaton) (draft : Draft) → IsDraftOf raw draft → IsSoundAcceptance draft.gathered.acceptance
 draft_accepts raw draft is = subst (λ (o : Option RawAccTree). IsSoundAcceptance o) (sym is.gathered.acceptance) (acceptance_sound raw is.faultless)
-
--- want of memory is no fault
-pub memory-meaningless : (raw : RawAutomaton) (refusal : Refusal) → IsMemory refusal → IsMeaningless raw refusal
-memory-meaningless raw (Text fault) refused = refused
-memory-meaningless raw (Game fault) refused = refused
-memory-meaningless raw (Automaton fault) refused = absurd refused
-memory-meaningless raw (Task fault) refused = refused
-memory-meaningless raw Memory refused = refused
-memory-meaningless raw Io refused = refused
 
 -- a wrong definition is the fault where no lesser one applies
 pub unnoted-meaningless : (raw : RawAutomaton) (refusal : Refusal) → early_fault raw ≡ None → IsUnnoted (definitions_of raw) refusal → IsMeaningless raw refusal

@@ -7,9 +7,7 @@ use Rattle.std.proofs.lemmas.List.{take_more, take-append-drop}
 use Rattle.std.proofs.lemmas.List.Elements.{filter_map-append}
 use Rattle.std.proofs.lemmas.List.Folds.{map_fixed}
 use Rattle.omega_text.specs.declared.refusal.Refusal.{Refusal}
-use Rattle.omega_acc.specs.RawLabel.{RawLabelTree}
 use Rattle.omega_raw.specs.declared.raw_item.RawItem.{RawItem}
-use Rattle.omega_raw.specs.declared.raw_item.RawItem.TheVariants as item
 use Rattle.omega_automaton.specs.Items.{Accepted, Named, acc_name_in, acceptance_in, alias_in, first_said, name_in, properties_in, propositions_in, start_in, tool_in, unknown_in}
 use Rattle.omega_automaton.specs.declared.making.definitions.Definitions.{Definitions}
 use Rattle.omega_automaton.specs.declared.making.gathered.Gathered.{Gathered}
@@ -67,31 +65,13 @@ gathered-push items last old new all taken = record {
   unknown = taken.unknown ∙ (ap (λ xs. xs ++ option_to_list (unknown_in last)) all.unknown ∙ sym (filter_map-push unknown_in items last));
 }
 
--- one or none
-option_or-none : {X : Type 0} (o : Option X) → o ≡ option_or o None
-option_or-none None = refl
-option_or-none (Some x) = refl
-
--- of an alias nothing is taken
-pub alias-untaken : (all : Gathered) (name : List ℕ) (body : RawLabelTree) → HasTaken all (item.Alias name body) all
-alias-untaken all name body = record {
-  tool = option_or-none all.tool;
-  name = option_or-none all.name;
-  starts = sym (append-nil all.starts.items);
-  propositions = option_or-none all.propositions;
-  acc_name = option_or-none all.acc_name;
-  acceptance = option_or-none all.acceptance;
-  properties = sym (append-nil all.properties.items);
-  unknown = sym (append-nil all.unknown.items);
-}
-
 -- one more item was met
 pub noted-push : (items : List RawItem) (last : RawItem) (old new : Definitions) → AreNoted (filter_map alias_in items) old → HasMet old last new
     → AreNoted (filter_map alias_in (items ++ last ∷ [])) new
 noted-push items last old new all met = rw (filter_map-push alias_in items last) (noted-met (alias_in last) (filter_map alias_in items) old new all met)
 
 -- an item that cannot be met behind those before it
-pub unnoted-at : (items : List RawItem) (i : ℕ) (last : RawItem) (old : Definitions) (refusal : Refusal) → i < length items → last ≡ get_or items i last
+unnoted-at : (items : List RawItem) (i : ℕ) (last : RawItem) (old : Definitions) (refusal : Refusal) → i < length items → last ≡ get_or items i last
     → AreNoted (filter_map alias_in (take i items)) old → IsUnmet old last refusal → IsUnnoted (filter_map alias_in items) refusal
 unnoted-at items i last old refusal within is all unmet =
     let here = unnoted-met (alias_in last) (filter_map alias_in (take i items)) old refusal all.aliases unmet in

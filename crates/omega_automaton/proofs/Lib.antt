@@ -1,6 +1,8 @@
 pub mod AliasNames
 pub mod DefinitionLemmas
 pub mod DraftLemmas
+pub mod EdgeLemmas
+pub mod ExpansionLemmas
 pub mod FaultLemmas
 pub mod GatheringLemmas
 pub mod Greatest
@@ -9,8 +11,8 @@ pub mod OrderLemmas
 pub mod Powers
 pub mod Repeats
 pub mod Said
+pub mod SizeLemmas
 pub mod SoundLemmas
-pub mod TotalLemmas
 pub mod Uniqueness
 pub mod Zipped
 pub mod validity

@@ -1,5 +1,5 @@
 -- The fault of an automaton that is written, asked for in order.
-use Rattle.std.proofs.Common.{◌≡◌, Bool, true, false, cond, ◌||◌, List, [], ◌∷◌, ◌++◌, map, Option, Some, None, nat_lt, is_none, sum_by, refl, ap, sym, ◌∙◌}
+use Rattle.std.proofs.Common.{◌≡◌, Bool, true, false, cond, ◌||◌, List, [], ◌∷◌, ◌++◌, map, Option, Some, None, nat_lt, is_none, refl, ap, sym, ◌∙◌}
 use Rattle.std.specs.List.{find, list_any}
 use Rattle.std.specs.Option.{option_or}
 use Rattle.std.specs.Str.{bytes_eq}
@@ -12,9 +12,8 @@ use Rattle.omega_raw.specs.declared.raw_automaton.RawAutomaton.{RawAutomaton}
 use Rattle.omega_raw.specs.declared.raw_item.RawItem.{RawItem}
 use Rattle.omega_raw.specs.declared.raw_state.RawState.{RawState}
 use Rattle.omega_automaton.specs.Automaton.{has_repeat}
-use Rattle.omega_automaton.specs.Faults.{applies, definitions_of, fault_of, faults, has_deep_expression, has_large_expression, has_wrong_alias, is_deep, is_large, label_total, passes}
+use Rattle.omega_automaton.specs.Faults.{applies, definitions_of, fault_of, faults, has_deep_expression, has_large_expression, has_wrong_alias, passes}
 use Rattle.omega_automaton.specs.Items.{Accepted, acceptance_in}
-use Rattle.omega_automaton.specs.Limits.{most_total_size}
 use Rattle.omega_automaton.specs.declared.making.definitions.Definitions.{Definitions}
 use Rattle.omega_automaton.specs.layout.Definitions.{AreNoted, has_wrong_definition}
 use Rattle.omega_automaton.specs.layout.Order.{early_fault, is_any_deep, is_any_large, last_fault, late_fault}
@@ -45,10 +44,6 @@ in_order : (raw : RawAutomaton)
 in_order raw =
     find-append (applies raw) early (Alias ∷ late ++ TooDeep ∷ Expansion ∷ [])
     ∙ ap (λ o. option_or (early_fault raw) (cond (has_wrong_alias raw) (Some Alias) o)) (find-append (applies raw) late (TooDeep ∷ Expansion ∷ []))
-
--- an early fault is the fault
-pub early_is : (raw : RawAutomaton) (fault : AutomatonFault) → early_fault raw ≡ Some fault → fault_of raw ≡ Some fault
-early_is raw fault found = in_order raw ∙ rw found refl
 
 -- one of three, where the first two fail
 or_third : (a b c : Bool) → (a || b) ≡ false → (a || (b || c)) ≡ c

@@ -30,7 +30,7 @@ has_repeat-push same (x ∷ xs) y =
     ∙ shuffled (list_any (λ later. same later x) xs) (same y x) (has_repeat same xs) (list_any (same y) xs))
 
 -- either of two that hold
-pub or_true : (a b c : Bool) → (b ≡ true → c ≡ true) → (a || b) ≡ true → (a || c) ≡ true
+or_true : (a b c : Bool) → (b ≡ true → c ≡ true) → (a || b) ≡ true → (a || c) ≡ true
 or_true true b c more h = refl
 or_true false b c more h = more h
 

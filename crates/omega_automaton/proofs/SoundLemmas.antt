@@ -1,32 +1,28 @@
 -- Labels and acceptances of which no fault applies.
-use Rattle.std.proofs.Common.{◌≡◌, Result, Ok, Err, IfErr, ℕ, ◌+◌, ◌<◌, Bool, true, false, cond, not, ◌||◌, ◌&&◌, List, [], ◌∷◌, Option, Some, None, MatchOption, option_map, option_and_then, nat_lt, is_none, is_some, length, get_or, refl, ap, sym, ◌∙◌}
+use Rattle.std.proofs.Common.{◌≡◌, ℕ, ◌<◌, Bool, true, false, cond, not, ◌||◌, ◌&&◌, List, [], ◌∷◌, Option, Some, None, MatchOption, option_map, nat_lt, is_none, is_some, length, get_or, refl, ap, sym, ◌∙◌}
 use Rattle.std.specs.List.{cons_option, filter_map, list_any, slice_get}
 use Rattle.std.proofs.lemmas.Bool.{false≢true}
 use Rattle.std.proofs.lemmas.List.Folds.{list_any_at}
-use Rattle.omega_text.specs.declared.refusal.Refusal.{Refusal}
-use Rattle.omega_text.specs.declared.refusal.Refusal.TheVariants.{Automaton, Game, Io, Memory, Task, Text}
-use Rattle.omega_text.specs.declared.refusal.automaton.AutomatonFault.{AutomatonFault}
 use Rattle.omega_text.specs.declared.refusal.automaton.AutomatonFault.TheVariants.{AcceptanceAtom, Alias, Expansion, MissingAcceptance, TooDeep}
-use Rattle.omega_acc.specs.AccMeaning.{IsUnmeant, acc_meant, fault_of_acc, fault_of_meant}
+use Rattle.omega_acc.specs.AccMeaning.{acc_meant, fault_of_meant}
 use Rattle.omega_acc.specs.Acceptance.{AccTree}
-use Rattle.omega_acc.specs.Depth.{IsMemory}
-use Rattle.omega_acc.specs.Expanding.{Defined, IsUnexpanded, Meaning, expansion, fault_of_meaning}
+use Rattle.omega_acc.specs.Expanding.{Defined, Meaning, expansion}
 use Rattle.omega_acc.specs.Label.{label_size}
 use Rattle.omega_acc.specs.Limits.{most_depth, most_size}
-use Rattle.omega_acc.specs.RawAcc.{RawAccTree, raw_acc_depth}
+use Rattle.omega_acc.specs.RawAcc.{raw_acc_depth}
 use Rattle.omega_acc.specs.RawLabel.{RawLabelTree}
 use Rattle.omega_raw.specs.declared.raw_automaton.RawAutomaton.{RawAutomaton}
 use Rattle.omega_raw.specs.declared.raw_edge.RawEdge.{RawEdge}
 use Rattle.omega_raw.specs.declared.raw_item.RawItem.{RawItem}
 use Rattle.omega_raw.specs.declared.raw_state.RawState.{RawState}
-use Rattle.omega_automaton.specs.Faults.{applies, definitions_of, fault_of, has_deep_expression, has_large_expression, has_wrong_alias, has_wrong_atom, is_deep, is_labelled, is_large, lacks_acceptance, passes, size_of_meaning}
+use Rattle.omega_automaton.specs.Faults.{applies, definitions_of, fault_of, has_deep_expression, has_large_expression, has_wrong_alias, has_wrong_atom, is_deep, is_labelled, is_large, lacks_acceptance, passes}
 use Rattle.omega_automaton.specs.Items.{Accepted, acceptance_in, first_said}
 use Rattle.omega_automaton.specs.layout.Draft.{IsSoundAcceptance}
 use Rattle.omega_automaton.specs.layout.Trials.{is_faulty, labels_pass}
 use Rattle.omega_automaton.proofs.FaultLemmas.{no_fault_passes}
 
 -- the first of two tests that both fail
-pub or_first : (a b : Bool) → (a || b) ≡ false → a ≡ false
+or_first : (a b : Bool) → (a || b) ≡ false → a ≡ false
 or_first true b h = absurd (false≢true (sym h))
 or_first false b h = refl
 
@@ -41,7 +37,7 @@ or_none true b one other = one
 or_none false b one other = other
 
 -- no item of a list passes a test that none passes: the one at a place
-pub none-at : {X : Type 0} (test : X → Bool) (xs : List X) (i : ℕ) (x : X) → list_any test xs ≡ false → i < length xs → x ≡ get_or xs i x → test x ≡ false
+none-at : {X : Type 0} (test : X → Bool) (xs : List X) (i : ℕ) (x : X) → list_any test xs ≡ false → i < length xs → x ≡ get_or xs i x → test x ≡ false
 none-at test xs i x none within is = by_test (test x) refl
   where
     by_test : (b : Bool) → test x ≡ b → b ≡ false
@@ -87,7 +83,7 @@ sound_meaning (Some known) one two three = by_tests (nat_lt most_depth known.dep
     by_tests false false h k = refl
 
 -- where no label is undefined, too deep or too large, none has a fault
-pub labels_sound : (definitions : List Defined) (states : List RawState)
+labels_sound : (definitions : List Defined) (states : List RawState)
     → labels_pass is_none definitions states ≡ false → labels_pass is_deep definitions states ≡ false → labels_pass is_large definitions states ≡ false
     → labels_pass is_faulty definitions states ≡ false
 labels_sound definitions states one two three =
@@ -97,6 +93,40 @@ labels_sound definitions states one two three =
     (λ label. is_large (expansion definitions label)) (λ label. is_faulty (expansion definitions label))
     (λ label. sound_meaning (expansion definitions label)))
     states one two three
+
+-- where a test fails another does, of the items of a list
+two-any : {X : Type 0} (a t : X → Bool) → ((x : X) → a x ≡ false → t x ≡ false) → (xs : List X) → list_any a xs ≡ false → list_any t xs ≡ false
+two-any a t each xs none = three-any a a a t (λ x one two three. each x one) xs none none none
+
+-- a label without a fault means something, is not too deep and not too large
+pub faultless_meaning : (meaning : Option Meaning) → is_faulty meaning ≡ false → (is_none meaning ≡ false) × (is_deep meaning ≡ false) × (is_large meaning ≡ false)
+faultless_meaning None sound = absurd (false≢true (sym sound))
+faultless_meaning (Some known) sound = by_tests (nat_lt most_depth known.depth) (nat_lt most_size (label_size known.tree)) sound
+  where
+    by_tests : (deep large : Bool) → is_some (cond deep (Some TooDeep) (cond large (Some Expansion) None)) ≡ false
+        → (false ≡ false) × (deep ≡ false) × ((not deep && large) ≡ false)
+    by_tests true large h = absurd (false≢true (sym h))
+    by_tests false true h = absurd (false≢true (sym h))
+    by_tests false false h = (refl, refl, refl)
+
+-- where no label has a fault, none passes a test that only faulty ones do
+pub labels_fail : (test : Option Meaning → Bool) → ((meaning : Option Meaning) → is_faulty meaning ≡ false → test meaning ≡ false)
+    → (definitions : List Defined) (states : List RawState) → labels_pass is_faulty definitions states ≡ false → labels_pass test definitions states ≡ false
+labels_fail test each definitions states none =
+    two-any (is_labelled (λ label. is_faulty (expansion definitions label))) (is_labelled (λ label. test (expansion definitions label)))
+    (λ state sound. three-labelled (λ label. is_faulty (expansion definitions label)) (λ label. is_faulty (expansion definitions label))
+    (λ label. is_faulty (expansion definitions label)) (λ label. test (expansion definitions label))
+    (λ label one two three. each (expansion definitions label) one) state sound sound sound)
+    states none
+
+-- where a label has a fault, and none is undefined or too deep, one is too large
+pub label_large : (definitions : List Defined) (states : List RawState) → labels_pass is_faulty definitions states ≡ true
+    → labels_pass is_none definitions states ≡ false → labels_pass is_deep definitions states ≡ false → labels_pass is_large definitions states ≡ true
+label_large definitions states some one two = by_test (labels_pass is_large definitions states) (labels_sound definitions states one two)
+  where
+    by_test : (b : Bool) → (b ≡ false → labels_pass is_faulty definitions states ≡ false) → b ≡ true
+    by_test true sound = refl
+    by_test false sound = absurd (false≢true (sym (sound refl) ∙ some))
 
 -- the labels of what has no fault
 pub body_sound : (raw : RawAutomaton) → fault_of raw ≡ None → labels_pass is_faulty (definitions_of raw) raw.states ≡ false
@@ -149,43 +179,3 @@ acceptance_sound raw none =
     sound_formula (first_said acceptance_in raw.items)
     (first_sound acceptance_in (λ accepted. is_none (acc_meant accepted.formula)) raw.items there (no_fault_passes (applies raw) AcceptanceAtom none))
     (first_sound acceptance_in (λ accepted. nat_lt most_depth (raw_acc_depth accepted.formula)) raw.items there (or_first _ _ (no_fault_passes (applies raw) TooDeep none)))
-
--- ---- refusals where there is no fault
-
--- nothing is something
-nothing : (fault : AutomatonFault) → None ≡ Some fault → ⊥
-nothing fault e = cc
-
--- a formula without a fault is refused for memory alone
-pub unmeant-sound : (formula : RawAccTree) (refusal : Refusal) → fault_of_acc formula ≡ None → IsUnmeant formula refusal → IsMemory refusal
-unmeant-sound formula (Text fault) sound refused = refused
-unmeant-sound formula (Game fault) sound refused = refused
-unmeant-sound formula (Automaton fault) sound refused = absurd (nothing fault (sym sound ∙ refused))
-unmeant-sound formula (Task fault) sound refused = refused
-unmeant-sound formula Memory sound refused = refused
-unmeant-sound formula Io sound refused = refused
-
--- no fault where there is not some
-no_fault : (o : Option AutomatonFault) → is_some o ≡ false → o ≡ None
-no_fault None h = refl
-no_fault (Some fault) h = absurd (false≢true (sym h))
-
--- a label without a fault is refused for memory alone
-pub unexpanded-sound : (definitions : List Defined) (raw : RawLabelTree) (refusal : Refusal) → is_faulty (expansion definitions raw) ≡ false
-    → IsUnexpanded definitions raw refusal → IsMemory refusal
-unexpanded-sound definitions raw (Text fault) sound refused = refused
-unexpanded-sound definitions raw (Game fault) sound refused = refused
-unexpanded-sound definitions raw (Automaton fault) sound refused = absurd (nothing fault (sym (no_fault (fault_of_meaning (expansion definitions raw)) sound) ∙ refused))
-unexpanded-sound definitions raw (Task fault) sound refused = refused
-unexpanded-sound definitions raw Memory sound refused = refused
-unexpanded-sound definitions raw Io sound refused = refused
-
--- a refusal of which less is said
-pub err_weaker : {T E : Type 0} (r : Result T E) (P Q : E → Type 0) → ((e : E) → P e → Q e) → IfErr r P → IfErr r Q
-err_weaker (Ok x) P Q weaker h = tt
-err_weaker (Err e) P Q weaker h = weaker e h
-
--- the tree nodes of what means something
-pub size_known : (o : Option Meaning) (size : ℕ) → option_map (λ (meaning : Meaning). label_size meaning.tree) o ≡ Some size → size_of_meaning o ≡ size
-size_known None size is = absurd (let no : ⊥ = cc in no)
-size_known (Some meaning) size is = cc

@@ -1,5 +1,5 @@
 -- The lines of the header in the canonical text of an automaton, in their order.
-use Rattle.std.specs.Prelude.{ℕ, Bool, if◌then◌else◌, Option, Some, None, List, [], ◌∷◌, ◌++◌, length, codes, decimal}
+use Rattle.std.specs.Prelude.{ℕ, Option, Some, None, List, [], ◌∷◌, ◌++◌, length, codes, decimal}
 use Rattle.std.specs.List.{flat_map}
 use Rattle.omega_acc.specs.Acceptance.{AccTree}
 use Rattle.omega_acc.specs.Writing.{acc_text, truth_text}

@@ -3,3 +3,6 @@ pub mod Parts
 pub mod HeaderText
 pub mod BodyText
 pub mod Canonical
+pub mod Written
+pub mod Writable
+pub mod Laws

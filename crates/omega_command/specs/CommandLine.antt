@@ -35,7 +35,7 @@ IsPlayerText text player = IsNumberText 1 text (player_number player)
 -- the name of a format that is offered
 abbrev pub IsFormatText : List ℕ → Format → Type 0
 IsFormatText text Pg = text ≡ codes "pg"
-IsFormatText text Hoa = ⊥
+IsFormatText text Hoa = text ≡ codes "hoa"
 
 -- what `clap` says of a flag
 abbrev pub IsTruthText : List ℕ → Bool → Type 0
@@ -69,6 +69,7 @@ text_of name.From options = option_map (λ text. text.now) options.from
 text_of name.Budget options = option_map (λ text. text.now) options.budget
 text_of name.Search options = option_map (λ text. text.now) options.search
 text_of name.Game options = option_map (λ text. text.now) options.game
+text_of name.Explain options = option_map (λ text. text.now) options.explain
 
 -- how `clap` knows an option
 abbrev pub id_of : OptionName → List ℕ
@@ -78,6 +79,7 @@ id_of name.From = codes "from"
 id_of name.Budget = codes "budget"
 id_of name.Search = codes "search"
 id_of name.Game = codes "game"
+id_of name.Explain = codes "explain"
 
 -- ---- what a subcommand asks for
 
@@ -95,11 +97,11 @@ Asks subcommand options (line.Run (command.Solve player from) budget) =
 Asks subcommand options (line.Run (command.Search from) budget) =
     (subcommand ≡ codes "solve") × GivesFlag (text_of name.Search options) true × (text_of name.Player options ≡ None)
     × Gives (IsNumberText most_number) (text_of name.From options) from × GivesBudget (text_of name.Budget options) budget
-Asks subcommand options (line.Run (command.Verify game) budget) = ⊥
+Asks subcommand options (line.Run (command.Verify game explain) budget) = ⊥
 Asks subcommand options (line.Run command.Empty budget) = ⊥
 Asks subcommand options (line.Run command.Game budget) = ⊥
-Asks subcommand options (line.Verify file) =
-    (subcommand ≡ codes "verify") × (text_of name.Game options ≡ Some (string_bytes file))
+Asks subcommand options (line.Verify file explain) =
+    (subcommand ≡ codes "verify") × (text_of name.Game options ≡ Some (string_bytes file)) × GivesFlag (text_of name.Explain options) explain
 Asks subcommand options (line.Help text) = ⊥
 Asks subcommand options (line.Fault text) = ⊥
 
@@ -113,6 +115,7 @@ HasOption subcommand name.From = subcommand ≡ codes "solve"
 HasOption subcommand name.Budget = subcommand ≡ codes "solve"
 HasOption subcommand name.Search = subcommand ≡ codes "solve"
 HasOption subcommand name.Game = subcommand ≡ codes "verify"
+HasOption subcommand name.Explain = subcommand ≡ codes "verify"
 
 -- the option has to be given
 abbrev pub IsRequired : OptionName → Type 0
@@ -122,6 +125,7 @@ IsRequired name.From = ⊥
 IsRequired name.Budget = ⊥
 IsRequired name.Search = ⊥
 IsRequired name.Game = Unit {0}
+IsRequired name.Explain = ⊥
 
 -- the text stands for no value of the option
 abbrev pub StandsForNothing : OptionName → List ℕ → Type 0
@@ -131,6 +135,7 @@ StandsForNothing name.From text = (number : ℕ) → IsNumberText most_number te
 StandsForNothing name.Budget text = (number : ℕ) → IsNumberText most_lifts text number → ⊥
 StandsForNothing name.Search text = (flag : Bool) → IsTruthText text flag → ⊥
 StandsForNothing name.Game text = ⊥
+StandsForNothing name.Explain text = (flag : Bool) → IsTruthText text flag → ⊥
 
 -- the mistake is that the option is missing, or that its text stands for nothing
 abbrev pub IsFaulty : OptionName → Options → Mistake → Type 0
@@ -192,4 +197,4 @@ abbrev pub IsPrinted : ErrorKind → Line → Type 0
 IsPrinted kind (line.Help text) = (kind ≡ DisplayHelp) ⊎ (kind ≡ DisplayVersion)
 IsPrinted kind (line.Fault text) = (kind ≢ DisplayHelp) × (kind ≢ DisplayVersion)
 IsPrinted kind (line.Run command budget) = ⊥
-IsPrinted kind (line.Verify file) = ⊥
+IsPrinted kind (line.Verify file explain) = ⊥

@@ -10,27 +10,27 @@ use Rattle.omega_command.specs.declared.line.Line.TheVariants as line
 -- the command is one that the program offers
 abbrev pub IsOffered : Command → Type 0
 IsOffered (Show Pg) = Unit {0}
-IsOffered (Show Hoa) = ⊥
+IsOffered (Show Hoa) = Unit {0}
 IsOffered (Check Pg) = Unit {0}
-IsOffered (Check Hoa) = ⊥
+IsOffered (Check Hoa) = Unit {0}
 IsOffered (Canon Pg) = Unit {0}
-IsOffered (Canon Hoa) = ⊥
+IsOffered (Canon Hoa) = Unit {0}
 IsOffered (Solve asked from) = Unit {0}
 IsOffered (Search from) = Unit {0}
-IsOffered (Verify game) = Unit {0}
+IsOffered (Verify game explain) = Unit {0}
 IsOffered Empty = ⊥
 IsOffered Game = ⊥
 
 -- what the line asks for can be done: its command is offered, with a budget that a solver takes
 abbrev pub IsRunnable : Line → Type 0
 IsRunnable (line.Run command budget) = IsOffered command × (budget ≤ most_lifts)
-IsRunnable (line.Verify file) = Unit {0}
+IsRunnable (line.Verify file explain) = Unit {0}
 IsRunnable (line.Help text) = Unit {0}
 IsRunnable (line.Fault text) = Unit {0}
 
 -- the line says what is wrong with the command line
 abbrev pub IsFault : Line → Type 0
 IsFault (line.Run command budget) = ⊥
-IsFault (line.Verify file) = ⊥
+IsFault (line.Verify file explain) = ⊥
 IsFault (line.Help text) = ⊥
 IsFault (line.Fault text) = Unit {0}

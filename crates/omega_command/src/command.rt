@@ -24,6 +24,8 @@ pub enum Command {
     /// Checks the solution of a game whose text is kept here.
     Verify {
         game: Seq<u8>,
+        /// Whether it is explained where the solution is not right.
+        explain: bool,
     },
     /// Says whether an automaton accepts nothing, and shows a lasso where it does not.
     Empty,

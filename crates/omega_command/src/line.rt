@@ -5,8 +5,8 @@ use crate::command::Command;
 pub enum Line {
     /// A command, and the most lifts of each of its runs.
     Run(Command, u64),
-    /// To verify a solution of the game in a file.
-    Verify { file: String },
+    /// To verify a solution of the game in a file, and to explain a `no` where that is asked for.
+    Verify { file: String, explain: bool },
     /// A text of help, which goes to standard output.
     Help(String),
     /// What is wrong with the command line, which goes to standard error.

@@ -1,9 +1,9 @@
-use omega_command::{Command, Line, Refusal, read_words};
+use omega_command::{Command, Format, Line, Refusal, read_words};
 use std::alloc::Global;
 use std::test::Fail;
 
 /// Command lines that are at fault, and what the text says of each.
-static FAULTS: [(&str, &str); 39] = [
+static FAULTS: [(&str, &str); 40] = [
     ("", "requires a subcommand"),
     ("frobnicate", "unrecognized subcommand 'frobnicate'"),
     ("help", "unrecognized subcommand 'help'"),
@@ -23,8 +23,12 @@ static FAULTS: [(&str, &str); 39] = [
         "invalid value 'xyz' for '--format <FORMAT>'",
     ),
     (
-        "check --format hoa",
-        "invalid value 'hoa' for '--format <FORMAT>'",
+        "canon --format pg --format hoa",
+        "cannot be used multiple times",
+    ),
+    (
+        "check --format HOA",
+        "invalid value 'HOA' for '--format <FORMAT>'",
     ),
     (
         "show --format pg --format pg",
@@ -97,23 +101,37 @@ static FAULTS: [(&str, &str); 39] = [
 ];
 
 /// Requests for help, and what the text says.
-static HELP: [(&str, &str); 17] = [
+static HELP: [(&str, &str); 25] = [
     ("--help", "Usage: omega <COMMAND>"),
     ("-h", "3  the budget is used up"),
     ("--help", "0 1 0 1; 1 2 1 0"),
+    ("--help", "State: 0 [0] 0 {0} [!0] 0 --END--"),
     ("show --help", "Usage: omega show --format <FORMAT>"),
     ("show --help", "game nodes 2 edges 2 greatest 1"),
+    ("show --help", "hoa, omega-automata in the Hanoi format"),
+    (
+        "show --help",
+        "1 automaton states 1 edges 1 propositions 0 sets 1 acceptance Inf(0)",
+    ),
     ("check --help", "Usage: omega check --format <FORMAT>"),
     ("check -h", "omega: 3 Syntax at 17"),
+    ("check -h", "omega: 3 Syntax at 42"),
+    ("check -h", "14 TooManyEdges"),
+    ("check -h", "33 Expansion"),
     ("canon --help", "Usage: omega canon --format <FORMAT>"),
     ("canon --help", "4 2 0 9,4 \"a\";"),
+    ("canon --help", "[(0|t)&0] 0"),
+    ("canon -h", "--ABORT-- is left out"),
     ("solve --help", "Usage: omega solve [OPTIONS]"),
     ("solve --help", "paritysol 2;"),
     ("solve --help", "--budget <N>"),
     ("solve --help", "--search"),
     ("solve --player 0 -h", "player 0 lifts 1"),
     ("-h", "6  the answer of `omega verify` is no"),
-    ("verify --help", "Usage: omega verify --game <FILE>"),
+    (
+        "verify --help",
+        "Usage: omega verify [OPTIONS] --game <FILE>",
+    ),
     ("verify -h", "53 BadSolution"),
 ];
 
@@ -171,10 +189,35 @@ fn names_the_file_of_the_game(rt: HostRuntime) -> Result<(), Fail> {
         words.push(String::from_str(rt.alloc(), word)?)?;
     }
     let is_named = match read_words(rt.alloc(), words.as_slice())? {
-        Line::Verify { file } => file.as_str() == "my game.pg",
+        Line::Verify { file, explain } => file.as_str() == "my game.pg" && !explain,
         _ => false,
     };
     assert!(rt; is_named);
+    Ok(())
+}
+
+/// Whether a command line asks for a `no` to be explained, none where it does not ask to verify.
+fn explains(alloc: Global, line: &str) -> Result<Option<bool>, Fail> {
+    let words = words_of(alloc, line)?;
+    match read_words(alloc, words.as_slice())? {
+        Line::Verify { explain, .. } => Ok(Some(explain)),
+        _ => Ok(None),
+    }
+}
+
+#[test]
+fn asks_for_an_explanation(rt: HostRuntime) -> Result<(), Fail> {
+    assert_eq!(rt;
+        explains(rt.alloc(), "verify --game g --explain")?,
+        Some(true)
+    );
+    assert_eq!(rt;
+        explains(rt.alloc(), "verify --explain --game g")?,
+        Some(true)
+    );
+    assert_eq!(rt; explains(rt.alloc(), "verify --game g")?, Some(false));
+    assert_eq!(rt; explains(rt.alloc(), "verify --explain")?, None);
+    assert_eq!(rt; explains(rt.alloc(), "solve --explain")?, None);
     Ok(())
 }
 
@@ -196,6 +239,32 @@ fn asks_for_the_search(rt: HostRuntime) -> Result<(), Fail> {
         ("solve --from 3 --search --budget 5", Some(Some(3))),
     ] {
         assert_eq!(rt; search_of(rt.alloc(), words)?, asked, "{words}");
+    }
+    Ok(())
+}
+
+/// Whether a command line asks what a text of this format stands for, to be shown, judged or written.
+fn is_for_format(alloc: Global, line: &str, wanted: Format) -> Result<bool, Fail> {
+    let words = words_of(alloc, line)?;
+    match read_words(alloc, words.as_slice())? {
+        Line::Run(Command::Show(format), _) => Ok(format == wanted),
+        Line::Run(Command::Check(format), _) => Ok(format == wanted),
+        Line::Run(Command::Canon(format), _) => Ok(format == wanted),
+        _ => Ok(false),
+    }
+}
+
+#[test]
+fn asks_for_a_format(rt: HostRuntime) -> Result<(), Fail> {
+    for (words, format) in [
+        ("show --format pg", Format::Pg),
+        ("show --format hoa", Format::Hoa),
+        ("check --format pg", Format::Pg),
+        ("check --format=hoa", Format::Hoa),
+        ("canon --format pg", Format::Pg),
+        ("canon --format hoa", Format::Hoa),
+    ] {
+        assert!(rt; is_for_format(rt.alloc(), words, format)?, "{words}");
     }
     Ok(())
 }

@@ -3,3 +3,7 @@ pub mod Choosing
 pub mod Recurrence
 pub mod Standing
 pub mod Marking
+pub mod Meeting
+pub mod Ways
+pub mod Lassos
+pub mod Deciding

@@ -5,6 +5,7 @@ pub mod Limits
 pub mod Player
 pub mod Game
 pub mod Winning
+pub mod Counterexample
 pub mod Bound
 pub mod Part
 pub mod Building
@@ -12,3 +13,4 @@ pub mod Laws
 pub mod layout
 pub mod priorities
 pub mod checking
+pub mod refuting

@@ -2,3 +2,4 @@
 pub mod Reaching
 pub mod Recurring
 pub mod Ordering
+pub mod Decision

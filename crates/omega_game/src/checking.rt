@@ -3,7 +3,8 @@ ghost use Rattle.std.specs.Prelude.{◌↔◌, ℕ, ◌<◌, length, All, IfOk, 
 ghost use Rattle.omega_game.specs.Winning.{IsStrategy, Wins};
 
 mod components;
-mod deciding;
+pub(crate) mod deciding;
+pub(crate) mod decision;
 mod levels;
 mod nest;
 mod nesting;
@@ -18,6 +19,7 @@ use crate::reaching::reached_from;
 use crate::strategy::Strategy;
 use deciding::{decide, decide_fast};
 use omega_text::Refusal;
+use ordering::shows_none;
 use std::alloc::{AllocError, Global};
 
 /// Whether a strategy of the player wins from each of the places, which may come in any order and repeatedly: yes where
@@ -63,6 +65,34 @@ pub fn check_strategy_fast(
     Ok(found)
 }
 
+/// Whether an order of places shows that a strategy of the player wins from each of the places: each edge that it leaves
+/// possible where it reaches leads forward in the order, or back to a place whose priority does not lose and is the
+/// greatest on the way. No says nothing. For n nodes and m edges the cost is n + m. `Memory` where a request for memory
+/// is refused.
+pub fn check_strategy_by_order(
+    alloc: Global,
+    game: &Game,
+    player: Player,
+    places: &[u32],
+    strategy: &Strategy,
+    order: &[u32],
+) -> Result<bool, Refusal>
+    requires places { All (λ place. place < length game.now) places.now }
+    requires fits { IsStrategy game.now player strategy.now.choice }
+    ensures wins { IfOk result (λ answer. IsTrue answer → All (λ place. Wins game.now player strategy.now.choice place) places.now) }
+    ensures memory { IsOkUnless result Refusal.Memory }
+{
+    let shown = shows_wins(
+        alloc,
+        game,
+        player,
+        places,
+        strategy.choice.as_slice(),
+        order,
+    )?;
+    Ok(shown)
+}
+
 /// Whether choices that are a strategy of the player win from each of the places.
 fn wins_from(
     alloc: Global,
@@ -77,8 +107,8 @@ fn wins_from(
 {
     game.keeps_limits();
     let marks = reached_from(alloc, game, choices, u32::MAX, places)?;
-    let answer = decide(alloc, game, player, choices, &marks)?;
-    Ok(answer)
+    let decision = decide(alloc, game, player, choices, &marks)?;
+    Ok(decision.is_won())
 }
 
 /// The same where what the fast search suggests is confirmed, else none.
@@ -95,6 +125,27 @@ fn wins_fast(
 {
     game.keeps_limits();
     let marks = reached_from(alloc, game, choices, u32::MAX, places)?;
-    let found = decide_fast(alloc, game, player, choices, &marks)?;
-    Ok(found)
+    match decide_fast(alloc, game, player, choices, &marks)? {
+        Some(decision) => Ok(Some(decision.is_won())),
+        None => Ok(None),
+    }
+}
+
+/// Whether an order shows that choices that are a strategy of the player win from each of the places.
+fn shows_wins(
+    alloc: Global,
+    game: &Game,
+    player: Player,
+    places: &[u32],
+    choices: &[Option<u32>],
+    order: &[u32],
+) -> Result<bool, AllocError>
+    requires places { All (λ place. place < length game.now) places.now }
+    requires strategy { IsStrategy game.now player choices.now }
+    ensures wins { IfOk result (λ answer. IsTrue answer → All (λ place. Wins game.now player choices.now place) places.now) }
+{
+    game.keeps_limits();
+    let marks = reached_from(alloc, game, choices, u32::MAX, places)?;
+    let answer = shows_none(alloc, game, player, choices, &marks, order)?;
+    Ok(answer)
 }

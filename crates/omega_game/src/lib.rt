@@ -6,6 +6,7 @@ mod builder;
 mod checking;
 mod game;
 mod identifiers;
+mod lasso;
 mod laws;
 mod limits;
 mod lists;
@@ -16,14 +17,16 @@ mod player;
 mod predecessors;
 mod priority_counts;
 mod reaching;
+mod refuting;
 mod resolving;
 mod sorting;
 mod strategy;
 
 pub use bounds::bound;
 pub use builder::GameBuilder;
-pub use checking::{check_strategy, check_strategy_fast};
+pub use checking::{check_strategy, check_strategy_by_order, check_strategy_fast};
 pub use game::Game;
+pub use lasso::Lasso;
 pub use laws::{
     choices_are_entries, games_exist, games_have_no_fault, games_keep_limits, parts_are_games,
     parts_keep_nodes, specifications_have_one_game,
@@ -33,4 +36,5 @@ pub use node_spec::NodeSpec;
 pub use omega_text::{GameFault, MOST_NUMBER, Refusal, Seq, TaskFault};
 pub use player::Player;
 pub use priority_counts::PriorityCount;
+pub use refuting::counterexample;
 pub use strategy::Strategy;

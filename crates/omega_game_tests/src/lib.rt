@@ -8,11 +8,15 @@ mod building;
 #[cfg(test)]
 mod checking;
 #[cfg(test)]
+mod orders;
+#[cfg(test)]
 mod parts;
 #[cfg(test)]
 mod reading;
 #[cfg(test)]
 mod readings;
+#[cfg(test)]
+mod refuting;
 #[cfg(test)]
 mod samples;
 #[cfg(test)]

@@ -10,7 +10,6 @@ use Rattle.omega_text.specs.declared.hoa.kind.HoaKind.{HoaKind}
 use Rattle.omega_text.specs.hoa.Cut.{Follows, IsGap, IsLongest}
 use Rattle.omega_text.specs.hoa.Cut.IsGap.{nothing}
 use Rattle.omega_text.specs.hoa.Format.{hoa_format}
-use Rattle.omega_hoa.specs.Segment.{symbol_of}
 
 module _ {Kind : Type 0} (format : Format Kind) where
   -- a cut of tokens one behind the other is that of the first, and of the others from where it ends
@@ -66,11 +65,6 @@ moved base lexeme = record { kind = lexeme.kind; text = lexeme.text; value = lex
 -- the bytes of a text from a place up to another
 abbrev pub part : List ℕ → ℕ → ℕ → List ℕ
 part source base to = take (to - base) (drop base source)
-
--- a grammar sees the same tokens wherever they stand
-pub symbols-moved : (base : ℕ) (lexemes : List (Lexeme HoaKind)) → map symbol_of (map (moved base) lexemes) ≡ map symbol_of lexemes
-symbols-moved base [] = refl
-symbols-moved base (lexeme ∷ lexemes) = ap (λ symbols. symbol_of lexeme ∷ symbols) (symbols-moved base lexemes)
 
 -- the longest unit before some bytes is the longest before fewer of them
 longest_before_fewer : (text rest : List ℕ) (count : ℕ) → IsLongest text rest → IsLongest text (take count rest)

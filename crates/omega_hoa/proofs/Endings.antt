@@ -1,19 +1,21 @@
 -- Where the bytes of a stream end.
-use Rattle.std.proofs.Common.{◌≡◌, ℕ, Bool, true, false, Option, Some, None, List, [], ◌∷◌, ◌++◌, length, refl, sym, ap, subst, ◌∙◌, inl, inr, append_assoc, append-nil}
+use Rattle.std.proofs.Common.{◌≡◌, ℕ, Bool, true, false, Option, Some, None, List, ◌∷◌, ◌++◌, length, refl, sym, ap, subst, ◌∙◌, inl, inr, append_assoc, append-nil}
+use Rattle.std.specs.Prelude.{IfSome}
 use Rattle.omega_text.specs.Cut.{Cuts, IsCut}
 use Rattle.omega_text.specs.Lexeme.{Lexeme}
 use Rattle.omega_text.specs.hoa.Format.{hoa_format}
+use Rattle.omega_text.specs.hoa.Laws.{is_closed}
 use Rattle.omega_text.specs.hoa.Pieces.{FaultsBehind, IsFinished, lexeme_in, lexemes_in, settled_lexemes}
 use Rattle.omega_text.specs.declared.hoa.kind.HoaKind.{HoaKind}
+use Rattle.omega_text.specs.declared.hoa.kind.HoaKind.TheVariants.{Abort, End, HeaderName}
 use Rattle.omega_text.specs.declared.hoa.placed.PlacedToken.{PlacedToken}
 use Rattle.omega_text.specs.declared.hoa.placed.Settled.{Settled}
-use Rattle.omega_text.specs.declared.refusal.Refusal.{Refusal}
 use Rattle.omega_text.specs.declared.refusal.Refusal.TheVariants.{Text}
 use Rattle.omega_text.specs.declared.refusal.text.TextFault.{TextFault}
 use Rattle.omega_text.specs.declared.refusal.text.TextFault.TheVariants.{Syntax}
 use Rattle.omega_hoa.specs.Feeding.{IsDivided}
-use Rattle.omega_hoa.specs.Stream.{IsOpen, IsStream, IsStreamFault}
-use Rattle.omega_hoa.specs.dividing.Ending.{EndsNone, IsAtEnd, IsRefusedAtEnd, IsStray, IsWholeStream}
+use Rattle.omega_hoa.specs.Stream.{IsOpen, IsStream, IsStreamFault, is_end}
+use Rattle.omega_hoa.specs.dividing.Ending.{IsAtEnd, IsLast, IsWholeStream}
 use Rattle.omega_hoa.specs.declared.item.Item.{Item}
 use Rattle.omega_hoa.proofs.Cutting.{cuts_split}
 use Rattle.omega_hoa.proofs.Dividing.{open_push}
@@ -37,56 +39,61 @@ faults_behind seen lexemes items begins inside fault divided faults = record {
 }
 
 -- a token behind whole segments that is not `HOA:`
-stray_behind : (seen : List ℕ) (lexemes others : List (Lexeme HoaKind)) (items : List Item) (begins to : ℕ) (token : PlacedToken) (refusal : Refusal) → IsDivided seen lexemes items begins false
-    → Cuts hoa_format seen 0 (lexemes ++ lexeme_in seen token ∷ others) to → IsStray token refusal → IsRefusedAtEnd seen items refusal
-stray_behind seen lexemes others items begins to token refusal divided cuts stray =
+stray_behind : (seen : List ℕ) (lexemes others : List (Lexeme HoaKind)) (items : List Item) (begins to : ℕ) (token : PlacedToken) → IsDivided seen lexemes items begins false
+    → Cuts hoa_format seen 0 (lexemes ++ lexeme_in seen token ∷ others) to → (token.kind ≡ HeaderName → ⊥) → IsStreamFault seen items (Text (Syntax token.span.start))
+stray_behind seen lexemes others items begins to token divided cuts other =
     let parts = cuts_split hoa_format seen 0 to lexemes (lexeme_in seen token ∷ others) cuts in
-    elim stray [
-      | inl memory ↦ inl memory
-      | inr other ↦ inr (subst (IsStreamFault seen items) (sym other.1) (record {
-        front = divided.front;
-        rest = divided.rest;
-        from = parts.0;
-        cuts = subst (λ ls. Cuts hoa_format seen 0 ls parts.0) divided.split parts.1;
-        before = divided.before;
-        refused = inl (divided.behind, (lexeme_in seen token, parts.2.0, λ opens. other.0 opens.kind, refl));
-      }))
-    ]
+    record {
+      front = divided.front;
+      rest = divided.rest;
+      from = parts.0;
+      cuts = subst (λ ls. Cuts hoa_format seen 0 ls parts.0) divided.split parts.1;
+      before = divided.before;
+      refused = inl (divided.behind, (lexeme_in seen token, parts.2.0, λ opens. other opens.kind, refl));
+    }
 
-module _ (settled : Settled) (seen : List ℕ) (lexemes : List (Lexeme HoaKind)) (items : List Item) (begins : ℕ) where
-  -- the first token at the end is stray
-  pub first_stray : (token : PlacedToken) (refusal : Refusal) → settled.first ≡ Some token → IsStray token refusal → IsAtEnd settled false seen lexemes items begins → IsRefusedAtEnd seen items refusal
-  first_stray token refusal is stray at_end =
-      let cut = finished_cuts settled.fault seen (lexemes ++ settled_lexemes seen settled) at_end.finished in
-      stray_behind seen lexemes (lexemes_in seen settled.second) items begins cut.0 token refusal at_end.divided
-      (subst (λ first. Cuts hoa_format seen 0 (lexemes ++ (lexemes_in seen first ++ lexemes_in seen settled.second)) cut.0) is cut.1) stray
+-- a token, if there is one, ends no segment
+abbrev EndsNone : Option PlacedToken → Type 0
+EndsNone None = Unit {0}
+EndsNone (Some token) = is_end token.kind ≡ false
 
-  -- or the second is
-  pub second_stray : (token : PlacedToken) (refusal : Refusal) → settled.first ≡ None → settled.second ≡ Some token → IsStray token refusal → IsAtEnd settled false seen lexemes items begins
-      → IsRefusedAtEnd seen items refusal
-  second_stray token refusal none is stray at_end =
+-- a kind whose tokens do not show their own ends is no mark
+unclosed_is_no_end : (kind : HoaKind) → is_closed kind ≡ false → is_end kind ≡ false
+unclosed_is_no_end End unclosed = cc
+unclosed_is_no_end Abort unclosed = cc
+unclosed_is_no_end kind unclosed = refl
+
+unclosed_ends_none : (token : Option PlacedToken) → IfSome token (λ token. is_closed token.kind ≡ false) → EndsNone token
+unclosed_ends_none None unclosed = tt
+unclosed_ends_none (Some token) unclosed = unclosed_is_no_end token.kind unclosed
+
+module _ (settled : Settled) (last : IsLast settled) (seen : List ℕ) (lexemes : List (Lexeme HoaKind)) (items : List Item) (begins : ℕ) where
+  -- a token at the end is stray
+  pub stray_end : (token : PlacedToken) → settled.first ≡ Some token → IsAtEnd settled false seen lexemes items begins → IsStreamFault seen items (Text (Syntax token.span.start))
+  stray_end token is at_end =
       let cut = finished_cuts settled.fault seen (lexemes ++ settled_lexemes seen settled) at_end.finished in
-      stray_behind seen lexemes [] items begins cut.0 token refusal at_end.divided
-      (subst (λ second. Cuts hoa_format seen 0 (lexemes ++ lexemes_in seen second) cut.0) is
-      (subst (λ first. Cuts hoa_format seen 0 (lexemes ++ (lexemes_in seen first ++ lexemes_in seen settled.second)) cut.0) none cut.1)) stray
+      let unclosed : is_closed token.kind ≡ false = subst (λ first. IfSome first (λ token. is_closed token.kind ≡ false)) is last.unclosed in
+      stray_behind seen lexemes (lexemes_in seen settled.second) items begins cut.0 token at_end.divided
+      (subst (λ first. Cuts hoa_format seen 0 (lexemes ++ (lexemes_in seen first ++ lexemes_in seen settled.second)) cut.0) is cut.1)
+      (λ header. let closed : true ≡ false = sym (ap is_closed header) ∙ unclosed in cc)
 
   -- no token is settled at the end
-  none_settled : settled.first ≡ None → settled.second ≡ None → lexemes ++ settled_lexemes seen settled ≡ lexemes
-  none_settled first second = ap (λ token. lexemes ++ (lexemes_in seen token ++ lexemes_in seen settled.second)) first ∙ ap (λ token. lexemes ++ lexemes_in seen token) second ∙ append-nil lexemes
+  none_settled : settled.first ≡ None → lexemes ++ settled_lexemes seen settled ≡ lexemes
+  none_settled first = ap (λ token. lexemes ++ (lexemes_in seen token ++ lexemes_in seen settled.second)) first ∙ ap (λ token. lexemes ++ lexemes_in seen token) last.second ∙ append-nil lexemes
 
   -- a fault is
-  pub fault_outside_end : (fault : TextFault) → settled.first ≡ None → settled.second ≡ None → settled.fault ≡ Some fault → IsAtEnd settled false seen lexemes items begins → IsRefusedAtEnd seen items (Text fault)
-  fault_outside_end fault first second is at_end = inr (faults_behind seen lexemes items begins false fault at_end.divided
-      (subst (λ ls. FaultsBehind seen ls fault) (none_settled first second)
-      (subst (λ some. IsFinished some seen (lexemes ++ settled_lexemes seen settled)) is at_end.finished)))
+  pub fault_outside_end : (fault : TextFault) → settled.first ≡ None → settled.fault ≡ Some fault → IsAtEnd settled false seen lexemes items begins → IsStreamFault seen items (Text fault)
+  fault_outside_end fault first is at_end = faults_behind seen lexemes items begins false fault at_end.divided
+      (subst (λ ls. FaultsBehind seen ls fault) (none_settled first)
+      (subst (λ some. IsFinished some seen (lexemes ++ settled_lexemes seen settled)) is at_end.finished))
 
   -- nothing is
-  pub whole_end : settled.first ≡ None → settled.second ≡ None → settled.fault ≡ None → IsAtEnd settled false seen lexemes items begins → IsWholeStream seen items
-  whole_end first second is at_end =
+  pub whole_end : settled.first ≡ None → settled.fault ≡ None → IsAtEnd settled false seen lexemes items begins → IsWholeStream seen items
+  whole_end first is at_end =
       let divided = at_end.divided in
       record {
         lexemes = lexemes;
-        cut = subst (λ ls. IsCut hoa_format seen ls) (none_settled first second)
+        cut = subst (λ ls. IsCut hoa_format seen ls) (none_settled first)
             (subst (λ some. IsFinished some seen (lexemes ++ settled_lexemes seen settled)) is at_end.finished);
         stream = subst (λ ls. IsStream ls items) (sym (divided.split ∙ ap (λ rest. divided.front ++ rest) divided.behind ∙ append-nil divided.front)) divided.before;
       }
@@ -97,8 +104,8 @@ module _ (settled : Settled) (seen : List ℕ) (lexemes : List (Lexeme HoaKind))
   open_more rest (Some token) begun none = open_push rest (lexeme_in seen token) begun none
 
   -- all tokens are divided
-  divided_end : EndsNone settled.first → EndsNone settled.second → IsDivided seen lexemes items begins true → IsDivided seen (lexemes ++ settled_lexemes seen settled) items begins true
-  divided_end first second divided =
+  divided_end : IsDivided seen lexemes items begins true → IsDivided seen (lexemes ++ settled_lexemes seen settled) items begins true
+  divided_end divided =
       let one = lexemes_in seen settled.first in
       let other = lexemes_in seen settled.second in
       record {
@@ -107,27 +114,26 @@ module _ (settled : Settled) (seen : List ℕ) (lexemes : List (Lexeme HoaKind))
         split = ap (λ ls. ls ++ (one ++ other)) divided.split ∙ append_assoc divided.front divided.rest (one ++ other)
             ∙ ap (λ ls. divided.front ++ ls) (sym (append_assoc divided.rest one other));
         before = divided.before;
-        behind = open_more (divided.rest ++ one) settled.second (open_more divided.rest settled.first divided.behind first) second;
+        behind = open_more (divided.rest ++ one) settled.second (open_more divided.rest settled.first divided.behind (unclosed_ends_none settled.first last.unclosed)) (subst EndsNone (sym last.second) tt);
         cuts = divided.cuts;
       }
 
   -- a fault inside a segment
-  pub fault_inside_end : (fault : TextFault) → EndsNone settled.first → EndsNone settled.second → settled.fault ≡ Some fault → IsAtEnd settled true seen lexemes items begins → IsRefusedAtEnd seen items (Text fault)
-  fault_inside_end fault first second is at_end = inr (faults_behind seen (lexemes ++ settled_lexemes seen settled) items begins true fault (divided_end first second at_end.divided)
-      (subst (λ some. IsFinished some seen (lexemes ++ settled_lexemes seen settled)) is at_end.finished))
+  pub fault_inside_end : (fault : TextFault) → settled.fault ≡ Some fault → IsAtEnd settled true seen lexemes items begins → IsStreamFault seen items (Text fault)
+  fault_inside_end fault is at_end = faults_behind seen (lexemes ++ settled_lexemes seen settled) items begins true fault (divided_end at_end.divided)
+      (subst (λ some. IsFinished some seen (lexemes ++ settled_lexemes seen settled)) is at_end.finished)
 
   -- a segment without end
-  pub cut_short : (count : ℕ) → count ≡ length seen → EndsNone settled.first → EndsNone settled.second → settled.fault ≡ None → IsAtEnd settled true seen lexemes items begins
-      → IsRefusedAtEnd seen items (Text (Syntax count))
-  cut_short count all first second is at_end =
+  pub cut_short : (count : ℕ) → count ≡ length seen → settled.fault ≡ None → IsAtEnd settled true seen lexemes items begins → IsStreamFault seen items (Text (Syntax count))
+  cut_short count all is at_end =
       let ls = lexemes ++ settled_lexemes seen settled in
       let cut : IsCut hoa_format seen ls = subst (λ some. IsFinished some seen ls) is at_end.finished in
-      let divided = divided_end first second at_end.divided in
-      inr (record {
+      let divided = divided_end at_end.divided in
+      record {
         front = divided.front;
         rest = divided.rest;
         from = cut.end;
         cuts = subst (λ tokens. Cuts hoa_format seen 0 tokens cut.end) divided.split cut.cuts;
         before = divided.before;
         refused = inr (inl (divided.behind, (cut.rest, all)));
-      })
+      }

@@ -1,7 +1,8 @@
 -- A piece of a stream, behind the bytes before.
-use Rattle.std.proofs.Common.{◌≡◌, ℕ, ◌+◌, ◌-◌, ◌≤◌, ◌<◌, Bool, Option, None, List, [], ◌++◌, length, take, drop, refl, sym, ap, subst, ◌∙◌, inl, inr, arith, append_assoc, append-nil, length-append, length-drop}
+use Rattle.std.proofs.Common.{◌≡◌, ℕ, ◌+◌, ◌-◌, ◌≤◌, ◌<◌, Bool, Option, None, Some, List, [], ◌++◌, length, take, drop, refl, sym, ap, subst, ◌∙◌, inl, inr, arith, append_assoc, append-nil, length-append, length-drop}
 use Rattle.std.proofs.lemmas.List.{drop-drop, drop_at, length-take-le, take-append-drop, take_all, take_at}
-use Rattle.std.specs.Prelude.{MatchOption}
+use Rattle.std.specs.Prelude.{Result, Ok, Err, IfErr, MatchOption, OnOk}
+use Rattle.std.specs.Result.{result_err}
 use Rattle.omega_text.specs.Format.{GoesOneWay}
 use Rattle.omega_text.specs.Lexeme.{Lexeme}
 use Rattle.omega_text.specs.Limits.{most_text}
@@ -13,6 +14,8 @@ use Rattle.omega_text.specs.declared.refusal.Refusal.TheVariants.{Memory, Text}
 use Rattle.omega_text.specs.declared.refusal.text.TextFault.TheVariants.{TooLong}
 use Rattle.omega_hoa.specs.Feeding.{Appends, IsDivided, IsFed, IsRefusedSoFar, IsTaken}
 use Rattle.omega_hoa.specs.Kept.{Kept}
+use Rattle.omega_hoa.specs.Laws.{IsAnsweredAtEnd}
+use Rattle.omega_hoa.specs.Stream.{IsStreamFault, IsStreamText}
 use Rattle.omega_hoa.specs.dividing.Next.{IsProgress, IsRefusedThen}
 use Rattle.omega_hoa.specs.declared.item.Item.{Item}
 use Rattle.omega_hoa.specs.declared.progress.Progress.{Progress}
@@ -25,6 +28,22 @@ taken_of seen items kept is fed = subst (λ refused. MatchOption refused (IsTake
 -- and the other way round
 pub fed_of : (seen : List ℕ) (items : List Item) (kept : Kept) → kept.refused ≡ None → IsTaken seen items kept → IsFed seen items kept
 fed_of seen items kept is taken = subst (λ refused. MatchOption refused (IsTaken seen items kept) (IsRefusedSoFar seen items)) (sym is) taken
+
+-- what the end refuses where nothing was refused before
+pub answered_now : (refusal : Refusal) (seen : List ℕ) (items : List Item) (kept : Kept) → kept.refused ≡ None → IsStreamFault seen items refusal → IsAnsweredAtEnd seen items kept (Some refusal)
+answered_now refusal seen items kept none fault = subst (λ before. MatchOption before (IsStreamFault seen items refusal) (λ said. refusal ≡ said)) (sym none) fault
+
+-- what is answered at the end then
+pub answered_of : {A : Type 0} (result : Result A Refusal) (seen : List ℕ) (items : List Item) (kept : Kept) → kept.refused ≡ None → IsFed seen items kept
+    → OnOk result ((read : List ℕ) (given : List Item) → IsFed read given kept → IsStreamText read given)
+    → IfErr result (λ refusal. (read : List ℕ) (given : List Item) → IsFed read given kept → IsStreamFault read given refusal)
+    → IsAnsweredAtEnd seen items kept (result_err result)
+answered_of (Ok value) seen items kept none fed ok err = ok seen items fed
+answered_of (Err refusal) seen items kept none fed ok err = answered_now refusal seen items kept none (err seen items fed)
+
+-- and where something was
+pub answered_before : (refusal : Refusal) (seen : List ℕ) (items : List Item) (kept : Kept) → kept.refused ≡ Some refusal → IsAnsweredAtEnd seen items kept (Some refusal)
+answered_before refusal seen items kept is = subst (λ before. MatchOption before (IsStreamFault seen items refusal) (λ said. refusal ≡ said)) (sym is) refl
 
 -- a piece passes the limit
 pub too_long : (seen : List ℕ) (items : List Item) (kept : Kept) (piece : List ℕ) → IsTaken seen items kept → most_text < kept.begins + length kept.bytes + length piece

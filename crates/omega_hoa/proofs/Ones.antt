@@ -7,7 +7,6 @@ use Rattle.omega_text.specs.Cut.{Cuts, IsCut, IsFault}
 use Rattle.omega_text.specs.Format.{GoesOneWay}
 use Rattle.omega_text.specs.Lexeme.{Lexeme}
 use Rattle.omega_text.specs.Limits.{most_text}
-use Rattle.omega_text.specs.Refusal.{number_of}
 use Rattle.omega_text.specs.hoa.Format.{hoa_format}
 use Rattle.omega_text.specs.declared.hoa.kind.HoaKind.{HoaKind}
 use Rattle.omega_text.specs.declared.hoa.kind.HoaKind.TheVariants.{End}
@@ -16,12 +15,15 @@ use Rattle.omega_text.specs.declared.refusal.Refusal.TheVariants.{Automaton as A
 use Rattle.omega_text.specs.declared.refusal.text.TextFault.{TextFault}
 use Rattle.omega_text.specs.declared.refusal.text.TextFault.TheVariants.{Syntax}
 use Rattle.omega_hoa.specs.Alone.{AreRefused, HasNoSegmentAt, IsAutomatonRefusal, IsAutomatonText, IsInGrammar}
-use Rattle.omega_hoa.specs.Segment.{IsAutomatonOf, IsSegmentFault, symbol_of}
+use Rattle.omega_raw.specs.declared.raw_automaton.RawAutomaton.{RawAutomaton}
+use Rattle.omega_acc.specs.Symbols.{IsUnread}
+use Rattle.omega_automaton.specs.Automaton.{Description}
+use Rattle.omega_hoa.specs.Segment.{IsAutomatonOf, IsNoRaw, IsRawOf, IsSegmentFault}
 use Rattle.omega_hoa.specs.Stream.{IsOpen, IsSegment}
 use Rattle.omega_hoa.specs.outlines.Outline.{BeginsAborted, BeginsStray, HasFollowed, HasOutline, HasWhole, IsWhole}
-use Rattle.omega_hoa.specs.declared.automaton.Automaton.{Automaton}
 use Rattle.omega_hoa.specs.declared.outline.Outline.TheVariants.{Empty, Stray, Open, Aborted}
-use Rattle.omega_hoa.proofs.Cutting.{cuts_forward, cuts_last, cuts_split, moved, part_cut, symbols-moved}
+use Rattle.omega_hoa.proofs.Cutting.{cuts_forward, cuts_last, cuts_split, moved, part_cut}
+use Rattle.omega_hoa.proofs.Written.{automaton_same, fault_same, none_same, raw_same, same_moved}
 
 -- a fact of the value that a call answers, from another
 pub ok_says : {A E : Type 0} (result : Result A E) (Says Wanted : A → Type 0) → ((value : A) → Says value → Wanted value) → IfOk result Says → IfOk result Wanted
@@ -52,7 +54,7 @@ of_memory Says (Task fault) says = says
 of_memory Says Io says = says
 
 -- such tokens are a segment
-segment_of : (lexemes : List (Lexeme HoaKind)) (end : ℕ) → IsWhole lexemes end → IsSegment End lexemes
+pub segment_of : (lexemes : List (Lexeme HoaKind)) (end : ℕ) → IsWhole lexemes end → IsSegment End lexemes
 segment_of lexemes end whole = record { inside = whole.inside; last = whole.last; split = whole.split; before = whole.begun; ends = whole.ends }
 
 -- they end where they are said to
@@ -93,37 +95,40 @@ pub fault_refused : (source : List ℕ) (fault : TextFault) → length source �
 fault_refused source fault short faults = inr (short, inl (fault, refl, faults))
 
 -- the value of a whole text
-pub whole_value : (source : List ℕ) (end : ℕ) (automaton : Automaton) → (has : HasWhole source end) → length source ≤ most_text → IsAutomatonOf (map symbol_of (map (moved 0) has.lexemes)) automaton
+pub whole_value : (source : List ℕ) (end : ℕ) (automaton : Description) → (has : HasWhole source end) → length source ≤ most_text → IsAutomatonOf (map (moved 0) has.lexemes) automaton
     → IsAutomatonText source automaton
 whole_value source end automaton has short value = record {
   short = short;
   lexemes = has.lexemes;
   cut = has.cut;
   segment = segment_of has.lexemes end has.is;
-  value = subst (λ symbols. IsAutomatonOf symbols automaton) (symbols-moved 0 has.lexemes) value;
+  value = automaton_same (map (moved 0) has.lexemes) has.lexemes automaton (same_moved 0 has.lexemes) value;
 }
 
 -- its refusal
-pub whole_refused : (source : List ℕ) (end : ℕ) (refusal : Refusal) → (has : HasWhole source end) → length source ≤ most_text → IsSegmentFault (map symbol_of (map (moved 0) has.lexemes)) refusal
+pub whole_refused : (source : List ℕ) (end : ℕ) (refusal : Refusal) → (has : HasWhole source end) → length source ≤ most_text → IsSegmentFault (map (moved 0) has.lexemes) refusal
     → IsAutomatonRefusal source refusal
 whole_refused source end refusal has short fault = tokens_refused source has.lexemes refusal short has.cut (inr (record {
   segment = has.lexemes;
   rest = [];
   split = sym (append-nil has.lexemes);
   whole = segment_of has.lexemes end has.is;
-  refused = inl (subst (λ symbols. IsSegmentFault symbols refusal) (symbols-moved 0 has.lexemes) fault, inr refl);
+  refused = inl (fault_same (map (moved 0) has.lexemes) has.lexemes refusal (same_moved 0 has.lexemes) fault, inr refl);
 }))
 
 -- the refusal of a segment that others follow, by its syntax
-pub own_refused : (source : List ℕ) (end at : ℕ) (refusal : Refusal) → (has : HasFollowed source end at) → length source ≤ most_text → number_of refusal ≡ 3
-    → IsSegmentFault (map symbol_of (map (moved 0) has.is.front)) refusal → IsAutomatonRefusal source refusal
-own_refused source end at refusal has short three fault = tokens_refused source has.lexemes refusal short has.cut (inr (record {
+pub own_refused : (source : List ℕ) (end at : ℕ) (refusal : Refusal) → (has : HasFollowed source end at) → length source ≤ most_text
+    → IsUnread (IsNoRaw (map (moved 0) has.is.front)) refusal → or_memory (IsAutomatonRefusal source) refusal
+own_refused source end at Memory has short unread = tt
+own_refused source end at (Text (Syntax place)) has short unread = tokens_refused source has.lexemes (Text (Syntax place)) short has.cut (inr (record {
   segment = has.is.front;
   rest = has.is.next ∷ has.is.rest;
   split = has.is.split;
   whole = segment_of has.is.front end has.is.whole;
-  refused = inl (subst (λ symbols. IsSegmentFault symbols refusal) (symbols-moved 0 has.is.front) fault, inl three);
+  refused = inl (none_same (map (moved 0) has.is.front) has.is.front (same_moved 0 has.is.front) unread, inl refl);
 }))
+own_refused source end at (Text fault) has short unread = absurd unread
+own_refused source end at refusal has short unread = absurd unread
 
 -- and by what follows it
 pub next_refused : (source : List ℕ) (end at : ℕ) → (has : HasFollowed source end at) → length source ≤ most_text → IsInGrammar has.is.front → IsAutomatonRefusal source (Text (Syntax at))
@@ -136,12 +141,8 @@ next_refused source end at has short in_grammar = tokens_refused source has.lexe
 }))
 
 -- a segment that was read is in the grammar
-pub read_in_grammar : (lexemes : List (Lexeme HoaKind)) (automaton : Automaton) → IsAutomatonOf (map symbol_of (map (moved 0) lexemes)) automaton → IsInGrammar lexemes
-read_in_grammar lexemes automaton value = inl (automaton, subst (λ symbols. IsAutomatonOf symbols automaton) (symbols-moved 0 lexemes) value)
-
--- and one whose fault is another than 3
-pub faulty_in_grammar : (lexemes : List (Lexeme HoaKind)) (refusal : Refusal) → (number_of refusal ≡ 3 → ⊥) → IsSegmentFault (map symbol_of (map (moved 0) lexemes)) refusal → IsInGrammar lexemes
-faulty_in_grammar lexemes refusal other fault = inr (refusal, subst (λ symbols. IsSegmentFault symbols refusal) (symbols-moved 0 lexemes) fault, other)
+pub read_in_grammar : (lexemes : List (Lexeme HoaKind)) (raw : RawAutomaton) → IsRawOf (map (moved 0) lexemes) raw → IsInGrammar lexemes
+read_in_grammar lexemes raw written = (raw, raw_same (map (moved 0) lexemes) lexemes raw (same_moved 0 lexemes) written)
 
 module _ (source : List ℕ) (short : length source ≤ most_text) where
   -- the refusal of tokens without a segment

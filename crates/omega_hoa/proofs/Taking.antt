@@ -15,15 +15,16 @@ use Rattle.omega_text.specs.declared.refusal.Refusal.{Refusal}
 use Rattle.omega_text.specs.declared.refusal.Refusal.TheVariants.{Automaton as AutomatonRefusal, Game, Io, Memory, Task, Text}
 use Rattle.omega_text.specs.declared.refusal.text.TextFault.TheVariants.{Syntax}
 use Rattle.omega_hoa.specs.Feeding.{IsDivided, IsRest}
-use Rattle.omega_hoa.specs.Segment.{IsAutomatonOf, IsSegmentFault, symbol_of}
-use Rattle.omega_hoa.specs.Stream.{IsItemOf, IsOpen, IsStreamFault, Opens, is_end}
+use Rattle.omega_automaton.specs.Automaton.{Description}
+use Rattle.omega_hoa.specs.Segment.{IsAutomatonOf, IsSegmentFault}
+use Rattle.omega_hoa.specs.Stream.{IsItemOf, IsOpen, IsSegment, IsStreamFault, Opens, is_end}
 use Rattle.omega_hoa.specs.dividing.Next.{IsNext, IsRefusedNow, IsWindow}
-use Rattle.omega_hoa.specs.declared.automaton.Automaton.{Automaton}
 use Rattle.omega_hoa.specs.declared.division.Division.{Division}
 use Rattle.omega_hoa.specs.declared.item.Item.{Item}
 use Rattle.omega_hoa.specs.declared.item.Item.TheVariants.{Automaton as AutomatonItem, Aborted}
-use Rattle.omega_hoa.proofs.Cutting.{cuts_end, cuts_forward, cuts_last, cuts_split, moved, part, part_cut, symbols-moved}
-use Rattle.omega_hoa.proofs.Dividing.{ended, open_push, opened, stream_push}
+use Rattle.omega_hoa.proofs.Cutting.{cuts_end, cuts_forward, cuts_last, cuts_split, moved, part, part_cut}
+use Rattle.omega_hoa.proofs.Dividing.{ended, open_push, opened, segment_moved, stream_push}
+use Rattle.omega_hoa.proofs.Written.{automaton_same, fault_same, same_moved}
 
 -- memory, or the other cases
 pub memory_or : (Holds : Refusal → Type 0) (refusal : Refusal) → or_memory Holds refusal → (refusal ≡ Memory) ⊎ Holds refusal
@@ -171,24 +172,24 @@ module _ (exact : GoesOneWay hoa_format) (bytes : List ℕ) (first : ℕ) (divis
       (part_cut exact seen division.begins token.span.end all place.3 cuts)
 
   -- an automaton that was read of these bytes is the segment's item
-  pub automaton_item : (automaton : Automaton) → division.inside ≡ true → token.kind ≡ End
-      → ((ls : List (Lexeme HoaKind)) → IsCut hoa_format (take (token.span.end - division.begins) (drop (division.begins - first) bytes)) ls → IsAutomatonOf (map symbol_of ls) automaton)
+  pub automaton_item : (automaton : Description) → division.inside ≡ true → token.kind ≡ End
+      → ((ls : List (Lexeme HoaKind)) → IsCut hoa_format (take (token.span.end - division.begins) (drop (division.begins - first) bytes)) ls → IsSegment End ls → IsAutomatonOf ls automaton)
       → IsItemOf (next.divided.rest ++ lexeme_in seen token ∷ []) (AutomatonItem automaton)
   automaton_item automaton inside is reads =
       let all = next.divided.rest ++ lexeme_in seen token ∷ [] in (
         ended next.divided.rest (lexeme_in seen token) End (open_behind inside) is,
-        subst (λ symbols. IsAutomatonOf symbols automaton) (symbols-moved division.begins all) (reads (map (moved division.begins) all) segment_cut),
+        automaton_same (map (moved division.begins) all) all automaton (same_moved division.begins all)
+            (reads (map (moved division.begins) all) segment_cut (segment_moved division.begins End all (ended next.divided.rest (lexeme_in seen token) End (open_behind inside) is))),
       )
 
   -- a fault that was read of these bytes refuses the text
   pub segment_refused : (refusal : Refusal) → division.inside ≡ true → token.kind ≡ End
-      → ((ls : List (Lexeme HoaKind)) → IsCut hoa_format (take (token.span.end - division.begins) (drop (division.begins - first) bytes)) ls → or_memory (IsSegmentFault (map symbol_of ls)) refusal)
+      → ((ls : List (Lexeme HoaKind)) → IsCut hoa_format (take (token.span.end - division.begins) (drop (division.begins - first) bytes)) ls → IsSegment End ls → or_memory (IsSegmentFault ls) refusal)
       → IsRefusedNow seen items refusal
   segment_refused refusal inside is reads =
       let all = next.divided.rest ++ lexeme_in seen token ∷ [] in
       let segment = ended next.divided.rest (lexeme_in seen token) End (open_behind inside) is in
-      elim (memory_or (IsSegmentFault (map symbol_of all)) refusal
-      (subst (λ symbols. or_memory (IsSegmentFault symbols) refusal) (symbols-moved division.begins all) (reads (map (moved division.begins) all) segment_cut))) [
+      elim (memory_or (IsSegmentFault (map (moved division.begins) all)) refusal (reads (map (moved division.begins) all) segment_cut (segment_moved division.begins End all segment))) [
         | inl memory ↦ inl memory
         | inr fault ↦ inr (λ more. record {
           front = next.divided.front;
@@ -196,7 +197,7 @@ module _ (exact : GoesOneWay hoa_format) (bytes : List ℕ) (first : ℕ) (divis
           from = token.span.end;
           cuts = subst (λ ls. Cuts hoa_format (seen ++ more) 0 ls token.span.end) (append_assoc next.divided.front next.divided.rest (lexeme_in seen token ∷ [])) (behind more).whole;
           before = next.divided.before;
-          refused = inr (inr (segment, fault));
+          refused = inr (inr (segment, fault_same (map (moved division.begins) all) all refusal (same_moved division.begins all) fault));
         })
       ]
 

@@ -1,5 +1,5 @@
 -- Texts that hold exactly one segment, ended by `--END--`.
-use Rattle.std.specs.Prelude.{◌≡◌, ◌≢◌, ℕ, ◌<◌, ◌≤◌, ◌⊎◌, List, [], ◌∷◌, ◌++◌, length, map}
+use Rattle.std.specs.Prelude.{◌≡◌, ℕ, ◌<◌, ◌≤◌, ◌⊎◌, List, [], ◌∷◌, ◌++◌, length}
 use Rattle.omega_text.specs.Cut.{IsCut, IsFault}
 use Rattle.omega_text.specs.Lexeme.{Lexeme}
 use Rattle.omega_text.specs.Limits.{most_text}
@@ -11,17 +11,18 @@ use Rattle.omega_text.specs.declared.refusal.Refusal.{Refusal}
 use Rattle.omega_text.specs.declared.refusal.Refusal.TheVariants.{Text}
 use Rattle.omega_text.specs.declared.refusal.text.TextFault.{TextFault}
 use Rattle.omega_text.specs.declared.refusal.text.TextFault.TheVariants.{Syntax, TooLong}
-use Rattle.omega_hoa.specs.Segment.{IsAutomatonOf, IsSegmentFault, symbol_of}
+use Rattle.omega_raw.specs.declared.raw_automaton.RawAutomaton.{RawAutomaton}
+use Rattle.omega_automaton.specs.Automaton.{Description}
+use Rattle.omega_hoa.specs.Segment.{IsAutomatonOf, IsRawOf, IsSegmentFault}
 use Rattle.omega_hoa.specs.Stream.{IsOpen, IsSegment, Opens}
-use Rattle.omega_hoa.specs.declared.automaton.Automaton.{Automaton}
 
 -- the text of this automaton
-pub record IsAutomatonText (source : List ℕ) (automaton : Automaton) : Type 0 where
+pub record IsAutomatonText (source : List ℕ) (automaton : Description) : Type 0 where
   pub short : length source ≤ most_text
   pub lexemes : List (Lexeme HoaKind)
   pub cut : IsCut hoa_format source lexemes
   pub segment : IsSegment End lexemes
-  pub value : IsAutomatonOf (map symbol_of lexemes) automaton
+  pub value : IsAutomatonOf lexemes automaton
 
 -- the tokens begin with no segment, or with one that has no `--END--`: 3 at the first token or at the length of an empty text, at the length, or at `--ABORT--`
 abbrev pub HasNoSegmentAt : ℕ → List (Lexeme HoaKind) → ℕ → Type 0
@@ -30,10 +31,9 @@ HasNoSegmentAt length lexemes at = ((lexemes ≡ []) × (at ≡ length))
     ⊎ ((IsOpen lexemes × (at ≡ length))
     ⊎ ((inside : List (Lexeme HoaKind)) × (last : Lexeme HoaKind) × (rest : List (Lexeme HoaKind)) × (lexemes ≡ inside ++ last ∷ rest) × IsOpen inside × (last.kind ≡ Abort) × (at ≡ last.span.start))))
 
--- the tokens of a segment are in the grammar: they are an automaton's, or their fault is another than 3
+-- the tokens of a segment are in the grammar: an automaton is written so, whatever it means
 abbrev pub IsInGrammar : List (Lexeme HoaKind) → Type 0
-IsInGrammar lexemes = ((automaton : Automaton) × IsAutomatonOf (map symbol_of lexemes) automaton)
-    ⊎ ((refusal : Refusal) × IsSegmentFault (map symbol_of lexemes) refusal × (number_of refusal ≢ 3))
+IsInGrammar lexemes = (raw : RawAutomaton) × IsRawOf lexemes raw
 
 -- the tokens begin with a segment that ends with `--END--`, and are refused: by its syntax, then by a token behind it, then by its meaning
 pub record IsSegmentRefused (lexemes : List (Lexeme HoaKind)) (refusal : Refusal) : Type 0 where
@@ -41,7 +41,7 @@ pub record IsSegmentRefused (lexemes : List (Lexeme HoaKind)) (refusal : Refusal
   pub rest : List (Lexeme HoaKind)
   pub split : lexemes ≡ segment ++ rest
   pub whole : IsSegment End segment
-  pub refused : (IsSegmentFault (map symbol_of segment) refusal × ((number_of refusal ≡ 3) ⊎ (rest ≡ [])))
+  pub refused : (IsSegmentFault segment refusal × ((number_of refusal ≡ 3) ⊎ (rest ≡ [])))
       ⊎ (IsInGrammar segment × ((next : Lexeme HoaKind) × (more : List (Lexeme HoaKind)) × (rest ≡ next ∷ more) × (refusal ≡ Text (Syntax next.span.start))))
 
 -- the refusal of tokens that are not those of one automaton, in a text of this length

@@ -2,6 +2,7 @@
 pub mod Alone
 pub mod Feeding
 pub mod Kept
+pub mod Laws
 pub mod Segment
 pub mod Stream
 pub mod dividing

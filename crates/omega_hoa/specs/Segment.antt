@@ -1,26 +1,37 @@
 -- What the tokens of one segment that ends with `--END--` are: those of an automaton, or faulty.
-use Rattle.std.specs.Prelude.{◌≡◌, ℕ, List}
+use Rattle.std.specs.Prelude.{◌≡◌, Some, List, []}
+use Rattle.omega_text.specs.Cases.{never, or_automaton, or_text}
 use Rattle.omega_text.specs.Lexeme.{Lexeme}
 use Rattle.omega_text.specs.declared.hoa.kind.HoaKind.{HoaKind}
 use Rattle.omega_text.specs.declared.refusal.Refusal.{Refusal}
-use Rattle.omega_text.specs.declared.refusal.Refusal.TheVariants.{Automaton as AutomatonRefusal}
-use Rattle.omega_text.specs.declared.refusal.automaton.AutomatonFault.TheVariants.{Version}
-use Rattle.omega_hoa.specs.declared.automaton.Automaton.{Automaton}
+use Rattle.omega_text.specs.declared.refusal.automaton.AutomatonFault.{AutomatonFault}
+use Rattle.omega_acc.specs.Symbols.{IsSyntax}
+use Rattle.omega_raw.specs.Grammar.{ReadsAutomaton}
+use Rattle.omega_raw.specs.declared.raw_automaton.RawAutomaton.{RawAutomaton}
+use Rattle.omega_automaton.specs.Automaton.{Description}
+use Rattle.omega_automaton.specs.Faults.{fault_of}
+use Rattle.omega_automaton.specs.Meaning.{Means}
 
--- what a grammar sees of a token: all but its place
-pub record Symbol : Type 0 where
-  pub kind : HoaKind
-  pub value : ℕ
-  pub text : List ℕ
+-- the tokens, all of them, are those of an automaton as it is written
+abbrev pub IsRawOf : List (Lexeme HoaKind) → RawAutomaton → Type 0
+IsRawOf lexemes raw = ReadsAutomaton lexemes raw []
 
--- the symbol of a token
-abbrev pub symbol_of : Lexeme HoaKind → Symbol
-symbol_of lexeme = record { kind = lexeme.kind; value = lexeme.value; text = lexeme.text }
+-- they are those of no automaton as it is written
+abbrev pub IsNoRaw : List (Lexeme HoaKind) → Type 0
+IsNoRaw lexemes = (raw : RawAutomaton) → IsRawOf lexemes raw → ⊥
 
--- the symbols are the text of this automaton
-unfoldable pub IsAutomatonOf : List Symbol → Automaton → Type 0
-IsAutomatonOf symbols automaton = ⊥
+-- they are those of an automaton as it is written, which means this one
+pub record IsAutomatonOf (lexemes : List (Lexeme HoaKind)) (automaton : Description) : Type 0 where
+  pub raw : RawAutomaton
+  pub written : IsRawOf lexemes raw
+  pub means : Means raw automaton
 
--- the symbols are the text of no automaton, for this reason
-unfoldable pub IsSegmentFault : List Symbol → Refusal → Type 0
-IsSegmentFault symbols refusal = refusal ≡ AutomatonRefusal Version
+-- they are those of an automaton as it is written, which has this fault
+pub record HasMeaningFault (lexemes : List (Lexeme HoaKind)) (fault : AutomatonFault) : Type 0 where
+  pub raw : RawAutomaton
+  pub written : IsRawOf lexemes raw
+  pub has : fault_of raw ≡ Some fault
+
+-- why the tokens are not an automaton's: 3 where no automaton is written so, else by what it means
+abbrev pub IsSegmentFault : List (Lexeme HoaKind) → Refusal → Type 0
+IsSegmentFault lexemes = or_text (IsSyntax (IsNoRaw lexemes)) (or_automaton (HasMeaningFault lexemes) never)

@@ -1,5 +1,5 @@
 -- Streams: segments one behind the other, each from `HOA:` to the first mark of its end.
-use Rattle.std.specs.Prelude.{◌≡◌, ℕ, ◌<◌, ◌≤◌, ◌⊎◌, Bool, true, false, List, [], ◌∷◌, ◌++◌, length, map, codes}
+use Rattle.std.specs.Prelude.{◌≡◌, ℕ, ◌<◌, ◌≤◌, ◌⊎◌, Bool, true, false, List, [], ◌∷◌, ◌++◌, length, codes}
 use Rattle.omega_text.specs.Cases.{never, or_text}
 use Rattle.omega_text.specs.Cut.{Cuts, IsCut}
 use Rattle.omega_text.specs.Lexeme.{Lexeme}
@@ -13,7 +13,7 @@ use Rattle.omega_text.specs.declared.refusal.Refusal.{Refusal}
 use Rattle.omega_text.specs.declared.refusal.Refusal.TheVariants.{Text}
 use Rattle.omega_text.specs.declared.refusal.text.TextFault.{TextFault}
 use Rattle.omega_text.specs.declared.refusal.text.TextFault.TheVariants.{Lex, Number, Syntax, TooLong}
-use Rattle.omega_hoa.specs.Segment.{IsAutomatonOf, IsSegmentFault, symbol_of}
+use Rattle.omega_hoa.specs.Segment.{IsAutomatonOf, IsSegmentFault}
 use Rattle.omega_hoa.specs.declared.item.Item.{Item}
 use Rattle.omega_hoa.specs.declared.item.Item.TheVariants.{Automaton, Aborted}
 
@@ -51,7 +51,7 @@ pub record IsSegment (mark : HoaKind) (lexemes : List (Lexeme HoaKind)) : Type 0
 
 -- the item of a segment: the automaton that its tokens are, or that it is aborted, whatever its tokens are
 abbrev pub IsItemOf : List (Lexeme HoaKind) → Item → Type 0
-IsItemOf lexemes (Automaton automaton) = IsSegment End lexemes × IsAutomatonOf (map symbol_of lexemes) automaton
+IsItemOf lexemes (Automaton automaton) = IsSegment End lexemes × IsAutomatonOf lexemes automaton
 IsItemOf lexemes Aborted = IsSegment Abort lexemes
 
 -- the tokens are segments, with these items
@@ -78,7 +78,7 @@ IsFaultInside source from TooLong = ⊥
 abbrev pub IsRefusedBehind : List ℕ → List (Lexeme HoaKind) → ℕ → Refusal → Type 0
 IsRefusedBehind source lexemes from refusal = ((lexemes ≡ []) × or_text (IsFaultOutside source from) never refusal)
     ⊎ ((IsOpen lexemes × or_text (IsFaultInside source from) never refusal)
-    ⊎ (IsSegment End lexemes × IsSegmentFault (map symbol_of lexemes) refusal))
+    ⊎ (IsSegment End lexemes × IsSegmentFault lexemes refusal))
 
 -- a text is refused behind whole segments, which have these items
 pub record IsStreamFault (source : List ℕ) (items : List Item) (refusal : Refusal) : Type 0 where

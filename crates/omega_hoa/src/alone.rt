@@ -6,9 +6,9 @@ ghost use Rattle.omega_text.specs.declared.refusal.text.TextFault.TheVariants.{S
 ghost use Rattle.omega_hoa.specs.Alone.{IsAutomatonRefusal, IsAutomatonText};
 ghost use Rattle.omega_hoa.specs.outlines.Outline.{HasFollowed, HasWhole};
 
-use crate::automaton::Automaton;
 use crate::outline::{Outline, outline_of};
-use crate::segment::read_segment;
+use crate::segment::{read_segment, read_written};
+use omega_automaton::Automaton;
 use omega_text::{HoaKind, MOST_TEXT, Refusal, TextFault, TokenKind};
 use std::alloc::Global;
 
@@ -54,18 +54,9 @@ fn read_followed(alloc: Global, bytes: &[u8], end: usize, next: usize) -> Refusa
     ensures { or_memory (IsAutomatonRefusal bytes.now) result }
 {
     HoaKind::goes_on_one_way();
-    match read_segment(alloc, &bytes[..end], 0) {
-        Ok(_automaton) => syntax_fault(next),
-        Err(refusal) => match refusal {
-            Refusal::Memory => Refusal::Memory,
-            other => {
-                if other.number() == 3 {
-                    other
-                } else {
-                    syntax_fault(next)
-                }
-            }
-        },
+    match read_written(alloc, &bytes[..end], 0) {
+        Ok(_raw) => syntax_fault(next),
+        Err(refusal) => refusal,
     }
 }
 

@@ -1,7 +1,7 @@
-use crate::automaton::Automaton;
+use omega_automaton::Automaton;
 
 /// What a segment of a stream gives.
-#[derive(Debug, Drop)]
+#[derive(Drop)]
 pub enum Item {
     /// The automaton of a segment that ends with `--END--`.
     Automaton(Automaton),

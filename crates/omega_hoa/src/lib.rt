@@ -2,10 +2,10 @@
 #![tactic(auto)]
 
 mod alone;
-mod automaton;
 mod division;
 mod ending;
 mod item;
+mod laws;
 mod outline;
 mod progress;
 mod reading;
@@ -13,7 +13,13 @@ mod segment;
 mod stream;
 
 pub use alone::read_one;
-pub use automaton::Automaton;
 pub use item::Item;
+pub use laws::{
+    automata_are_one, automata_are_unrefused, automata_or_refused, pieces_change_nothing,
+    refusals_are_one, stream_faults_are_one, streams_are_one, streams_are_unrefused,
+    streams_or_refused,
+};
+pub use omega_automaton::Automaton;
+pub use omega_text::Refusal;
 pub use reading::read_stream;
 pub use stream::Stream;

@@ -3,8 +3,7 @@ ghost use Rattle.omega_text.specs.Limits.{most_text};
 ghost use Rattle.omega_text.specs.declared.refusal.Refusal.TheVariants.{Memory, Text};
 ghost use Rattle.omega_text.specs.declared.refusal.text.TextFault.TheVariants.{TooLong};
 ghost use Rattle.omega_hoa.specs.declared.item.Item.{Item};
-ghost use Rattle.omega_hoa.specs.Stream.{IsStreamText};
-ghost use Rattle.omega_hoa.specs.dividing.Ending.{IsRefusedAtEnd};
+ghost use Rattle.omega_hoa.specs.Stream.{IsStreamFault, IsStreamText};
 ghost use Rattle.omega_hoa.specs.dividing.Next.{IsProgressSome, IsReadAs, IsRefusedFrom, IsRefusedThen};
 
 use crate::division::Division;
@@ -39,7 +38,9 @@ impl Model for Stream {
 }
 
 impl Stream {
+    ghost use Rattle.std.specs.Result.{result_err};
     ghost use Rattle.omega_hoa.specs.Feeding.{Appends, IsFed};
+    ghost use Rattle.omega_hoa.specs.Laws.{IsAnsweredAtEnd};
 
     /// Before the first byte. No memory is taken.
     pub fn new(alloc: Global) -> Stream
@@ -89,7 +90,8 @@ impl Stream {
     pub fn finish(self) -> Result<(), Refusal>
         ensures refused_before { IfSome self.refused (λ refusal. result ≡ Err refusal) }
         ensures ok { OnOk result ((seen : List ℕ) (items : List Item) → IsFed seen items self → IsStreamText seen items) }
-        ensures refused { self.refused ≡ None → IfErr result (λ refusal. (seen : List ℕ) (items : List Item) → IsFed seen items self → IsRefusedAtEnd seen items refusal) }
+        ensures refused { self.refused ≡ None → IfErr result (λ refusal. (seen : List ℕ) (items : List Item) → IsFed seen items self → IsStreamFault seen items refusal) }
+        ensures answered { (seen : List ℕ) (items : List Item) → IsFed seen items self → IsAnsweredAtEnd seen items self (result_err result) }
     {
         match self.refused {
             Some(refusal) => Err(refusal),

@@ -14,6 +14,6 @@ pub use game_file::{GameFiles, HostFiles};
 pub use input::{FromRead, Input};
 pub use omega_text::Refusal;
 pub use output::{Output, ToWrite};
-pub use reading::read_all;
+pub use reading::{PIECE, read_all, read_piece};
 pub use refusal_text::refusal_line;
 pub use writing::{tell, write_text};

@@ -1,4 +1,7 @@
-ghost use Rattle.std.specs.Prelude.{◌≡◌, ◌≢◌, ◌+◌, ◌-◌, ◌^◌, ◌<◌, IfOk, IfErr};
+ghost use Rattle.std.specs.Prelude.{◌≡◌, ◌≢◌, ◌+◌, ◌-◌, ◌^◌, ◌<◌, ◌≤◌, IfOk, IfErr, IsOkUnless, length, take};
+ghost use Rattle.std.specs.Io.KnownBytes.{Consumes, IsAtEnd};
+ghost use Rattle.omega_text.specs.Limits.{most_text};
+ghost use Rattle.omega_text.specs.declared.refusal.Refusal.TheVariants.{Io};
 ghost use Rattle.omega_io.specs.Failures.{IsTransferRefusal, failures_of};
 ghost use Rattle.omega_io.specs.Reading.{IsRead};
 
@@ -7,7 +10,7 @@ use omega_text::{MOST_TEXT, Refusal};
 use std::alloc::Global;
 
 /// The most bytes that one read asks for.
-const PIECE: usize = 4096;
+pub const PIECE: usize = 4096;
 
 /// What the input gives up to its end, or up to the first byte past the greatest length of a text.
 /// 60, and 61 where a read fails.
@@ -20,12 +23,28 @@ pub fn read_all<R: Input>(alloc: Global, input: &mut R) -> Result<Vec<u8>, Refus
     let mut text = Vec::new(alloc);
     let mut piece = [0; PIECE];
     while text.len() <= MOST_TEXT {
-        let room = (MOST_TEXT + 1 - text.len()).min(PIECE);
-        let count = input.read(&mut piece[..room])?;
+        let count = read_piece(input, text.len(), &mut piece)?;
         if count == 0 {
             return Ok(text);
         }
         text.extend_from_slice(&piece[..count])?;
     }
     Ok(text)
+}
+
+/// The next bytes of a text of which so many were read, within the first byte past the greatest length of a text; none only
+/// at the end of the input. 61.
+pub fn read_piece<R: Input>(input: &mut R, total: usize, piece: &mut [u8]) -> Result<usize, Refusal>
+    requires reads { R.failed input.old < 2 ^ 64 - 1 }
+    requires more { total ≤ most_text }
+    requires room { 0 < length piece.old }
+    ensures bound { IfOk result (λ count. count ≤ length piece.new) }
+    ensures limit { IfOk result (λ count. total + count ≤ most_text + 1) }
+    ensures consumed { IfOk result (λ count. Consumes (R.remaining input.old) (R.remaining input.new) (take count piece.new)) }
+    ensures end { IfOk result (λ count. count ≡ 0 → IsAtEnd (R.remaining input.new)) }
+    ensures counted { R.failed input.new ≡ R.failed input.old + failures_of result }
+    ensures io { IsOkUnless result Io }
+{
+    let room = (MOST_TEXT + 1 - total).min(piece.len());
+    input.read(&mut piece[..room])
 }

@@ -63,6 +63,12 @@ impl MeasureTable for PackedTable {
     }
 
     #[inline(always)]
+    fn compare_for(&self, place: u32, a: u32, b: u32) -> Ordering {
+        let field = self.fields[self.shape.kept(place)];
+        compare_at(&self.words, self.size, field, a as usize, b as usize)
+    }
+
+    #[inline(always)]
     fn due(&self, v: u32, w: u32) -> bool {
         let field = self.fields[self.shape.kept(v)];
         let order = compare_at(&self.words, self.size, field, v as usize, w as usize);

@@ -63,6 +63,19 @@ impl MeasureTable for PlainTable {
         )
     }
 
+    fn compare_for(&self, place: u32, a: u32, b: u32) -> Ordering {
+        let width = self.shape.width();
+        let kept = self.shape.kept(place);
+        compare_at(
+            &self.tops,
+            &self.entries,
+            width,
+            kept,
+            a as usize,
+            b as usize,
+        )
+    }
+
     fn due(&self, v: u32, w: u32) -> bool {
         let width = self.shape.width();
         let kept = self.shape.kept(v);

@@ -1,4 +1,4 @@
-ghost use Rattle.std.specs.Prelude.{◌≡◌, ◌↔◌, ◌<◌, false, length, IsTrue, IsOk, IfOk, IfErr, None};
+ghost use Rattle.std.specs.Prelude.{◌≡◌, ◌↔◌, ◌<◌, false, length, slice_index, IsTrue, IsOk, IfOk, IfErr, None};
 ghost use Rattle.omega_game.specs.Game.{priorities};
 ghost use Rattle.omega_lift.specs.Allowance.{measure_at};
 ghost use Rattle.omega_lift.specs.Measure.{compare_from};
@@ -36,6 +36,15 @@ pub trait MeasureTable: Drop {
         requires second { b < length (content self.now).measures }
         ensures { let table = content self.now in
             result ≡ compare_from table.player table.priorities p (measure_at table.measures a) (measure_at table.measures b) };
+
+    /// The same on the entries for priorities at least that of a place. How many entries these are was found when the table
+    /// was made.
+    fn compare_for(&self, place: u32, a: u32, b: u32) -> Ordering
+        requires at { place < length (content self.now).measures }
+        requires first { a < length (content self.now).measures }
+        requires second { b < length (content self.now).measures }
+        ensures { let table = content self.now in
+            result ≡ compare_from table.player table.priorities (slice_index table.priorities place) (measure_at table.measures a) (measure_at table.measures b) };
 
     /// Whether the allowance of `v` towards `w` exceeds the measure of `v`.
     fn due(&self, v: u32, w: u32) -> bool

@@ -6,11 +6,11 @@ use Rattle.omega_acc.specs.RawAcc.{RawAccTree}
 use Rattle.omega_acc.specs.RawLabel.{RawLabelTree}
 use Rattle.omega_acc.specs.declared.acc_name.AccName.{AccName}
 use Rattle.omega_acc.specs.declared.acc_name.Parameter.{Parameter}
-use Rattle.omega_raw.specs.Contents.{FindsContent, FindsNamed, FindsUnknown, GivesContent, GivesNamed, GivesUnknown}
+use Rattle.omega_raw.specs.steps.Contents.{FindsContent, FindsNamed, FindsUnknown, GivesContent, GivesNamed, GivesUnknown}
 use Rattle.omega_raw.specs.Grammar.{IsItem, content_row, header_named, item_header, item_name}
-use Rattle.omega_raw.specs.Parts.{EndsItem}
-use Rattle.omega_raw.specs.Reading.{FirstIs, Found}
-use Rattle.omega_raw.specs.Symbols.{Spells, Symbol, Tokens}
+use Rattle.omega_raw.specs.steps.Parts.{EndsItem}
+use Rattle.omega_raw.specs.steps.Reading.{Found}
+use Rattle.omega_raw.specs.Symbols.{FirstIs, Spells, Symbol, Tokens}
 use Rattle.omega_raw.specs.declared.header.name.Header.{Header}
 use Rattle.omega_raw.specs.declared.header.name.Header.TheVariants as named
 use Rattle.omega_raw.specs.declared.header_value.HeaderValue.{HeaderValue}
@@ -69,7 +69,7 @@ of_unknown P holds (item.Unknown name values) is = holds name values
 of_unknown P holds other is = cc
 
 -- an item's name is that of its header
-header_named-item_name : (it : RawItem) → IsItem it → header_named (item_name it) ≡ item_header it
+pub header_named-item_name : (it : RawItem) → IsItem it → header_named (item_name it) ≡ item_header it
 header_named-item_name (item.Unknown name values) is = is
 header_named-item_name other is = refl
 

@@ -4,8 +4,8 @@ use Rattle.std.specs.Prelude.{IfOk, IfSome}
 use Rattle.std.specs.List.{AllByRecursion}
 use Rattle.omega_raw.proofs.SpellingLemmas.{first_then, next_clash, next_is, next_may}
 use Rattle.omega_raw.specs.Grammar.{each, optional}
-use Rattle.omega_raw.specs.Reading.{EndsList, FirstIs, Given, NextIs, NextMayBe}
-use Rattle.omega_raw.specs.Symbols.{Spells, Symbol, Tokens}
+use Rattle.omega_raw.specs.steps.Reading.{EndsList, Given, NextIs, NextMayBe}
+use Rattle.omega_raw.specs.Symbols.{FirstIs, Spells, Symbol, Tokens}
 use Rattle.omega_text.specs.declared.hoa.kind.HoaKind.{HoaKind}
 use Rattle.omega_text.specs.declared.refusal.Refusal.{Refusal}
 

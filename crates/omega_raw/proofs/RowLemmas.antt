@@ -5,11 +5,12 @@ use Rattle.std.specs.Prelude.{IfErr, IsErrAnd}
 use Rattle.omega_acc.specs.Depth.{IsMemory}
 use Rattle.omega_acc.specs.Symbols.{IsUnread}
 use Rattle.omega_raw.specs.Grammar.{IsConj, ReadsAutomaton, ReadsNone, conj_row}
-use Rattle.omega_raw.specs.Parts.{EndsConj}
-use Rattle.omega_raw.specs.Reading.{Finds, FirstIs, Found, Given, IsRefusal}
-use Rattle.omega_raw.specs.Symbols.{Spells, Symbol, Tokens}
+use Rattle.omega_raw.specs.steps.Parts.{EndsConj}
+use Rattle.omega_raw.specs.steps.Reading.{Finds, Found, Given, IsRefusal}
+use Rattle.omega_raw.specs.Symbols.{FirstIs, Spells, Symbol, Tokens}
 use Rattle.omega_raw.specs.declared.raw_automaton.RawAutomaton.{RawAutomaton}
 use Rattle.omega_raw.specs.declared.raw_edge.RawEdge.{RawEdge}
+use Rattle.omega_raw.specs.declared.raw_item.RawItem.{RawItem}
 use Rattle.omega_raw.specs.declared.raw_state.RawState.{RawState}
 use Rattle.omega_text.specs.declared.refusal.Refusal.{Refusal}
 use Rattle.omega_text.specs.declared.refusal.Refusal.TheVariants.{Memory, Text}
@@ -28,6 +29,12 @@ state_same label id name marks edges it a b c d e =
     let make : Option RawLabelTree → ℕ → Option (List ℕ) → Option (List ℕ) → List RawEdge → RawState = λ v w x y z. record { label = v; number = w; name = x; marks = y; edges = z } in
     ap (λ v. make v id name marks edges) a ∙ (ap (λ w. make it.label w name marks edges) b ∙ (ap (λ x. make it.label it.number x marks edges) c
     ∙ (ap (λ y. make it.label it.number it.name y edges) d ∙ ap (λ z. make it.label it.number it.name it.marks z) e)))
+
+pub raw_same : (version : List ℕ) (items : List RawItem) (states : List RawState) (it : RawAutomaton) → version ≡ it.version → items ≡ it.items → states ≡ it.states
+    → (let raw : RawAutomaton = record { version = version; items = items; states = states } in raw ≡ it)
+raw_same version items states it a b c =
+    let make : List ℕ → List RawItem → List RawState → RawAutomaton = λ x y z. record { version = x; items = y; states = z } in
+    ap (λ x. make x items states) a ∙ (ap (λ y. make it.version y states) b ∙ ap (λ z. make it.version it.items z) c)
 
 -- a conj has a first number
 of_conj : (P : List ℕ → Type 0) → ((first : ℕ) (more : List ℕ) → P (first ∷ more)) → (it : List ℕ) → IsConj it → P it

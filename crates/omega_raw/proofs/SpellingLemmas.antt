@@ -7,8 +7,8 @@ use Rattle.omega_acc.specs.AccReading.{ReadsAcc}
 use Rattle.omega_acc.specs.RawAcc.{RawAccTree}
 use Rattle.omega_acc.specs.Reading.{Reads}
 use Rattle.omega_acc.specs.RawLabel.{RawLabelTree}
-use Rattle.omega_raw.specs.Reading.{FirstIs, Found, NextIs, NextIsNot, NextMayBe}
-use Rattle.omega_raw.specs.Symbols.{IsNext, Shows, Spells, Splits, Symbol, Tokens, alias, formula, header, label, number, sign, text, word}
+use Rattle.omega_raw.specs.steps.Reading.{Found, NextIs, NextIsNot, NextMayBe}
+use Rattle.omega_raw.specs.Symbols.{FirstIs, IsNext, Shows, Spells, Splits, Symbol, Tokens, alias, formula, header, label, number, sign, text, word}
 use Rattle.omega_text.specs.Lexeme.{Lexeme}
 use Rattle.omega_text.specs.declared.hoa.kind.HoaKind.{HoaKind}
 use Rattle.omega_text.specs.declared.hoa.kind.HoaKind.TheVariants as kind

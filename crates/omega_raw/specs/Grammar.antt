@@ -179,6 +179,10 @@ pub record ReadsAutomaton (tokens : Tokens) (raw : RawAutomaton) (rest : Tokens)
   pub states : AllByRecursion IsState raw.states
   pub spells : Spells tokens (spelled raw) rest
 
+-- the tokens are no other automaton's, and leave no other rest
+abbrev pub ReadsNoOther : Tokens → RawAutomaton → Tokens → Type 0
+ReadsNoOther tokens raw rest = (other : RawAutomaton) (left : Tokens) → ReadsAutomaton tokens other left → (raw ≡ other) × (rest ≡ left)
+
 -- no front of the tokens is an automaton's
 abbrev pub ReadsNone : Tokens → Type 0
 ReadsNone tokens = (raw : RawAutomaton) (rest : Tokens) → ReadsAutomaton tokens raw rest → ⊥

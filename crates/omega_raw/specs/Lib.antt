@@ -1,6 +1,5 @@
-pub mod Beginnings
-pub mod Contents
+-- What contracts cite: the grammar of automata and what it is written in; what its single steps read in `steps`.
 pub mod Grammar
-pub mod Parts
-pub mod Reading
+pub mod Laws
 pub mod Symbols
+pub mod steps

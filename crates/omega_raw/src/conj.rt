@@ -1,8 +1,9 @@
 ghost use Rattle.std.specs.Prelude.{◌≡◌, ◌∷◌, IfErr, IfOk, refl};
 ghost use Rattle.omega_acc.specs.Depth.{IsMemory};
 ghost use Rattle.omega_raw.specs.Grammar.{IsConj, conj_row, joined_row};
-ghost use Rattle.omega_raw.specs.Parts.{EndsConj, is_and};
-ghost use Rattle.omega_raw.specs.Reading.{Finds, FirstIs, Gives, IsAny, IsKind, IsRefusal};
+ghost use Rattle.omega_raw.specs.steps.Parts.{EndsConj, is_and};
+ghost use Rattle.omega_raw.specs.Symbols.{FirstIs};
+ghost use Rattle.omega_raw.specs.steps.Reading.{Finds, Gives, IsAny, IsKind, IsRefusal};
 
 use crate::part::{Part, read_each};
 use crate::taking::{take_int, take_sign};

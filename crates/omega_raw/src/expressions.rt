@@ -2,7 +2,7 @@
 
 ghost use Rattle.std.specs.Prelude.{IfErr};
 ghost use Rattle.omega_raw.specs.Grammar.{formula_row, expression_row};
-ghost use Rattle.omega_raw.specs.Reading.{Anything, Finds, Gives, IsAny, IsRefusal};
+ghost use Rattle.omega_raw.specs.steps.Reading.{Anything, Finds, Gives, IsAny, IsRefusal};
 
 use omega_acc::{RawAcc, RawLabel, formulas_are_one, labels_are_one, read_raw_acc, read_raw_label};
 use omega_text::{HoaKind, Refusal, TokenSource};

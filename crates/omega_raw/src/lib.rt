@@ -7,6 +7,7 @@ mod conj;
 mod expressions;
 mod header;
 mod header_value;
+mod laws;
 mod part;
 mod raw_automaton;
 mod raw_edge;
@@ -17,6 +18,7 @@ mod single;
 mod taking;
 
 pub use header_value::HeaderValue;
+pub use laws::raws_are_one;
 pub use raw_automaton::RawAutomaton;
 pub use raw_edge::RawEdge;
 pub use raw_item::RawItem;

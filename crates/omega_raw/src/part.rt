@@ -1,7 +1,8 @@
 ghost use Rattle.std.specs.Prelude.{◌≡◌, All, IfErr, IfSome, MatchBool, true, false};
 ghost use Rattle.std.specs.List.{AllByRecursion};
 ghost use Rattle.omega_raw.specs.Grammar.{each, optional};
-ghost use Rattle.omega_raw.specs.Reading.{EndsList, Finds, FirstIs, Gives, IsRefusal, NextIs, NextMayBe};
+ghost use Rattle.omega_raw.specs.Symbols.{FirstIs};
+ghost use Rattle.omega_raw.specs.steps.Reading.{EndsList, Finds, Gives, IsRefusal, NextIs, NextMayBe};
 
 use omega_text::{HoaKind, Refusal, Seq, TokenSource};
 use std::alloc::Global;

@@ -1,7 +1,7 @@
 //! Automata read from tokens.
 
 ghost use Rattle.std.specs.Prelude.{IfErr, IfOk};
-ghost use Rattle.omega_raw.specs.Grammar.{ReadsAutomaton, ReadsNone};
+ghost use Rattle.omega_raw.specs.Grammar.{ReadsAutomaton, ReadsNoOther, ReadsNone};
 ghost use Rattle.omega_acc.specs.Symbols.{IsUnread};
 
 use crate::body::State;
@@ -22,6 +22,7 @@ pub fn read_raw<'a, S: TokenSource<'a, HoaKind>>(
     source: &mut S,
 ) -> Result<RawAutomaton, Refusal>
     ensures ok { IfOk result (λ raw. ReadsAutomaton (S.left source.old) raw (S.left source.new)) }
+    ensures only { IfOk result (λ raw. ReadsNoOther (S.left source.old) raw (S.left source.new)) }
     ensures err { IfErr result (IsUnread (ReadsNone (S.left source.old))) }
 {
     take_header(source, b"HOA")?;

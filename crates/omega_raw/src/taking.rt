@@ -4,7 +4,7 @@ ghost use Rattle.std.specs.Prelude.{◌≡◌, ◌∷◌, List, IfErr, IfNone, I
 ghost use Rattle.omega_acc.specs.Depth.{IsMemory};
 ghost use Rattle.omega_acc.specs.Symbols.{IsUnread};
 ghost use Rattle.omega_raw.specs.Grammar.{int_row, string_row, word_row};
-ghost use Rattle.omega_raw.specs.Reading.{Anything, Finds, FoundThere, Gives, IsAny, IsRefusal, NextIsNot};
+ghost use Rattle.omega_raw.specs.steps.Reading.{Anything, Finds, FoundThere, Gives, IsAny, IsRefusal, NextIsNot};
 ghost use Rattle.omega_raw.specs.Symbols.{Spells, Symbol, Tokens, between_quotes, header, sign, without_last};
 ghost use Rattle.omega_text.specs.Lexeme.{lexeme_of};
 

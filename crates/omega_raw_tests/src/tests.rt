@@ -1,6 +1,6 @@
-use omega_raw::{RawAutomaton, read_raw};
+use omega_raw::{RawAutomaton, RawEdge, RawItem, RawState, read_raw};
 use omega_text::{Cursor, Refusal, hoa_tokens};
-use std::alloc::Global;
+use std::alloc::{AllocError, Global};
 use std::test::Fail;
 
 // What a text is read as: the automaton, and where the cursor then stands.
@@ -19,74 +19,194 @@ fn outcome(alloc: Global, text: &[u8]) -> (u32, usize) {
     }
 }
 
-const ACCEPTED: [(&str, usize); 12] = [
-    ("HOA: v1 --BODY-- --END--", 24),
-    ("HOA: v1 --BODY-- --END-- x", 25),
-    ("HOA: v2 States: 3 Start: 0&1 Start: 2 --BODY-- --END--", 54),
-    (
-        "HOA: v1 AP: 2 \"a\" \"b\" Alias: @a !0&1 --BODY-- --END--",
-        53,
-    ),
-    (
-        "HOA: v1 Acceptance: 2 Inf(0)&Fin(!1) acc-name: x 1 t y --BODY-- --END--",
-        71,
-    ),
+// One text of two parts.
+fn joined(alloc: Global, front: &str, behind: &str) -> Result<Vec<u8>, AllocError> {
+    let mut text = Vec::new(alloc);
+    text.extend_from_slice(front.as_bytes())?;
+    text.extend_from_slice(behind.as_bytes())?;
+    Ok(text)
+}
+
+fn outcome_of_parts(alloc: Global, front: &str, behind: &str) -> Result<(u32, usize), AllocError> {
+    let text = joined(alloc, front, behind)?;
+    Ok(outcome(alloc, text.as_slice()))
+}
+
+// Texts up to the token that is left behind the automaton, and from there on.
+const ACCEPTED: [(&str, &str); 22] = [
+    ("HOA: v1 --BODY-- --END--", ""),
+    ("HOA: v1 --BODY-- --END-- ", "x"),
+    ("HOA: v1 --BODY-- --END-- ", "HOA: v1 --BODY-- --END--"),
+    ("HOA: v1 --BODY-- --END-- ", "--END--"),
+    ("HOA: t-1 /* HOA: */ --BODY-- --END--", ""),
+    ("HOA: v1 States: 3 Start: 0&1 Start: 2 --BODY-- --END--", ""),
+    ("HOA: v1 AP: 7 States: 1 States: 1 --BODY-- --END--", ""),
+    ("HOA: v1 AP: 0 AP: 2 \"a\" \"a\" \"\" --BODY-- --END--", ""),
+    ("HOA: v1 Alias: @a !0&1 Alias: @a (@b) --BODY-- --END--", ""),
+    ("HOA: v1 Acceptance: 2 Inf(0)&Fin(!1) --BODY-- --END--", ""),
+    ("HOA: v1 acc-name: x 1 t y acc-name: z --BODY-- --END--", ""),
     (
         "HOA: v1 tool: \"a\" tool: \"a\" \"b\" name: \"\" --BODY-- --END--",
-        57,
+        "",
     ),
+    ("HOA: v1 properties: properties: a b --BODY-- --END--", ""),
     (
-        "HOA: v1 properties: properties: a b x: t 1 \"s\" w Y: --BODY-- --END--",
-        68,
+        "HOA: v1 x: t 1 \"s\" w Y: states: 1 Name: AP --BODY-- --END--",
+        "",
     ),
-    ("HOA: v1 --BODY-- State: 0 State: 0 --END--", 42),
+    ("HOA: v1 --BODY-- State: 0 State: 0 --END--", ""),
+    ("HOA: v1 --BODY-- State: 2147483647 --END--", ""),
+    ("HOA: v1 --BODY-- State: 0 \"n\" {1} 2 {3} 4 5 --END--", ""),
     (
         "HOA: v1 --BODY-- State: [t] 0 \"n\" {} [0|1] 0&1 {0 0} 1 --END--",
-        62,
+        "",
     ),
-    ("HOA: v1 --BODY-- State: 0 {1} 2 {3} 4 5 --END--", 47),
-    ("HOA: v1 --BODY-- State: 0 0&1&2 {} [t] 3 [f] 4 --END--", 54),
-    ("HOA: v1 AP: 7 States: 1 States: 1 --BODY-- --END--", 50),
+    ("HOA: v1 --BODY-- State: 0 0&1&2 {} [t] 3 [f] 4 --END--", ""),
+    ("HOA: v1 --BODY-- State: [@a] 0 [!@b] 1 --END--", ""),
+    ("HOA: v1 --BODY-- State: 0 1 State: 1 0 --END--", ""),
+    ("HOA: v1 --BODY-- State: 0 {} 1 {} --END--", ""),
 ];
 
-// The first token with which no automaton goes on, else the length.
-const REFUSED: [(&str, usize); 22] = [
-    ("", 0),
-    ("x", 0),
-    ("HOA: 1 --BODY-- --END--", 5),
-    ("HOA: v1 v1 --BODY-- --END--", 8),
-    ("HOA: v1 HOA: v1 --BODY-- --END--", 8),
-    ("HOA: v1 State: 0 --BODY-- --END--", 8),
-    ("HOA: v1 States: --BODY-- --END--", 16),
-    ("HOA: v1 Start: --BODY-- --END--", 15),
-    ("HOA: v1 Start: 0& --BODY-- --END--", 18),
-    ("HOA: v1 AP: \"a\" --BODY-- --END--", 12),
-    ("HOA: v1 AP: 1 a --BODY-- --END--", 14),
-    ("HOA: v1 Alias: a 0 --BODY-- --END--", 15),
-    ("HOA: v1 Alias: @a (0 --BODY-- --END--", 21),
-    ("HOA: v1 Acceptance: 1 Inf 0 --BODY-- --END--", 26),
-    ("HOA: v1 acc-name: 1 --BODY-- --END--", 18),
-    ("HOA: v1 tool: \"a\" \"b\" \"c\" --BODY-- --END--", 22),
-    ("HOA: v1 name: \"a\" \"b\" --BODY-- --END--", 18),
-    ("HOA: v1 properties: 1 --BODY-- --END--", 20),
-    ("HOA: v1 x: @a --BODY-- --END--", 11),
-    ("HOA: v1 --BODY-- State: 0 [t] --END--", 30),
-    ("HOA: v1 --BODY-- State: 0 0 {0} {1} --END--", 32),
-    ("HOA: v1 --BODY-- State: 0", 25),
+// Texts up to the first token with which no automaton goes on, and from there on, by the rows of the grammar.
+const BROKEN: [(&str, &str); 71] = [
+    // automaton
+    ("", ""),
+    ("", "x"),
+    ("", "v1 --BODY-- --END--"),
+    ("", "States: 1 --BODY-- --END--"),
+    ("", "--BODY-- --END--"),
+    ("HOA:", ""),
+    ("HOA: ", "1 --BODY-- --END--"),
+    ("HOA: ", "\"v1\" --BODY-- --END--"),
+    ("HOA: ", "t --BODY-- --END--"),
+    ("HOA: v1", ""),
+    ("HOA: v1 ", "v1 --BODY-- --END--"),
+    ("HOA: v1 ", "--END--"),
+    ("HOA: v1 ", "--ABORT--"),
+    ("HOA: v1 --BODY--", ""),
+    ("HOA: v1 --BODY-- ", "--BODY-- --END--"),
+    ("HOA: v1 --BODY-- ", "--ABORT--"),
+    ("HOA: v1 --BODY-- ", "0 --END--"),
+    ("HOA: v1 --BODY-- State: 0", ""),
+    // header items
+    ("HOA: v1 ", "HOA: v1 --BODY-- --END--"),
+    ("HOA: v1 ", "State: 0 --BODY-- --END--"),
+    ("HOA: v1 States: ", "--BODY-- --END--"),
+    ("HOA: v1 States: ", "x --BODY-- --END--"),
+    ("HOA: v1 States: 1 ", "1 --BODY-- --END--"),
+    ("HOA: v1 Start: ", "--BODY-- --END--"),
+    ("HOA: v1 Start: 0 ", "1 --BODY-- --END--"),
+    ("HOA: v1 AP: ", "\"a\" --BODY-- --END--"),
+    ("HOA: v1 AP: 1 ", "1 --BODY-- --END--"),
+    ("HOA: v1 AP: 1 ", "a --BODY-- --END--"),
+    ("HOA: v1 Alias: ", "a 0 --BODY-- --END--"),
+    ("HOA: v1 Alias: @a ", "--BODY-- --END--"),
+    ("HOA: v1 Alias: @a (0 ", "--BODY-- --END--"),
+    ("HOA: v1 Alias: @a 0 ", "1 --BODY-- --END--"),
+    ("HOA: v1 Acceptance: ", "Inf(0) --BODY-- --END--"),
+    ("HOA: v1 Acceptance: 1 ", "--BODY-- --END--"),
+    ("HOA: v1 Acceptance: 1 Inf ", "0 --BODY-- --END--"),
+    ("HOA: v1 Acceptance: 1 ", "0 --BODY-- --END--"),
+    ("HOA: v1 acc-name: ", "1 --BODY-- --END--"),
+    ("HOA: v1 acc-name: x ", "\"y\" --BODY-- --END--"),
+    ("HOA: v1 tool: ", "--BODY-- --END--"),
+    ("HOA: v1 tool: ", "a --BODY-- --END--"),
+    ("HOA: v1 tool: \"a\" \"b\" ", "\"c\" --BODY-- --END--"),
+    ("HOA: v1 name: ", "--BODY-- --END--"),
+    ("HOA: v1 name: ", "a --BODY-- --END--"),
+    ("HOA: v1 name: \"a\" ", "\"b\" --BODY-- --END--"),
+    ("HOA: v1 properties: ", "1 --BODY-- --END--"),
+    ("HOA: v1 properties: a ", "t --BODY-- --END--"),
+    ("HOA: v1 x: ", "@a --BODY-- --END--"),
+    ("HOA: v1 x: 1 ", "! --BODY-- --END--"),
+    // conj
+    ("HOA: v1 Start: ", "&0 --BODY-- --END--"),
+    ("HOA: v1 Start: 0& ", "--BODY-- --END--"),
+    ("HOA: v1 Start: 0&1", "|2 --BODY-- --END--"),
+    // state
+    ("HOA: v1 --BODY-- ", "States: 1 --END--"),
+    ("HOA: v1 --BODY-- ", "HOA: v1 --END--"),
+    ("HOA: v1 --BODY-- State: ", "--END--"),
+    ("HOA: v1 --BODY-- State: ", "\"n\" --END--"),
+    ("HOA: v1 --BODY-- State: [t] ", "[t] 0 --END--"),
+    ("HOA: v1 --BODY-- State: 0 [t] ", "--END--"),
+    ("HOA: v1 --BODY-- State: 0 \"n\" ", "\"m\" --END--"),
+    ("HOA: v1 --BODY-- State: 0 {0} ", "\"n\" --END--"),
+    ("HOA: v1 --BODY-- State: 0 {} ", "{} --END--"),
+    ("HOA: v1 --BODY-- State: 0 ", "x --END--"),
+    // edge
+    ("HOA: v1 --BODY-- State: 0 [t] ", "[f] 1 --END--"),
+    ("HOA: v1 --BODY-- State: 0 0& ", "{0} --END--"),
+    ("HOA: v1 --BODY-- State: 0 0 {0} ", "{1} --END--"),
+    ("HOA: v1 --BODY-- State: 0 0 ", "\"n\" --END--"),
+    // label
+    ("HOA: v1 --BODY-- State: [", "] 0 --END--"),
+    ("HOA: v1 --BODY-- State: [t ", "0 --END--"),
+    ("HOA: v1 --BODY-- State: 0 [t ", "--END--"),
+    // sig
+    ("HOA: v1 --BODY-- State: 0 {", "a} --END--"),
+    ("HOA: v1 --BODY-- State: 0 {0 ", "--END--"),
+    ("HOA: v1 --BODY-- State: 0 {0 ", "{} --END--"),
 ];
 
 #[test]
 fn texts_of_the_grammar_are_read(rt: HostRuntime) -> Result<(), Fail> {
-    for (text, end) in ACCEPTED.iter() {
-        assert_eq!(rt; outcome(rt.alloc(), text.as_bytes()), (0, *end));
+    for (front, behind) in ACCEPTED.iter() {
+        let outcome = outcome_of_parts(rt.alloc(), front, behind)?;
+        assert_eq!(rt; outcome, (0, front.len()));
     }
     Ok(())
 }
 
 #[test]
 fn other_texts_are_refused(rt: HostRuntime) -> Result<(), Fail> {
-    for (text, place) in REFUSED.iter() {
-        assert_eq!(rt; outcome(rt.alloc(), text.as_bytes()), (3, *place));
+    for (front, behind) in BROKEN.iter() {
+        let outcome = outcome_of_parts(rt.alloc(), front, behind)?;
+        assert_eq!(rt; outcome, (3, front.len()));
     }
+    Ok(())
+}
+
+fn is_edge(edge: &RawEdge) -> bool {
+    let marks = match &edge.marks {
+        Some(marks) => marks.as_slice() == [1, 1].as_slice(),
+        None => false,
+    };
+    marks && edge.label.is_none() && edge.targets.as_slice() == [2, 0].as_slice()
+}
+
+fn is_state(state: &RawState) -> bool {
+    let name = match &state.name {
+        Some(name) => name.as_slice() == b"n\\\"".as_slice(),
+        None => false,
+    };
+    let marks = match &state.marks {
+        Some(marks) => marks.as_slice().is_empty(),
+        None => false,
+    };
+    let edges = match state.edges.as_slice() {
+        [edge] => is_edge(edge),
+        _ => false,
+    };
+    name && marks && edges && state.number == 1 && state.label.is_some()
+}
+
+fn is_automaton(raw: &RawAutomaton) -> bool {
+    let items = match raw.items.as_slice() {
+        [RawItem::States(count)] => *count == 3,
+        _ => false,
+    };
+    let states = match raw.states.as_slice() {
+        [state] => is_state(state),
+        _ => false,
+    };
+    items && states && raw.version.as_slice() == b"v1".as_slice()
+}
+
+#[test]
+fn what_is_written_is_kept(rt: HostRuntime) -> Result<(), Fail> {
+    let text = "HOA: v1 States: 3 --BODY-- State: [0] 1 \"n\\\"\" {} 2&0 {1 1} --END--";
+    let (raw, _) = read(rt.alloc(), text.as_bytes())?;
+    assert!(rt; is_automaton(&raw));
     Ok(())
 }

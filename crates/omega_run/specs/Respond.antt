@@ -1,6 +1,5 @@
 -- What a command answers and refuses, and what it read when it answers.
 use Rattle.std.specs.Prelude.{◌≡◌, List, Option, Some, None, ℕ}
-use Rattle.std.specs.Io.KnownBytes.{Consumes, IsAtEnd}
 use Rattle.omega_text.specs.Cases.{or_io, or_memory}
 use Rattle.omega_text.specs.declared.refusal.Refusal.{Refusal}
 use Rattle.omega_pg.specs.game.Refusing.{IsRefusal}
@@ -11,14 +10,18 @@ use Rattle.omega_command.specs.declared.command.Format.TheVariants.{Hoa, Pg}
 use Rattle.omega_io.specs.declared.exit.Exit.{Exit}
 use Rattle.omega_io.specs.declared.exit.Exit.TheVariants.{Done}
 use Rattle.omega_answers.specs.Verify.{IsVerifyAnswer, IsVerifyRefusal}
+use Rattle.omega_answers.specs.canon.Hoa.{IsStreamCanonAnswer}
 use Rattle.omega_answers.specs.canon.Pg.{IsCanonAnswer}
+use Rattle.omega_answers.specs.check.Hoa.{IsStreamCheckAnswer}
 use Rattle.omega_answers.specs.check.Pg.{IsCheckAnswer}
+use Rattle.omega_answers.specs.show.Hoa.{IsStreamShowAnswer}
 use Rattle.omega_answers.specs.show.Pg.{IsShowAnswer}
 use Rattle.omega_answers.specs.declared.solve.asked.Asked.{Asked}
 use Rattle.omega_answers.specs.declared.solve.asked.Asked.TheVariants as way
 use Rattle.omega_answers.specs.solve.Refusing.{IsSolveRefusal}
 use Rattle.omega_answers.specs.solve.Solving.{IsSolveAnswer}
-use Rattle.omega_io.specs.Reading.{IsRead}
+use Rattle.omega_hoa.specs.Stream.{IsStreamRefusal}
+use Rattle.omega_io.specs.Reading.{ReadsText, ReadsWhole}
 
 -- what is asked of a game for one player, or for both where none is named
 abbrev pub asked_for : Option Player → Asked
@@ -28,43 +31,40 @@ asked_for (Some player) = way.Player player
 -- the command answers the text by this output, with this budget, and ends so
 abbrev pub Answers : Command → ℕ → List ℕ → Exit → List ℕ → Type 0
 Answers (Show Pg) budget text exit output = (exit ≡ Done) × IsShowAnswer text output
-Answers (Show Hoa) budget text exit output = ⊥
+Answers (Show Hoa) budget text exit output = (exit ≡ Done) × IsStreamShowAnswer text output
 Answers (Check Pg) budget text exit output = (exit ≡ Done) × IsCheckAnswer text output
-Answers (Check Hoa) budget text exit output = ⊥
+Answers (Check Hoa) budget text exit output = (exit ≡ Done) × IsStreamCheckAnswer text output
 Answers (Canon Pg) budget text exit output = (exit ≡ Done) × IsCanonAnswer text output
-Answers (Canon Hoa) budget text exit output = ⊥
+Answers (Canon Hoa) budget text exit output = (exit ≡ Done) × IsStreamCanonAnswer text output
 Answers (Solve player from) budget text exit output = (exit ≡ Done) × IsSolveAnswer text (asked_for player) from budget output
 Answers (Search from) budget text exit output = (exit ≡ Done) × IsSolveAnswer text way.Search from budget output
-Answers (Verify game) budget text exit output = IsVerifyAnswer game text exit output
+Answers (Verify game explain) budget text exit output = IsVerifyAnswer game explain text exit output
 Answers Empty budget text exit output = ⊥
 Answers Game budget text exit output = ⊥
 
 -- the command refuses the text by this refusal, with this budget
 abbrev pub Refuses : Command → ℕ → List ℕ → Refusal → Type 0
 Refuses (Show Pg) budget text refusal = IsRefusal text refusal
-Refuses (Show Hoa) budget text refusal = ⊥
+Refuses (Show Hoa) budget text refusal = IsStreamRefusal text refusal
 Refuses (Check Pg) budget text refusal = IsRefusal text refusal
-Refuses (Check Hoa) budget text refusal = ⊥
+Refuses (Check Hoa) budget text refusal = IsStreamRefusal text refusal
 Refuses (Canon Pg) budget text refusal = IsRefusal text refusal
-Refuses (Canon Hoa) budget text refusal = ⊥
+Refuses (Canon Hoa) budget text refusal = IsStreamRefusal text refusal
 Refuses (Solve player from) budget text refusal = IsSolveRefusal text (asked_for player) from budget refusal
 Refuses (Search from) budget text refusal = IsSolveRefusal text way.Search from budget refusal
-Refuses (Verify game) budget text refusal = IsVerifyRefusal game text refusal
+Refuses (Verify game explain) budget text refusal = IsVerifyRefusal game text refusal
 Refuses Empty budget text refusal = ⊥
 Refuses Game budget text refusal = ⊥
 
 -- the whole input was read, and this is the command's answer to it
-pub record Responds (command : Command) (budget : ℕ) (unread_before unread_after : Option (List ℕ)) (exit : Exit) (output : List ℕ) : Type 0 where
-  pub text : List ℕ
-  pub read : Consumes unread_before unread_after text
-  pub end : IsAtEnd unread_after
-  pub answers : Answers command budget text exit output
+abbrev pub Responds : Command → ℕ → (unread_before unread_after : Option (List ℕ)) → Exit → List ℕ → Type 0
+Responds command budget unread_before unread_after exit output =
+    ReadsWhole unread_before unread_after (λ text. Answers command budget text exit output)
 
 -- the input was read, to its end or past the limit, and the command refuses the text
-pub record RefusesText (command : Command) (budget : ℕ) (unread_before unread_after : Option (List ℕ)) (refusal : Refusal) : Type 0 where
-  pub text : List ℕ
-  pub read : IsRead unread_before unread_after text
-  pub refuses : Refuses command budget text refusal
+abbrev pub RefusesText : Command → ℕ → (unread_before unread_after : Option (List ℕ)) → Refusal → Type 0
+RefusesText command budget unread_before unread_after refusal =
+    ReadsText unread_before unread_after (λ text. Refuses command budget text refusal)
 
 -- why there is no answer: want of memory or a failed read or write, else the text was read and refused
 abbrev pub IsRunRefusal : Command → ℕ → Option (List ℕ) → Option (List ℕ) → Refusal → Type 0

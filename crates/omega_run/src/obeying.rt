@@ -39,8 +39,8 @@ pub fn obey<F: GameFiles, R: Input, W: Output, E: Output>(
             let outcome = run_command(alloc, &command, input, output, budget);
             report(alloc, outcome, errors)
         }
-        Ok(Line::Verify { file }) => {
-            let outcome = verify_file(alloc, file.as_str(), files, input, output);
+        Ok(Line::Verify { file, explain }) => {
+            let outcome = verify_file(alloc, file.as_str(), explain, files, input, output);
             report(alloc, outcome, errors)
         }
         Ok(Line::Help(text)) => {
@@ -59,18 +59,20 @@ pub fn obey<F: GameFiles, R: Input, W: Output, E: Output>(
 fn verify_file<F: GameFiles, R: Input, W: Output>(
     alloc: Global,
     file: &str,
+    explain: bool,
     files: &F,
     input: &mut R,
     output: &mut W,
 ) -> Result<Exit, Refusal>
     requires reads { R.failed input.old < 2 ^ 64 - 1 }
     requires writes { W.failed output.old < 2 ^ 64 - 1 }
-    ensures { Verifies (F.reads files.now file.now) (F.refuses files.now file.now) result
+    ensures { Verifies (F.reads files.now file.now) (F.refuses files.now file.now) explain result
         (streams (R.remaining input.old) (R.failed input.old) (W.contents output.old) (W.failed output.old))
         (streams (R.remaining input.new) (R.failed input.new) (W.contents output.new) (W.failed output.new)) }
 {
     let game = Seq::from_vec(files.read_file(alloc, file)?);
-    run_command(alloc, &Command::Verify { game }, input, output, MOST_LIFTS)
+    let command = Command::Verify { game, explain };
+    run_command(alloc, &command, input, output, MOST_LIFTS)
 }
 
 /// Writes a text that was asked for.

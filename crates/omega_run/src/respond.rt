@@ -4,7 +4,10 @@ ghost use Rattle.omega_command.specs.Line.{IsOffered};
 ghost use Rattle.omega_run.specs.Respond.{IsRunRefusal, Responds, asked_for};
 ghost use Rattle.omega_io.specs.Failures.{failures_of};
 
-use omega_answers::{Asked, canon_game, check_game, show_game, solve_game, verify_solution};
+use omega_answers::{
+    Asked, canon_game, canon_stream, check_game, check_stream, show_game, show_stream, solve_game,
+    verify_solution,
+};
 use omega_command::{Command, Format};
 use omega_game::Player;
 use omega_io::{Exit, Input, Refusal, read_all};
@@ -31,14 +34,17 @@ pub fn respond<R: Input>(
             let text = read_all(alloc, input)?;
             Ok((Exit::Done, show_game(alloc, text)?))
         }
+        Command::Show(Format::Hoa) => Ok((Exit::Done, show_stream(alloc, input)?)),
         Command::Check(Format::Pg) => {
             let text = read_all(alloc, input)?;
             Ok((Exit::Done, check_game(alloc, text)?))
         }
+        Command::Check(Format::Hoa) => Ok((Exit::Done, check_stream(alloc, input)?)),
         Command::Canon(Format::Pg) => {
             let text = read_all(alloc, input)?;
             Ok((Exit::Done, canon_game(alloc, text)?))
         }
+        Command::Canon(Format::Hoa) => Ok((Exit::Done, canon_stream(alloc, input)?)),
         Command::Solve { player, from } => {
             let text = read_all(alloc, input)?;
             let asked = asked_for(*player);
@@ -56,13 +62,10 @@ pub fn respond<R: Input>(
             )?;
             Ok((Exit::Done, made))
         }
-        Command::Verify { game } => {
+        Command::Verify { game, explain } => {
             let text = read_all(alloc, input)?;
-            verify_solution(alloc, game.as_slice(), text)
+            verify_solution(alloc, game.as_slice(), text, *explain)
         }
-        Command::Show(Format::Hoa) => unreachable!(),
-        Command::Check(Format::Hoa) => unreachable!(),
-        Command::Canon(Format::Hoa) => unreachable!(),
         Command::Empty => unreachable!(),
         Command::Game => unreachable!(),
     }

@@ -8,6 +8,8 @@ mod running;
 #[cfg(test)]
 mod solutions;
 #[cfg(test)]
+mod streams;
+#[cfg(test)]
 mod telling;
 #[cfg(test)]
 mod transfers;

@@ -135,7 +135,10 @@ fn verify_reads_its_input_before_it_judges_the_game(rt: HostRuntime) -> Result<(
         fails: true,
     });
     let mut output = ToWrite::new(Vec::new(rt.alloc()));
-    let command = Command::Verify { game };
+    let command = Command::Verify {
+        game,
+        explain: false,
+    };
     let outcome = run_command(rt.alloc(), &command, &mut input, &mut output, 9);
     assert_eq!(rt; outcome, Err(Refusal::Io));
     assert_eq!(rt; input.failures(), 1);

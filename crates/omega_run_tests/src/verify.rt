@@ -158,6 +158,66 @@ fn says_whether_solutions_are_right(rt: HostRuntime) -> Result<(), Fail> {
     Ok(())
 }
 
+/// Identifiers that are not their places: 3 and 9 lead to 20, which bears an odd priority and leads back to 9.
+const APART: &str = "20 3 1 9; 3 0 0 20; 9 0 1 20;";
+
+/// A game, a solution text, and what is written where it is explained.
+static EXPLAINED: [(&str, &str, &str); 8] = [
+    (THREE, "paritysol 2; 0 0 2; 1 0; 2 0;", "yes\n"),
+    (
+        THREE,
+        "paritysol 2; 0 0 1; 1 0; 2 0;",
+        "no\nplayer 0\nstem\ncycle 1 0\n",
+    ),
+    (
+        AHEAD,
+        "paritysol 1; 0 0 1; 1 1;",
+        "no\nplayer 0\nstem 0\ncycle 1\n",
+    ),
+    (
+        "0 0 0 0;",
+        "paritysol 0; 0 1;",
+        "no\nplayer 1\nstem\ncycle 0\n",
+    ),
+    // Both players lose from the node that is given to them.
+    (
+        EVEN_AND_ODD,
+        "paritysol 1; 0 1; 1 0 1;",
+        "no\nplayer 0\nstem\ncycle 1\n",
+    ),
+    (
+        WAY,
+        "paritysol 6; 0 0 1; 1 1 2; 2 0 3; 3 1 4; 4 1; 5 1; 6 1;",
+        "no\nplayer 0\nstem 2 3 4\ncycle 5\n",
+    ),
+    (
+        APART,
+        "paritysol 20; 3 0 20; 9 1 20; 20 1 9;",
+        "no\nplayer 0\nstem 3\ncycle 20 9\n",
+    ),
+    (APART, "paritysol 20; 3 1; 9 1 20; 20 1 9;", "yes\n"),
+];
+
+#[test]
+fn explains_why_a_solution_is_not_right(rt: HostRuntime) -> Result<(), Fail> {
+    for (game, text, output) in EXPLAINED.as_slice() {
+        let file = OneFile {
+            name: "g",
+            text: game.as_bytes(),
+        };
+        let asked = "verify --game g --explain";
+        let left = omega_with_file(rt.alloc(), asked, &file, text.as_bytes())?;
+        let status = if *output == "yes\n" { 0 } else { 6 };
+        assert_eq!(rt; left.status, status, "{game} {text}");
+        assert!(rt;
+            left.output.as_slice() == output.as_bytes(),
+            "{game} {text}"
+        );
+        assert!(rt; left.error.is_empty(), "{game} {text}");
+    }
+    Ok(())
+}
+
 #[test]
 fn refuses_what_is_no_solution(rt: HostRuntime) -> Result<(), Fail> {
     for (game, text, line) in REFUSALS.as_slice() {

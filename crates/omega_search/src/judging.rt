@@ -1,5 +1,6 @@
-//! Whether what a search suggests is right. Each player's choices are judged by the checker of strategies; since no node
-//! is in the regions of both players, winners that are accepted are exact.
+//! Whether what a search suggests is right. Each player's choices are judged by the checker of strategies, by an order of
+//! the places that the search suggests too; since no node is in the regions of both players, winners that are accepted
+//! are exact.
 ghost use Rattle.std.specs.Prelude.{◌≡◌, ◌↔◌, ◌<◌, ◌^◌, length, All, IfOk, IfSome, IsOkUnless, IsTrue};
 ghost use Rattle.omega_game.specs.Winning.{IsStrategy};
 ghost use Rattle.omega_search.specs.Regions.{AreRegions};
@@ -7,7 +8,7 @@ ghost use Rattle.omega_search.specs.judging.Judging.{ChoosesWhereWon, HasPlaces,
 
 use crate::regions::Regions;
 use crate::searching::Suggestion;
-use omega_game::{Game, Player, Refusal, Seq, Strategy, check_strategy_fast};
+use omega_game::{Game, Player, Refusal, Seq, Strategy, check_strategy_by_order};
 use omega_region::regions_are_apart;
 use std::alloc::{AllocError, Global};
 
@@ -22,13 +23,31 @@ pub(crate) fn judged(
 {
     regions_are_apart();
     game.keeps_limits();
-    let Suggestion { winners, moves } = suggestion;
+    let Suggestion {
+        winners,
+        moves,
+        order,
+    } = suggestion;
     let winners = Seq::from_vec(winners);
-    let zero = match accepted(alloc, game, Player::Zero, &winners, moves.as_slice())? {
+    let zero = match accepted(
+        alloc,
+        game,
+        Player::Zero,
+        &winners,
+        moves.as_slice(),
+        order.as_slice(),
+    )? {
         Some(strategy) => strategy,
         None => return Ok(None),
     };
-    let one = match accepted(alloc, game, Player::One, &winners, moves.as_slice())? {
+    let one = match accepted(
+        alloc,
+        game,
+        Player::One,
+        &winners,
+        moves.as_slice(),
+        order.as_slice(),
+    )? {
         Some(strategy) => strategy,
         None => return Ok(None),
     };
@@ -42,6 +61,7 @@ fn accepted(
     player: Player,
     winners: &Seq<Player>,
     moves: &[u32],
+    order: &[u32],
 ) -> Result<Option<Strategy>, Refusal>
     ensures accepted { IfOk result (λ found. IfSome found (λ strategy. IsAccepted game.now player winners.now strategy.choice)) }
     ensures memory { IsOkUnless result Refusal.Memory }
@@ -51,7 +71,7 @@ fn accepted(
         return Ok(None);
     }
     let strategy = strategy_of(alloc, game, player, given, moves)?;
-    if !strategy.fits(game, player) || !wins_given(alloc, game, player, given, &strategy)? {
+    if !strategy.fits(game, player) || !wins_given(alloc, game, player, given, &strategy, order)? {
         return Ok(None);
     }
     Ok(Some(strategy))
@@ -81,13 +101,14 @@ fn strategy_of(
     })
 }
 
-/// Whether the player's strategy wins from all places given to the player.
+/// Whether an order shows that the player's strategy wins from all places given to the player.
 fn wins_given(
     alloc: Global,
     game: &Game,
     player: Player,
     winners: &[Player],
     strategy: &Strategy,
+    order: &[u32],
 ) -> Result<bool, Refusal>
     requires winners { length winners.now ≡ length game.now }
     requires strategy { IsStrategy game.now player strategy.now.choice }
@@ -96,10 +117,7 @@ fn wins_given(
 {
     game.keeps_limits();
     let places = places_of(alloc, player, winners)?;
-    match check_strategy_fast(alloc, game, player, places.as_slice(), strategy)? {
-        Some(answer) => Ok(answer),
-        None => Ok(false),
-    }
+    check_strategy_by_order(alloc, game, player, places.as_slice(), strategy, order)
 }
 
 /// The places given to the player.

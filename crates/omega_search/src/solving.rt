@@ -15,8 +15,8 @@ const FUEL: u64 = 64;
 ///
 /// The search is Zielonka's recursive algorithm with attractors (Zielonka 1998; van Dijk 2018), which takes exponential
 /// time at worst. So it visits at most about 64 · (n + m) · log (n + m) edges, for n nodes and m edges, and then gives
-/// up; no game of any practice is known where it does. What it suggests is judged in the time of `check_strategy_fast`.
-/// Another run gives the same.
+/// up; no game of any practice is known where it does. It suggests an order of the places with its answer, by
+/// which this is judged in the time n + m. Another run gives the same.
 pub fn solve_by_search(alloc: Global, game: &Game) -> Result<Option<Regions>, Refusal>
     ensures exact { IfOk result (λ found. IfSome found (AreRegions game.now)) }
     ensures memory { IsOkUnless result Refusal.Memory }

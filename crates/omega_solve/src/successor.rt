@@ -1,6 +1,6 @@
 ghost use Rattle.std.specs.Prelude.{◌≡◌, ◌≢◌, ◌↔◌, ◌<◌, ℕ, length, IsTrue, MatchBool, MatchOption};
 ghost use Rattle.std.specs.declared.cmp.Ordering.TheVariants.{Equal};
-ghost use Rattle.omega_game.specs.Game.{IsGame, owner_at, priority_at, successors_at};
+ghost use Rattle.omega_game.specs.Game.{IsGame, owner_at, priorities, priority_at, successors_at};
 ghost use Rattle.omega_lift.specs.Run.{IsDue};
 ghost use Rattle.omega_solve.specs.solving.Successor.{ExceedsToAll, IsChoiceAt, IsDueTowards, IsFirstBest, IsTableOf, KeepsToSome, order_from};
 
@@ -96,17 +96,17 @@ fn best_successor<T: MeasureTable>(game: &Game, table: &T, place: u32, wanted: O
     requires inside { place < length game.now }
     requires game { IsGame game.now }
     requires entries { length (T.content table.now).measures ≡ length game.now }
+    requires priorities { (T.content table.now).priorities ≡ priorities game.now }
     requires wanted { wanted ≢ Equal }
     ensures { let successors = successors_at game.now place in
         IsFirstBest (order_from (T.content table.now) (priority_at game.now place)) wanted successors (length successors) result }
 {
     measures_are_ordered();
-    let priority = game.priority(place);
     let successors = game.successors(place);
     let mut best = successors[0];
     for index in 1..successors.len() {
         let successor = successors[index];
-        if table.compare(successor, best, priority) == wanted {
+        if table.compare_for(place, successor, best) == wanted {
             best = successor;
         }
     }

@@ -2,6 +2,7 @@
 pub mod Completion
 pub mod Exact
 pub mod Gaps
+pub mod Last
 pub mod Laws
 pub mod Longest
 pub mod Numbers

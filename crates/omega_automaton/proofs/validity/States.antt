@@ -71,11 +71,7 @@ pub record IsStateWell (a : Description) (raw : RawState) : Type 0 where
   pub sets : is_marked (nat_le a.sets) raw ≡ false
   pub labels : is_labelled (is_beyond (length a.propositions)) raw ≡ false
 
--- three facts of each item are one of each
-together : {X : Type 0} (P Q R : X → Type 0) (xs : List X) → All P xs → All Q xs → All R xs → All (λ x. P x × Q x × R x) xs
-together P Q R xs one other third = λ k d within. (one k d within, other k d within, third k d within)
-
--- its edges are
+-- has edges without these faults
 edges_well : (a : Description) (raw : RawState) → IsStateWell a raw → All (IsEdgeWell a) raw.edges
 edges_well a raw well =
     let targets = all_fail (λ edge. are_out_of_range a.states edge.targets) raw.edges (neither _ _ well.states).1 in
@@ -83,7 +79,7 @@ edges_well a raw well =
     let labels = all_fail (λ edge. passes (is_beyond (length a.propositions)) edge.label) raw.edges (neither _ _ well.labels).1 in
     λ k d within. record { targets = targets k d within; marks = marks k d within; label = labels k d within }
 
--- is a state of the automaton
+-- and is a state of the automaton
 pub state_well : (a : Description) (definitions : List Defined) → AreWithin (length a.propositions) definitions
     → (raw : RawState) (state : State) → IsStateWell a raw → IsStateOf definitions raw state → IsState a state
 state_well a definitions bodies raw state well is =

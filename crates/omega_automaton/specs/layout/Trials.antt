@@ -1,5 +1,5 @@
 -- What is asked of labels with their aliases replaced: which fault they would have, and how large they are together.
-use Rattle.std.specs.Prelude.{ℕ, ◌+◌, Bool, List, Option, is_none, is_some, min}
+use Rattle.std.specs.Prelude.{◌≡◌, ℕ, ◌+◌, Bool, false, true, List, Option, None, Some, is_none, is_some, min}
 use Rattle.std.specs.List.{list_any}
 use Rattle.omega_acc.specs.Expanding.{Defined, Meaning, expansion, fault_of_meaning}
 use Rattle.omega_raw.specs.declared.raw_state.RawState.{RawState}
@@ -25,3 +25,8 @@ labels_pass test definitions states = list_any (is_labelled (λ label. test (exp
 -- a size as it is counted: exact up to the limit, and one more beyond
 abbrev pub capped : ℕ → ℕ
 capped size = min size (most_total_size + 1)
+
+-- a size that is known is exact up to the limit, and none is known exactly where a label has a fault
+abbrev pub IsSized : Bool → ℕ → Option ℕ → Type 0
+IsSized faulty size None = faulty ≡ true
+IsSized faulty size (Some known) = (faulty ≡ false) × (known ≡ capped size)

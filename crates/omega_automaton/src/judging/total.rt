@@ -1,10 +1,10 @@
-ghost use Rattle.std.specs.Prelude.{◌≡◌, ◌+◌, ◌<◌, ◌≤◌, ◌^◌, false, nat_lt, sum_by, IfErr, IfOk};
+ghost use Rattle.std.specs.Prelude.{◌≡◌, ◌+◌, ◌<◌, ◌≤◌, ◌^◌, Some, sum_by, IfErr, IfOk};
 ghost use Rattle.std.specs.List.{list_any};
 ghost use Rattle.omega_acc.specs.Depth.{IsMemory};
 ghost use Rattle.omega_acc.specs.Expanding.{expansion};
 ghost use Rattle.omega_automaton.specs.Faults.{is_labelled, label_total, passes, size_under};
 ghost use Rattle.omega_automaton.specs.Limits.{most_total_size};
-ghost use Rattle.omega_automaton.specs.layout.Trials.{capped as capped_size, is_faulty, labels_pass};
+ghost use Rattle.omega_automaton.specs.layout.Trials.{IsSized, capped as capped_size, is_faulty, labels_pass};
 
 use crate::limits::MOST_TOTAL_SIZE;
 use omega_acc::{Aliases, RawLabel, expanded_size};
@@ -12,77 +12,80 @@ use omega_raw::{RawEdge, RawState};
 use omega_text::Refusal;
 use std::alloc::Global;
 
-/// Whether the labels of the body, their aliases replaced, have more tree nodes together than the limit. None has a fault.
-pub(crate) fn is_total_large(
+/// The tree nodes of the labels of the body together, their aliases replaced, counted up to one more than the limit. None
+/// where a label has a fault.
+pub(crate) fn total_size(
     alloc: Global,
     states: &[RawState],
     aliases: &Aliases,
-) -> Result<bool, Refusal>
-    requires { labels_pass is_faulty aliases.now states.now ≡ false }
-    ensures ok { IfOk result (λ large. large ≡ nat_lt most_total_size (sum_by (label_total aliases.now) states.now)) }
-    ensures err { IfErr result IsMemory }
-{
-    let size = states_size(alloc, states, aliases)?;
-    Ok(MOST_TOTAL_SIZE < size)
-}
-
-/// The tree nodes of the labels of states, counted up to one more than the limit.
-fn states_size(alloc: Global, states: &[RawState], aliases: &Aliases) -> Result<u64, Refusal>
-    requires { labels_pass is_faulty aliases.now states.now ≡ false }
-    ensures ok { IfOk result (λ size. size ≡ capped_size (sum_by (label_total aliases.now) states.now)) }
+) -> Result<Option<u64>, Refusal>
+    ensures ok { IfOk result (λ size. IsSized (labels_pass is_faulty aliases.now states.now) (sum_by (label_total aliases.now) states.now) size) }
     ensures err { IfErr result IsMemory }
 {
     let mut size = 0u64;
     for state in states {
-        size = capped(size, state_size(alloc, state, aliases)?);
+        let Some(more) = state_size(alloc, state, aliases)? else {
+            return Ok(None);
+        };
+        size = capped(size, more);
     }
-    Ok(size)
+    Ok(Some(size))
 }
 
-/// The tree nodes of the labels of a state and of its edges, counted up to one more than the limit.
-fn state_size(alloc: Global, state: &RawState, aliases: &Aliases) -> Result<u64, Refusal>
-    requires { is_labelled (λ label. is_faulty (expansion aliases.now label)) state.now ≡ false }
-    ensures ok { IfOk result (λ size. size ≡ capped_size (label_total aliases.now state.now)) }
+/// The same of the labels of a state and of its edges.
+fn state_size(alloc: Global, state: &RawState, aliases: &Aliases) -> Result<Option<u64>, Refusal>
+    ensures ok { IfOk result (λ size. IsSized (is_labelled (λ label. is_faulty (expansion aliases.now label)) state.now) (label_total aliases.now state.now) size) }
     ensures err { IfErr result IsMemory }
 {
-    let own = label_size(alloc, &state.label, aliases)?;
-    let edges = edges_size(alloc, state.edges.as_slice(), aliases)?;
-    Ok(capped(own, edges))
+    let Some(own) = label_size(alloc, &state.label, aliases)? else {
+        return Ok(None);
+    };
+    let Some(edges) = edges_size(alloc, state.edges.as_slice(), aliases)? else {
+        return Ok(None);
+    };
+    Ok(Some(capped(own, edges)))
 }
 
-/// The tree nodes of the labels of edges, counted up to one more than the limit.
-fn edges_size(alloc: Global, edges: &[RawEdge], aliases: &Aliases) -> Result<u64, Refusal>
-    requires { list_any (λ edge. passes (λ label. is_faulty (expansion aliases.now label)) edge.label) edges.now ≡ false }
-    ensures ok { IfOk result (λ size. size ≡ capped_size (sum_by (λ edge. size_under aliases.now edge.label) edges.now)) }
+/// The same of the labels of edges.
+fn edges_size(alloc: Global, edges: &[RawEdge], aliases: &Aliases) -> Result<Option<u64>, Refusal>
+    ensures ok { IfOk result (λ size. IsSized (list_any (λ edge. passes (λ label. is_faulty (expansion aliases.now label)) edge.label) edges.now) (sum_by (λ edge. size_under aliases.now edge.label) edges.now) size) }
     ensures err { IfErr result IsMemory }
 {
     let mut size = 0u64;
     for edge in edges {
-        size = capped(size, label_size(alloc, &edge.label, aliases)?);
+        let Some(more) = label_size(alloc, &edge.label, aliases)? else {
+            return Ok(None);
+        };
+        size = capped(size, more);
     }
-    Ok(size)
+    Ok(Some(size))
 }
 
-/// The tree nodes of a label without a fault, counted up to one more than the limit, 0 where there is no label.
-fn label_size(alloc: Global, label: &Option<RawLabel>, aliases: &Aliases) -> Result<u64, Refusal>
-    requires { passes (λ label. is_faulty (expansion aliases.now label)) label.now ≡ false }
-    ensures ok { IfOk result (λ size. size ≡ capped_size (size_under aliases.now label.now)) }
+/// The same of a label, 0 where there is none.
+fn label_size(
+    alloc: Global,
+    label: &Option<RawLabel>,
+    aliases: &Aliases,
+) -> Result<Option<u64>, Refusal>
+    ensures ok { IfOk result (λ size. IsSized (passes (λ label. is_faulty (expansion aliases.now label)) label.now) (size_under aliases.now label.now) size) }
     ensures err { IfErr result IsMemory }
 {
     match label {
         Some(label) => known_size(alloc, label, aliases),
-        None => Ok(0),
+        None => Ok(Some(0)),
     }
 }
 
-/// The tree nodes of a label without a fault, counted up to one more than the limit.
-fn known_size(alloc: Global, label: &RawLabel, aliases: &Aliases) -> Result<u64, Refusal>
-    requires { is_faulty (expansion aliases.now label.now) ≡ false }
-    ensures ok { IfOk result (λ size. size ≡ capped_size (size_under aliases.now (Some label.now))) }
+/// The same of a label that is there.
+fn known_size(alloc: Global, label: &RawLabel, aliases: &Aliases) -> Result<Option<u64>, Refusal>
+    ensures ok { IfOk result (λ size. IsSized (is_faulty (expansion aliases.now label.now)) (size_under aliases.now (Some label.now)) size) }
     ensures err { IfErr result IsMemory }
 {
-    let size = expanded_size(alloc, label, aliases)?;
-    Ok(capped(0, u64::from(size)))
+    match expanded_size(alloc, label, aliases) {
+        Ok(size) => Ok(Some(capped(0, u64::from(size)))),
+        Err(Refusal::Automaton(_)) => Ok(None),
+        Err(_) => Err(Refusal::Memory),
+    }
 }
 
 /// The sum of two sizes, counted up to one more than the limit.

@@ -3,7 +3,7 @@ use clap::{Arg, ArgAction};
 use std::alloc::Global;
 
 /// The formats that are offered.
-static FORMATS: [&str; 1] = ["pg"];
+static FORMATS: [&str; 2] = ["pg", "hoa"];
 
 /// The option that says what kind of text is read.
 pub fn format_option<'a>(alloc: Global) -> Arg<'a> {
@@ -12,7 +12,9 @@ pub fn format_option<'a>(alloc: Global) -> Arg<'a> {
         .value_name("FORMAT")
         .required(true)
         .value_parser(FORMATS.as_slice())
-        .help("The kind of text: pg, a game in the text of PGSolver")
+        .help(
+            "The kind of text: pg, a game in the text of PGSolver; hoa, omega-automata in the Hanoi format",
+        )
 }
 
 /// The option that names the file of a game.
@@ -45,6 +47,14 @@ pub fn search_option<'a>(alloc: Global) -> Arg<'a> {
         .long("search")
         .action(ArgAction::SetTrue)
         .help("Solve by a search whose answer is judged, which is far quicker on large games")
+}
+
+/// The flag that asks why a solution is not right.
+pub fn explain_option<'a>(alloc: Global) -> Arg<'a> {
+    Arg::new(alloc, "explain")
+        .long("explain")
+        .action(ArgAction::SetTrue)
+        .help("Write after `no` a walk on which a player loses")
 }
 
 /// The option that bounds the work.

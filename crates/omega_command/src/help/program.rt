@@ -18,6 +18,15 @@ that no identifier exceeds may come first. At each node its owner chooses a succ
 player 0 wins where the greatest priority that comes again and again is even, player 1 where it is
 odd.
 
+A text of the Hanoi format, version 1, holds omega-automata, one behind the other:
+
+  HOA: v1 States: 1 Start: 0 AP: 1 \"a\" acc-name: Buchi Acceptance: 1 Inf(0)
+  --BODY-- State: 0 [0] 0 {0} [!0] 0 --END--
+
+Here one state has two edges to itself: one where a holds, which is in set 0, and one where it does
+not; what takes the first again and again is accepted. `omega show`, `check` and `canon` read both
+formats, and --format says which.
+
 What is read comes from standard input, and the answer goes to standard output. Where a text or the
 task is refused, one line on standard error says why, as `omega: 3 Syntax at 0` for a text that
 is no game from its first byte on. Bytes are counted from 0.
@@ -37,7 +46,9 @@ Exit status:
 pub fn whole_program<'a>(alloc: Global) -> Result<Command<'a>, AllocError> {
     Command::new(alloc, "omega")
         .bin_name("omega")?
-        .about("Reads, checks, writes and solves parity games, and verifies their solutions.")
+        .about(
+            "Reads, checks and writes parity games and omega-automata, solves games, and verifies their solutions.",
+        )
         .after_help(DETAILS)
         .subcommand_required(true)
         .disable_help_subcommand(true)

@@ -1,4 +1,4 @@
-use super::options::game_option;
+use super::options::{explain_option, game_option};
 use clap::Command;
 use std::alloc::{AllocError, Global};
 
@@ -10,11 +10,18 @@ for each player the choices of the solution win from all the nodes that it gives
   $ echo '0 0 0 1,2; 1 1 1 0; 2 2 1 0;' > game.pg
   $ echo 'paritysol 2; 0 0 2; 1 0; 2 0;' | omega verify --game game.pg
   yes
-  $ echo 'paritysol 2; 0 0 1; 1 0; 2 0;' | omega verify --game game.pg
+  $ echo 'paritysol 2; 0 0 1; 1 0; 2 0;' | omega verify --game game.pg --explain
   no
+  player 0
+  stem
+  cycle 1 0
 
 In the second solution player 0 moves from node 0 to node 1, back to it, and so on, and the greatest
 priority on the way is 1, which is odd.
+
+With --explain three lines follow `no`: the first player whose choices do not win, and the nodes of a
+walk that they leave possible from a node given to that player. From the last node of the cycle the
+walk goes back to the first; the greatest priority on the cycle loses for the player.
 
 A solution text is what `omega solve` writes: a header with the greatest identifier of the game, then
 a line for each node in rising order of identifiers, with the player who wins from it and, exactly
@@ -30,5 +37,6 @@ pub fn verify_command<'a>(alloc: Global) -> Result<Command<'a>, AllocError> {
     Command::new(alloc, "verify")
         .about("Say whether a solution of a game is right")
         .after_help(DETAILS)
-        .arg(game_option(alloc))
+        .arg(game_option(alloc))?
+        .arg(explain_option(alloc))
 }

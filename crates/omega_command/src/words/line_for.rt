@@ -1,6 +1,6 @@
-ghost use Rattle.std.specs.Prelude.{◌≡◌, Some, IfOk, IfErr};
+ghost use Rattle.std.specs.Prelude.{◌≡◌, Bool, Some, IfOk, IfErr, MatchOption};
 ghost use Rattle.omega_text.specs.Limits.{most_number};
-ghost use Rattle.omega_command.specs.CommandLine.{Asks, Gives, GivesBudget, GivesFlag, IsFaulty, IsFormatText, IsMistake, IsNumberText, IsPlayerText, text_of};
+ghost use Rattle.omega_command.specs.CommandLine.{Asks, Gives, GivesBudget, GivesFlag, IsFaulty, IsFormatText, IsMistake, IsNumberText, IsPlayerText, IsTruthText, text_of};
 ghost use Rattle.omega_command.specs.declared.words.options.OptionName.TheVariants as name;
 
 use super::mistake::{Mistake, Reason};
@@ -48,8 +48,9 @@ pub fn line_for<'a>(
         let Some(name) = options.game else {
             return Err(Mistake::Missing(OptionName::Game));
         };
+        let explain = is_explained(options)?;
         return match String::from_str(alloc, name) {
-            Ok(file) => Ok(Line::Verify { file }),
+            Ok(file) => Ok(Line::Verify { file, explain }),
             Err(_) => Err(Mistake::Memory),
         };
     }
@@ -65,6 +66,8 @@ fn format_in<'a>(options: &Options<'a>) -> Result<Format, Mistake<'a>>
     };
     if text == "pg" {
         Ok(Format::Pg)
+    } else if text == "hoa" {
+        Ok(Format::Hoa)
     } else {
         Err(Mistake::Value(OptionName::Format, text, Reason::NoFormat))
     }
@@ -104,12 +107,36 @@ fn is_search<'a>(options: &Options<'a>) -> Result<bool, Mistake<'a>>
     let Some(text) = options.search else {
         return Ok(false);
     };
+    match truth_in(text) {
+        Some(flag) => Ok(flag),
+        None => Err(Mistake::Value(OptionName::Search, text, Reason::NoTruth)),
+    }
+}
+
+/// Whether a `no` is explained.
+fn is_explained<'a>(options: &Options<'a>) -> Result<bool, Mistake<'a>>
+    ensures given { IfOk result (GivesFlag (text_of name.Explain options.now)) }
+    ensures faulty { IfErr result (IsFaulty name.Explain options.now) }
+{
+    let Some(text) = options.explain else {
+        return Ok(false);
+    };
+    match truth_in(text) {
+        Some(flag) => Ok(flag),
+        None => Err(Mistake::Value(OptionName::Explain, text, Reason::NoTruth)),
+    }
+}
+
+/// What the text of a flag says, if it says anything.
+fn truth_in(text: &str) -> Option<bool>
+    ensures { MatchOption result ((flag : Bool) → IsTruthText text.now flag → ⊥) (IsTruthText text.now) }
+{
     if text == "true" {
-        Ok(true)
+        Some(true)
     } else if text == "false" {
-        Ok(false)
+        Some(false)
     } else {
-        Err(Mistake::Value(OptionName::Search, text, Reason::NoTruth))
+        None
     }
 }
 

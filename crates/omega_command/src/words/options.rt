@@ -14,6 +14,7 @@ pub enum OptionName {
     Budget,
     Search,
     Game,
+    Explain,
 }
 
 impl fmt::Display for OptionName {
@@ -25,6 +26,7 @@ impl fmt::Display for OptionName {
             OptionName::Budget => "--budget <N>",
             OptionName::Search => "--search",
             OptionName::Game => "--game <FILE>",
+            OptionName::Explain => "--explain",
         })
     }
 }
@@ -39,6 +41,8 @@ pub struct Options<'a> {
     /// `true` where the flag is given; `clap` may say `false` where it is not.
     pub search: Option<&'a str>,
     pub game: Option<&'a str>,
+    /// As `search`.
+    pub explain: Option<&'a str>,
 }
 
 impl<'a> Options<'a> {
@@ -53,6 +57,7 @@ impl<'a> Options<'a> {
             budget: found.get_str("budget"),
             search: found.get_str("search"),
             game: found.get_str("game"),
+            explain: found.get_str("explain"),
         }
     }
 }

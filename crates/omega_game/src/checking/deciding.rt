@@ -1,36 +1,37 @@
 //! Whether no place that is reached bears a losing priority and recurs: suggested by a fast search, checked, and else
 //! tested plainly.
-ghost use Rattle.std.specs.Prelude.{◌≡◌, ◌↔◌, ℕ, ◌<◌, length, vec_len, IfOk, IfSome, IsTrue};
+ghost use Rattle.std.specs.Prelude.{◌≡◌, ℕ, ◌<◌, length, vec_len, IfOk, IfSome, IsTrue};
+ghost use Rattle.omega_game.specs.checking.Decision.{IsLosingPlace, IsRight};
 ghost use Rattle.omega_game.specs.checking.Reaching.{LeadsInside, AreClosed};
-ghost use Rattle.omega_game.specs.checking.Recurring.{NoneRecurs};
 
 use crate::checking::components::Edge;
+use crate::checking::decision::Decision;
 use crate::checking::nesting::{Finding, search_nested};
 use crate::checking::ordering::shows_none;
-use crate::checking::recurring::{none_recurs, recurs};
+use crate::checking::recurring::{decide_plainly, recurs};
 use crate::game::Game;
 use crate::player::Player;
 use crate::reaching::edges_left;
 use std::alloc::{AllocError, Global};
 
-/// Whether no marked place of a priority that loses for the player recurs.
+/// Decides whether no marked place of a priority that loses for the player recurs.
 pub(crate) fn decide(
     alloc: Global,
     game: &Game,
     player: Player,
     choices: &[Option<u32>],
     marks: &[bool],
-) -> Result<bool, AllocError>
+) -> Result<Decision, AllocError>
     requires count { length marks.now ≡ length game.now }
     requires choices { LeadsInside game.now choices.now }
     requires closed { AreClosed game.now choices.now marks.now }
-    ensures none { IfOk result (λ answer. IsTrue answer ↔ NoneRecurs game.now player choices.now marks.now) }
+    ensures right { IfOk result (IsRight game.now player choices.now marks.now) }
 {
-    if let Some(answer) = decide_fast(alloc, game, player, choices, marks)? {
-        return Ok(answer);
+    if let Some(decision) = decide_fast(alloc, game, player, choices, marks)? {
+        return Ok(decision);
     }
-    let answer = none_recurs(alloc, game, player, choices, marks)?;
-    Ok(answer)
+    let decision = decide_plainly(alloc, game, player, choices, marks)?;
+    Ok(decision)
 }
 
 /// The same where what the fast search suggests is confirmed, else none.
@@ -40,22 +41,22 @@ pub(crate) fn decide_fast(
     player: Player,
     choices: &[Option<u32>],
     marks: &[bool],
-) -> Result<Option<bool>, AllocError>
+) -> Result<Option<Decision>, AllocError>
     requires count { length marks.now ≡ length game.now }
     requires choices { LeadsInside game.now choices.now }
     requires closed { AreClosed game.now choices.now marks.now }
-    ensures none { IfOk result (λ found. IfSome found (λ answer. IsTrue answer ↔ NoneRecurs game.now player choices.now marks.now)) }
+    ensures right { IfOk result (λ found. IfSome found (IsRight game.now player choices.now marks.now)) }
 {
     let finding = suggest(alloc, game, player, choices, marks)?;
     match finding {
         Finding::Recurring(place) => {
             if loses_at(alloc, game, player, choices, marks, place)? {
-                return Ok(Some(false));
+                return Ok(Some(Decision::Loses(place)));
             }
         }
         Finding::Order(order) => {
             if shows_none(alloc, game, player, choices, marks, order.as_slice())? {
-                return Ok(Some(true));
+                return Ok(Some(Decision::Wins));
             }
         }
     }
@@ -73,7 +74,7 @@ fn loses_at(
 ) -> Result<bool, AllocError>
     requires count { length marks.now ≡ length game.now }
     requires choices { LeadsInside game.now choices.now }
-    ensures loses { IfOk result (λ answer. IsTrue answer → ¬ NoneRecurs game.now player choices.now marks.now) }
+    ensures loses { IfOk result (λ answer. IsTrue answer → IsLosingPlace game.now player choices.now marks.now place) }
 {
     if place as usize >= game.len() || !marks[place as usize] {
         return Ok(false);

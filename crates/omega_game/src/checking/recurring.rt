@@ -1,8 +1,10 @@
 //! The plain test: whether a place that is reached bears a losing priority and recurs.
 ghost use Rattle.std.specs.Prelude.{◌≡◌, ◌↔◌, ℕ, ◌<◌, length, IfOk, IsTrue};
+ghost use Rattle.omega_game.specs.checking.Decision.{IsRight};
 ghost use Rattle.omega_game.specs.checking.Reaching.{LeadsInside};
-ghost use Rattle.omega_game.specs.checking.Recurring.{NoneRecurs, Recurs};
+ghost use Rattle.omega_game.specs.checking.Recurring.{Recurs};
 
+use crate::checking::decision::Decision;
 use crate::game::Game;
 use crate::player::Player;
 use crate::reaching::{edges_left, reached_from};
@@ -24,23 +26,23 @@ pub(crate) fn recurs(
     Ok(marks[place as usize])
 }
 
-/// Whether no marked place of a priority that loses for the player recurs. One search for each such place.
-pub(crate) fn none_recurs(
+/// Decides whether no marked place of a priority that loses for the player recurs. One search for each such place.
+pub(crate) fn decide_plainly(
     alloc: Global,
     game: &Game,
     player: Player,
     choices: &[Option<u32>],
     marks: &[bool],
-) -> Result<bool, AllocError>
+) -> Result<Decision, AllocError>
     requires count { length marks.now ≡ length game.now }
     requires choices { LeadsInside game.now choices.now }
-    ensures none { IfOk result (λ answer. IsTrue answer ↔ NoneRecurs game.now player choices.now marks.now) }
+    ensures right { IfOk result (IsRight game.now player choices.now marks.now) }
 {
     for place in 0..game.len() as u32 {
         let losing = marks[place as usize] && player.loses(game.priority(place));
         if losing && recurs(alloc, game, choices, place)? {
-            return Ok(false);
+            return Ok(Decision::Loses(place));
         }
     }
-    Ok(true)
+    Ok(Decision::Wins)
 }

@@ -1,9 +1,8 @@
 use super::{Told, told};
 use omega_hoa::{read_one, read_stream};
-use std::test::Fail;
 
 // Texts, and what each is answered as that of one automaton.
-const ALONE: [(&str, Told); 12] = [
+const ALONE: [(&str, Told); 15] = [
     ("", (3, Some(0))),
     ("  ", (3, Some(2))),
     ("x", (3, Some(0))),
@@ -19,21 +18,34 @@ const ALONE: [(&str, Told); 12] = [
     ("x $", (1, Some(2))),
     ("HOA: v2 --BODY-- --END-- $", (1, Some(25))),
     ("HOA: 00 $", (2, Some(5))),
+    // A segment's syntax, then a token behind it, then its meaning.
+    ("HOA: v2 ( --BODY-- --END-- x", (3, Some(8))),
+    ("HOA: v2 --BODY-- --END-- x", (3, Some(25))),
+    ("HOA: v2 --BODY-- --END--", (20, None)),
 ];
 
 #[test]
 fn texts_of_no_automaton_are_refused(rt: HostRuntime) {
     for (text, want) in ALONE.iter() {
-        assert_eq!(rt; told(read_one(rt.alloc(), text.as_bytes())), *want);
+        assert_eq!(rt;
+            told(read_one(rt.alloc(), text.as_bytes())),
+            *want,
+            "{text}"
+        );
     }
 }
 
 // Texts, and what each is answered as that of a stream.
-const STREAMS: [(&str, Told); 12] = [
+const STREAMS: [(&str, Told); 16] = [
     ("", (0, None)),
     (" /* */ ", (0, None)),
     ("HOA: --ABORT--", (0, None)),
     ("HOA: HOA: State: ( --ABORT--HOA: --ABORT--", (0, None)),
+    // All kinds of tokens but a mark that ends a segment.
+    (
+        "HOA: v1 HOA: State: Foo: word t f 7 @a \"a\\\"\" ! & | ( ) [ ] { } --BODY-- --BODY-- /* */ --ABORT--",
+        (0, None),
+    ),
     ("x", (3, Some(0))),
     ("HOA: --ABORT-- x $", (3, Some(15))),
     ("HOA: --ABORT-- $ x", (1, Some(15))),
@@ -42,12 +54,19 @@ const STREAMS: [(&str, Told); 12] = [
     ("HOA: \"", (1, Some(5))),
     ("HOA: x", (3, Some(6))),
     ("--END--", (3, Some(0))),
+    // The first refused segment decides.
+    ("HOA: v2 --BODY-- --END-- $", (20, None)),
+    ("HOA: v2 --BODY-- --END-- x", (20, None)),
+    ("HOA: v2 $ --BODY-- --END--", (1, Some(8))),
 ];
 
 #[test]
-fn streams_are_read(rt: HostRuntime) -> Result<(), Fail> {
+fn streams_are_read(rt: HostRuntime) {
     for (text, want) in STREAMS.iter() {
-        assert_eq!(rt; told(read_stream(rt.alloc(), text.as_bytes())), *want);
+        assert_eq!(rt;
+            told(read_stream(rt.alloc(), text.as_bytes())),
+            *want,
+            "{text}"
+        );
     }
-    Ok(())
 }

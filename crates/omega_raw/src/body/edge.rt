@@ -1,6 +1,6 @@
-ghost use Rattle.omega_raw.specs.Beginnings.{edge_begun, edge_follows};
+ghost use Rattle.omega_raw.specs.steps.Beginnings.{edge_begun, edge_follows};
 ghost use Rattle.omega_raw.specs.Grammar.{IsEdge, edge_row};
-ghost use Rattle.omega_raw.specs.Parts.{EndsEdge, is_edge};
+ghost use Rattle.omega_raw.specs.steps.Parts.{EndsEdge, is_edge};
 
 use crate::body::guard::Guard;
 use crate::body::sig::Sig;

@@ -1,7 +1,7 @@
 ghost use Rattle.std.specs.Prelude.{refl};
 ghost use Rattle.omega_raw.specs.Grammar.{sig_row};
-ghost use Rattle.omega_raw.specs.Parts.{is_brace};
-ghost use Rattle.omega_raw.specs.Reading.{IsAny, IsKind};
+ghost use Rattle.omega_raw.specs.steps.Parts.{is_brace};
+ghost use Rattle.omega_raw.specs.steps.Reading.{IsAny, IsKind};
 
 use crate::part::{Part, read_each};
 use crate::single::Int;

@@ -1,6 +1,6 @@
-ghost use Rattle.omega_raw.specs.Beginnings.{state_begun, state_follows};
+ghost use Rattle.omega_raw.specs.steps.Beginnings.{state_begun, state_follows};
 ghost use Rattle.omega_raw.specs.Grammar.{IsState, state_row};
-ghost use Rattle.omega_raw.specs.Parts.{EndsState, is_header};
+ghost use Rattle.omega_raw.specs.steps.Parts.{EndsState, is_header};
 
 use crate::body::edge::Edge;
 use crate::body::guard::Guard;

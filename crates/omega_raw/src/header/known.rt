@@ -1,8 +1,8 @@
 //! What stands behind the header of an item.
 
 ghost use Rattle.std.specs.Prelude.{IfErr};
-ghost use Rattle.omega_raw.specs.Contents.{FindsContent, GivesContent};
-ghost use Rattle.omega_raw.specs.Reading.{IsRefusal};
+ghost use Rattle.omega_raw.specs.steps.Contents.{FindsContent, GivesContent};
+ghost use Rattle.omega_raw.specs.steps.Reading.{IsRefusal};
 ghost use Rattle.omega_raw.specs.declared.header.name.Header.TheVariants as header;
 
 use crate::conj::conj;

@@ -1,6 +1,7 @@
-ghost use Rattle.std.specs.Prelude.{◌≡◌, ◌<◌, ◌-◌, ◌^◌, [], ◌∷◌, ◌++◌, ℕ, List, None, Some, length};
+ghost use Rattle.std.specs.Prelude.{◌≡◌, ◌<◌, ◌-◌, ◌^◌, [], ◌∷◌, ◌++◌, false, ℕ, IfSome, List, None, Some, length};
 ghost use Rattle.omega_text.specs.Lexeme.{Lexeme};
 ghost use Rattle.omega_text.specs.declared.hoa.kind.HoaKind.{HoaKind};
+ghost use Rattle.omega_text.specs.hoa.Laws.{is_closed};
 ghost use Rattle.omega_text.specs.hoa.scanning.Modes.{next_mode};
 ghost use Rattle.omega_text.specs.hoa.Pieces.{IsFinished, IsSettled, settled_lexemes};
 ghost use Rattle.omega_text.specs.hoa.scanning.Reading.{Any, IsAt, IsKept, IsOnWay};
@@ -60,10 +61,13 @@ impl HoaTokenizer {
         }
     }
 
-    /// What is settled where the text ends.
+    /// What is settled where the text ends: at most one token, and none that its own last byte settles.
     pub fn finish(&self) -> Settled
-        ensures { (seen : List ℕ) (lexemes : List (Lexeme HoaKind)) → HasRead seen lexemes self.now
+        ensures finishes { (seen : List ℕ) (lexemes : List (Lexeme HoaKind)) → HasRead seen lexemes self.now
             → IsFinished result.fault seen (lexemes ++ settled_lexemes seen result) }
+        ensures second { result.second ≡ None }
+        ensures unclosed { (seen : List ℕ) (lexemes : List (Lexeme HoaKind)) → HasRead seen lexemes self.now
+            → IfSome result.first (λ token. is_closed token.kind ≡ false) }
     {
         match self.fault {
             Some(fault) => settled(None, None, Some(fault)),
@@ -130,8 +134,11 @@ fn end_unit(pending: Pending, place: usize, byte: u8) -> (Pending, Settled)
 
 /// What is settled where the text ends at a place.
 fn end_of_text(pending: Pending, place: usize) -> Settled
-    ensures { (seen : List ℕ) (lexemes : List (Lexeme HoaKind)) → place ≡ length seen → IsAt Any seen lexemes pending
+    ensures finishes { (seen : List ℕ) (lexemes : List (Lexeme HoaKind)) → place ≡ length seen → IsAt Any seen lexemes pending
         → IsFinished result.fault seen (lexemes ++ settled_lexemes seen result) }
+    ensures second { result.second ≡ None }
+    ensures unclosed { (seen : List ℕ) (lexemes : List (Lexeme HoaKind)) → IsAt Any seen lexemes pending
+        → IfSome result.first (λ token. is_closed token.kind ≡ false) }
 {
     match pending.mode.get() {
         Mode::Start => settled(None, None, None),

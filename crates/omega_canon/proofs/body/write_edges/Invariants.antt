@@ -1,5 +1,5 @@
 -- `write_edges`: what stands before this item is written.
-use Rattle.std.proofs.Common.{◌≡◌, ◌∷◌, ◌++◌, [], take}
+use Rattle.std.proofs.Common.{◌≡◌, ◌++◌, take}
 use Rattle.std.specs.List.{flat_map}
 use Rattle.omega_canon.specs.BodyText.{edge_line}
 use Rattle.omega_canon.proofs.body.write_edges.Given as goal

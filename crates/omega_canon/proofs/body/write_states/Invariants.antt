@@ -1,5 +1,5 @@
 -- `write_states`: what stands before this item is written.
-use Rattle.std.proofs.Common.{◌≡◌, ◌∷◌, ◌++◌, [], take}
+use Rattle.std.proofs.Common.{◌≡◌, ◌++◌, take}
 use Rattle.std.specs.List.{flat_map}
 use Rattle.omega_canon.specs.BodyText.{state_text}
 use Rattle.omega_canon.proofs.body.write_states.Given as goal

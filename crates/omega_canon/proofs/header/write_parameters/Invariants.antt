@@ -1,5 +1,5 @@
 -- `write_parameters`: what stands before this item is written.
-use Rattle.std.proofs.Common.{◌≡◌, ◌∷◌, ◌++◌, [], take}
+use Rattle.std.proofs.Common.{◌≡◌, ◌++◌, take}
 use Rattle.std.specs.List.{flat_map}
 use Rattle.omega_canon.specs.HeaderText.{parameter_part}
 use Rattle.omega_canon.proofs.header.write_parameters.Given as goal

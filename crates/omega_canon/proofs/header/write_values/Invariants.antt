@@ -1,5 +1,5 @@
 -- `write_values`: what stands before this item is written.
-use Rattle.std.proofs.Common.{◌≡◌, ◌∷◌, ◌++◌, [], take}
+use Rattle.std.proofs.Common.{◌≡◌, ◌++◌, take}
 use Rattle.std.specs.List.{flat_map}
 use Rattle.omega_canon.specs.HeaderText.{value_part}
 use Rattle.omega_canon.proofs.header.write_values.Given as goal

@@ -1,5 +1,5 @@
 -- `write_strings`: what stands before this item is written.
-use Rattle.std.proofs.Common.{◌≡◌, ◌∷◌, ◌++◌, [], take}
+use Rattle.std.proofs.Common.{◌≡◌, ◌++◌, take}
 use Rattle.omega_canon.specs.Parts.{strings}
 use Rattle.omega_canon.proofs.parts.write_strings.Given as goal
 

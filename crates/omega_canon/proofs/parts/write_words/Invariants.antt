@@ -1,5 +1,5 @@
 -- `write_words`: what stands before this item is written.
-use Rattle.std.proofs.Common.{◌≡◌, ◌∷◌, ◌++◌, [], take}
+use Rattle.std.proofs.Common.{◌≡◌, ◌++◌, take}
 use Rattle.omega_canon.specs.Parts.{words}
 use Rattle.omega_canon.proofs.parts.write_words.Given as goal
 

@@ -1,9 +1,12 @@
 -- `wins_fast`: whether choices that are a strategy of the player win from each of the places, where the fast search is confirmed.
-use Rattle.std.proofs.Common.{List, Bool, Option, Some, None, ◌↔◌, sym, subst, arith}
+use Rattle.std.proofs.Common.{List, Bool, Option, sym, ◌∙◌, subst, arith}
 use Rattle.std.specs.Prelude.{IfSome}
+use Rattle.omega_game.specs.declared.checking.decision.Decision.{Decision}
+use Rattle.omega_game.specs.checking.Decision.{IsRight}
 use Rattle.omega_game.specs.checking.Reaching.{AreReached}
 use Rattle.omega_game.proofs.walks.Marking.{reached_closed}
 use Rattle.omega_game.proofs.walks.Recurrence.{choices_of_strategy, priorities_low, wins_if_none, none_if_wins}
+use Rattle.omega_game.proofs.walks.Deciding.{none_where_won, won_where_none}
 use Rattle.omega_game.proofs.checking.wins_fast.Goals as goal
 
 pub reached_from-requires-clause-choices : goal.reached_from-requires-clause-choices
@@ -20,18 +23,19 @@ decide_fast-requires-clause-closed c =
     let reached = subst (λ (m : List Bool). AreReached c.args.game.now c.args.choices.now 4294967295 c.args.places.now m) (sym c.deref.ensures.value) c.in_ok-marks.ensures.reached in
     reached_closed c.args.game.now c.args.choices.now 4294967295 low c.args.places.now c.deref.result.now reached
 
--- an answer that says one thing says another that is as true
-same_answer : (P Q : Type 0) (IsYes : Bool → Type 0) (found : Option Bool) → (P → Q) → (Q → P) → IfSome found (λ answer. IsYes answer ↔ P) → IfSome found (λ answer. IsYes answer ↔ Q)
-same_answer P Q IsYes None there back says = says
-same_answer P Q IsYes (Some answer) there back says = (λ yes. there (says.0 yes), λ q. says.1 (back q))
-
-pub returns : goal.returns
-returns c =
+pub returns-in-Some : goal.returns-in-Some
+returns-in-Some c =
     let low = priorities_low c.args.game.now 4294967295 c.keeps_limits.ensures.limits (omega arith) in
     let reached = subst (λ (m : List Bool). AreReached c.args.game.now c.args.choices.now 4294967295 c.args.places.now m) (sym c.deref.ensures.value) c.in_ok-marks.ensures.reached in
+    let right : IsRight c.args.game.now c.args.player c.args.choices.now c.deref.result.now c.in-Some.decision =
+    subst (λ (found : Option Decision). IfSome found (IsRight c.args.game.now c.args.player c.args.choices.now c.deref.result.now)) c.in-Some.is c.in_ok-decision.ensures.right in
     record {
-      wins = same_answer _ _ _ c.in_ok-found.found
-          (wins_if_none c.args.game.now c.args.player c.args.choices.now c.keeps_limits.ensures.game c.requires.strategy 4294967295 low c.args.places.now c.deref.result.now reached)
-          (none_if_wins c.args.game.now c.args.player c.args.choices.now c.keeps_limits.ensures.game c.requires.strategy 4294967295 low c.args.places.now c.deref.result.now reached c.requires.places)
-          c.in_ok-found.ensures.none;
+      wins = (
+        λ yes. wins_if_none c.args.game.now c.args.player c.args.choices.now c.keeps_limits.ensures.game c.requires.strategy 4294967295 low c.args.places.now
+            c.deref.result.now reached
+            (none_where_won c.args.game.now c.args.player c.args.choices.now c.deref.result.now c.in-Some.decision right (sym c.is_won.ensures ∙ yes)),
+        λ wins. c.is_won.ensures ∙ won_where_none c.args.game.now c.args.player c.args.choices.now c.deref.result.now c.in-Some.decision right
+            (none_if_wins c.args.game.now c.args.player c.args.choices.now c.keeps_limits.ensures.game c.requires.strategy 4294967295 low c.args.places.now
+            c.deref.result.now reached c.requires.places wins),
+      );
     }

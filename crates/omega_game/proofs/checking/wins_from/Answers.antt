@@ -1,8 +1,9 @@
 -- `wins_from`: whether choices that are a strategy of the player win from each of the places.
-use Rattle.std.proofs.Common.{List, Bool, sym, subst, arith}
+use Rattle.std.proofs.Common.{List, Bool, sym, ◌∙◌, subst, arith}
 use Rattle.omega_game.specs.checking.Reaching.{AreReached}
 use Rattle.omega_game.proofs.walks.Marking.{reached_closed}
 use Rattle.omega_game.proofs.walks.Recurrence.{choices_of_strategy, priorities_low, wins_if_none, none_if_wins}
+use Rattle.omega_game.proofs.walks.Deciding.{none_where_won, won_where_none}
 use Rattle.omega_game.proofs.checking.wins_from.Goals as goal
 
 pub reached_from-requires-clause-choices : goal.reached_from-requires-clause-choices
@@ -26,8 +27,10 @@ returns c =
     record {
       wins = (
         λ yes. wins_if_none c.args.game.now c.args.player c.args.choices.now c.keeps_limits.ensures.game c.requires.strategy 4294967295 low c.args.places.now
-            c.deref.result.now reached (c.in_ok-answer.ensures.none.0 yes),
-        λ wins. c.in_ok-answer.ensures.none.1 (none_if_wins c.args.game.now c.args.player c.args.choices.now c.keeps_limits.ensures.game c.requires.strategy 4294967295 low c.args.places.now
+            c.deref.result.now reached
+            (none_where_won c.args.game.now c.args.player c.args.choices.now c.deref.result.now c.in_ok-decision.decision c.in_ok-decision.ensures.right (sym c.is_won.ensures ∙ yes)),
+        λ wins. c.is_won.ensures ∙ won_where_none c.args.game.now c.args.player c.args.choices.now c.deref.result.now c.in_ok-decision.decision c.in_ok-decision.ensures.right
+            (none_if_wins c.args.game.now c.args.player c.args.choices.now c.keeps_limits.ensures.game c.requires.strategy 4294967295 low c.args.places.now
             c.deref.result.now reached c.requires.places wins),
       );
     }

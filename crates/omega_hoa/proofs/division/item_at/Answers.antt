@@ -4,10 +4,10 @@ use Rattle.omega_text.specs.Cases.{or_memory}
 use Rattle.omega_text.specs.Cut.{IsCut}
 use Rattle.omega_text.specs.hoa.Format.{hoa_format}
 use Rattle.omega_text.specs.hoa.Pieces.{lexeme_in}
-use Rattle.omega_hoa.specs.Segment.{IsSegmentFault, symbol_of}
+use Rattle.omega_hoa.specs.Segment.{IsSegmentFault}
 use Rattle.omega_hoa.proofs.Cutting.{moved}
 use Rattle.omega_hoa.proofs.Results.{error_then}
-use Rattle.omega_hoa.proofs.Taking.{next_place, next_within, segment_cut, segment_refused}
+use Rattle.omega_hoa.proofs.Taking.{automaton_item, next_place, next_within, segment_cut, segment_refused}
 use Rattle.omega_hoa.proofs.division.item_at.Goals as goal
 
 pub stretch-requires-clause-forward : goal.stretch-requires-clause-forward
@@ -35,5 +35,10 @@ returns-in_err-automaton-in-End-clause-refused c =
     error_then c.from_residual.result _ _ c.from_residual.ensures.1
     (λ error is seen lexemes items next.
     segment_refused c.goes_on_one_way.ensures c.args.bytes.now c.args.first c.args.division c.args.token seen lexemes items next error c.requires.inside c.in-End.is
-    (λ ls cut. subst (or_memory (IsSegmentFault (map symbol_of ls))) (sym is)
-    (c.in_err-automaton-in-End.ensures.refused ls (subst (λ bytes. IsCut hoa_format bytes ls) (sym c.stretch.ensures) cut))))
+    (λ ls cut segment. subst (or_memory (IsSegmentFault ls)) (sym is)
+    (c.in_err-automaton-in-End.ensures.refused ls (subst (λ bytes. IsCut hoa_format bytes ls) (sym c.stretch.ensures) cut) segment)))
+
+pub returns-in_ok-automaton-in-End-clause-item : goal.returns-in_ok-automaton-in-End-clause-item
+returns-in_ok-automaton-in-End-clause-item c = λ seen lexemes items next.
+    automaton_item c.goes_on_one_way.ensures c.args.bytes.now c.args.first c.args.division c.args.token seen lexemes items next c.in_ok-automaton-in-End.automaton c.requires.inside c.in-End.is
+    (λ ls cut segment. c.in_ok-automaton-in-End.ensures.automaton ls (subst (λ bytes. IsCut hoa_format bytes ls) (sym c.stretch.ensures) cut) segment)

@@ -1,5 +1,5 @@
 -- Inside a segment, a token is one more or ends it.
-use Rattle.std.proofs.Common.{◌∷◌, [], ◌++◌, sym, subst, arith}
+use Rattle.std.proofs.Common.{◌∷◌, [], ◌++◌, ◌∙◌, append-nil, sym, subst, arith}
 use Rattle.omega_text.specs.hoa.Pieces.{lexeme_in}
 use Rattle.omega_hoa.specs.Feeding.{IsDivided}
 use Rattle.omega_hoa.proofs.Results.{nothing_more}
@@ -27,3 +27,6 @@ returns-in_ok-push-in-Some-clause-forward c =
     let some = c.requires.next in
     let place = next_place c.goes_on_one_way.ensures c.args.bytes.now c.args.first c.args.division c.args.token some.0 some.1 some.2 some.3 in
     omega (arith, place.0, place.1)
+
+pub returns-in_err-push-in-Some-clause-extends : goal.returns-in_err-push-in-Some-clause-extends
+returns-in_err-push-in-Some-clause-extends c = ([], c.in_err-push-in-Some.ensures.items ∙ sym (append-nil c.args.out.now.items))

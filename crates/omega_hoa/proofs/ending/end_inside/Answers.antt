@@ -4,8 +4,8 @@ use Rattle.omega_hoa.proofs.ending.end_inside.Goals as goal
 
 pub returns-in-Some : goal.returns-in-Some
 returns-in-Some c = λ seen lexemes items begins all at_end.
-    fault_inside_end c.args.settled seen lexemes items begins c.in-Some.fault (c.ends_segment.ensures c.if-ends_segment.false) (c.ends_segment-2.ensures c.if-ends_segment-2.false) c.in-Some.is at_end
+    fault_inside_end c.args.settled c.requires seen lexemes items begins c.in-Some.fault c.in-Some.is at_end
 
 pub returns-in-None : goal.returns-in-None
 returns-in-None c = λ seen lexemes items begins all at_end.
-    cut_short c.args.settled seen lexemes items begins c.args.count all (c.ends_segment.ensures c.if-ends_segment.false) (c.ends_segment-2.ensures c.if-ends_segment-2.false) c.in-None.is at_end
+    cut_short c.args.settled c.requires seen lexemes items begins c.args.count all c.in-None.is at_end

@@ -1,7 +1,7 @@
 -- The automaton that is read is one that was written, and where none was none is read.
 use Rattle.std.proofs.Common.{refl, sym, subst, ◌∷◌, []}
 use Rattle.omega_acc.specs.Symbols.{IsUnread}
-use Rattle.omega_raw.proofs.RowLemmas.{error_is, read_refused}
+use Rattle.omega_raw.proofs.RowLemmas.{error_is, raw_same, read_refused}
 use Rattle.omega_raw.specs.Grammar.{ReadsNone, each, item_row, state_row}
 use Rattle.omega_raw.specs.Symbols.{sign, word}
 use Rattle.omega_text.specs.declared.hoa.kind.HoaKind.TheVariants as kind
@@ -18,6 +18,15 @@ returns-clause-ok g c = record {
       (c.in_ok-states.ensures.gives.spells (sign kind.End ∷ []) (g.S.TokenSource.left c.take_sign-2.new.source)
       (c.in_ok-take_sign-2.ensures.gives [] (g.S.TokenSource.left c.take_sign-2.new.source) refl)))));
 }
+
+pub returns-clause-only : goal.returns-clause-only
+returns-clause-only g c = λ raw rest reads.
+    let s1 = c.in_ok-take_header.ensures.finds (word raw.version ∷ each item_row raw.items (sign kind.Body ∷ each state_row raw.states (sign kind.End ∷ []))) rest reads.spells in
+    let s2 = c.in_ok-version.ensures.finds raw.version (each item_row raw.items (sign kind.Body ∷ each state_row raw.states (sign kind.End ∷ []))) rest tt tt s1 in
+    let s3 = c.in_ok-items.ensures.finds raw.items (sign kind.Body ∷ each state_row raw.states (sign kind.End ∷ [])) rest reads.items (refl, tt) s2.1 in
+    let s4 = c.in_ok-take_sign.ensures.finds (each state_row raw.states (sign kind.End ∷ [])) rest s3.1 in
+    let s5 = c.in_ok-states.ensures.finds raw.states (sign kind.End ∷ []) rest reads.states (refl, tt) s4 in
+    (raw_same c.in_ok-version.version c.in_ok-items.items c.in_ok-states.states raw s2.0 s3.0 s5.0, c.in_ok-take_sign-2.ensures.finds [] rest s5.1)
 
 pub returns-in_err-take_header-clause-err : goal.returns-in_err-take_header-clause-err
 returns-in_err-take_header-clause-err g c =

@@ -1,6 +1,6 @@
 -- `count_edges`: too many edges so far are too many.
 use Rattle.std.proofs.Common.{arith}
-use Rattle.omega_automaton.proofs.TotalLemmas.{edges_within}
+use Rattle.omega_automaton.proofs.EdgeLemmas.{edges_within}
 use Rattle.omega_automaton.proofs.making.edges.count_edges.Goals as goal
 
 pub returns-then-more-count : goal.returns-then-more-count

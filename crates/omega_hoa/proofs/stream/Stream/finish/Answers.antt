@@ -1,8 +1,8 @@
 -- Where the stream ends, its bytes are those of a whole stream, or are refused.
-use Rattle.std.proofs.Common.{◌≡◌, ◌+◌, length, sym, subst, arith}
+use Rattle.std.proofs.Common.{◌≡◌, ◌+◌, ◌∙◌, None, ap, length, sym, subst, arith}
 use Rattle.omega_hoa.specs.Feeding.{IsDivided, IsFed, IsTaken}
 use Rattle.omega_hoa.specs.Kept.{Kept}
-use Rattle.omega_hoa.proofs.Feeds.{taken_of}
+use Rattle.omega_hoa.proofs.Feeds.{answered_before, answered_now, answered_of, taken_of}
 use Rattle.omega_hoa.proofs.Ones.{err_says, ok_says}
 use Rattle.omega_hoa.proofs.stream.Stream.finish.Goals as goal
 
@@ -13,7 +13,7 @@ returns-then-self-clause-refused c = λ none seen items fed.
     let all : kept.begins + c.len.result ≡ length seen = omega (arith, taken.total, c.len.ensures, c.self.inside.bytes.ok.0) in
     c.end_inside.ensures seen taken.lexemes items kept.begins all (record {
       divided = subst (IsDivided seen taken.lexemes items kept.begins) c.if-self.true taken.divided;
-      finished = c.finish-settled.ensures seen taken.lexemes taken.read;
+      finished = c.finish-settled.ensures.finishes seen taken.lexemes taken.read;
     })
 
 pub returns-clause-ok : goal.returns-clause-ok
@@ -22,7 +22,7 @@ returns-clause-ok c = ok_says c.end_outside.result _ _ (λ value ends seen items
     let taken : IsTaken seen items kept = taken_of seen items kept c.in-None.is (subst (IsFed seen items) (sym c.self.view_is) fed) in
     let whole = ends seen taken.lexemes items kept.begins (record {
       divided = subst (IsDivided seen taken.lexemes items kept.begins) c.if-self.false taken.divided;
-      finished = c.finish-settled.ensures seen taken.lexemes taken.read;
+      finished = c.finish-settled.ensures.finishes seen taken.lexemes taken.read;
     }) in
     record { short = taken.short; lexemes = whole.lexemes; cut = whole.cut; stream = whole.stream })
     c.end_outside.ensures.ok
@@ -33,6 +33,20 @@ returns-clause-refused c = λ none. err_says c.end_outside.result _ _ (λ refusa
     let taken : IsTaken seen items kept = taken_of seen items kept c.in-None.is (subst (IsFed seen items) (sym c.self.view_is) fed) in
     ends seen taken.lexemes items kept.begins (record {
       divided = subst (IsDivided seen taken.lexemes items kept.begins) c.if-self.false taken.divided;
-      finished = c.finish-settled.ensures seen taken.lexemes taken.read;
+      finished = c.finish-settled.ensures.finishes seen taken.lexemes taken.read;
     }))
     c.end_outside.ensures.refused
+
+pub returns-in-Some-clause-answered : goal.returns-in-Some-clause-answered
+returns-in-Some-clause-answered c = λ seen items fed.
+    answered_before c.in-Some.refusal seen items c.args.self (sym (ap (λ kept. kept.refused) c.self.view_is) ∙ c.in-Some.is)
+
+pub returns-then-self-clause-answered : goal.returns-then-self-clause-answered
+returns-then-self-clause-answered c = λ seen items fed.
+    let none : c.args.self.refused ≡ None = sym (ap (λ kept. kept.refused) c.self.view_is) ∙ c.in-None.is in
+    answered_now c.end_inside.result seen items c.args.self none (returns-then-self-clause-refused c none seen items fed)
+
+pub returns-clause-answered : goal.returns-clause-answered
+returns-clause-answered c = λ seen items fed.
+    let none : c.args.self.refused ≡ None = sym (ap (λ kept. kept.refused) c.self.view_is) ∙ c.in-None.is in
+    answered_of c.end_outside.result seen items c.args.self none fed (returns-clause-ok c) (returns-clause-refused c none)

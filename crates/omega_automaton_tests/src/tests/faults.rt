@@ -1,0 +1,166 @@
+use super::{outcome, text_of};
+use omega_acc::RawAcc;
+use omega_automaton::{RawAutomaton, Refusal, Seq, automaton_of};
+use omega_raw::{RawEdge, RawItem, RawState};
+use std::alloc::Global;
+use std::test::Fail;
+
+// Items, body, and the number of the refusal of a text of version v1 with both, or 0.
+const ITEMS: [(&str, &str, u32); 47] = [
+    ("States: 1 States: 1", "", 21),
+    ("Acceptance: 0 t AP: 0 AP: 0", "", 21),
+    ("Acceptance: 0 t Acceptance: 0 t", "", 21),
+    ("Acceptance: 0 t acc-name: all acc-name: all", "", 21),
+    ("Acceptance: 0 t tool: \"a\" tool: \"b\"", "", 21),
+    ("Acceptance: 0 t name: \"a\" name: \"b\"", "", 21),
+    ("Acceptance: 0 t Start: 0 Start: 0", "", 0),
+    ("Acceptance: 0 t Alias: @a t Alias: @b t", "", 0),
+    ("Acceptance: 0 t properties: a properties: a", "", 0),
+    ("Acceptance: 0 t foo: 1 foo: 1", "", 0),
+    ("Foo: 1", "", 22),
+    ("", "State: 0", 22),
+    ("Acceptance: 0 t Foo: 1 foo: 1", "", 23),
+    ("Acceptance: 0 t Zoo:", "", 23),
+    ("Acceptance: 0 t foo: 1", "", 0),
+    ("Acceptance: 0 t _: zoo: aCC-NAME:", "", 0),
+    ("Start: 2147483647 Acceptance: 0 t", "", 24),
+    ("Start: 2147483646 Acceptance: 0 t", "", 0),
+    ("Acceptance: 0 t", "State: 2147483647", 24),
+    ("Acceptance: 0 t", "State: 0 [t] 2147483647", 24),
+    ("States: 0 Start: 0 Acceptance: 0 t", "", 24),
+    ("States: 2 Start: 0&2&1 Acceptance: 0 t", "", 24),
+    ("States: 2 Start: 0&1 Acceptance: 0 t", "", 0),
+    ("States: 1 Acceptance: 0 t", "State: 1", 24),
+    ("States: 1 Acceptance: 0 t", "State: 0 [t] 0&1", 24),
+    ("Acceptance: 0 t States: 1", "State: 0 [t] 0", 0),
+    ("Acceptance: 1 Inf(1)", "", 25),
+    ("Acceptance: 0 Fin(!0)", "", 25),
+    ("Acceptance: 2 Inf(0)&(Fin(1)|Inf(2))", "", 25),
+    ("Acceptance: 1 Inf(0)", "State: 0 {0 1}", 25),
+    ("Acceptance: 1 Inf(0)", "State: 0 [t] 0 {1}", 25),
+    ("Acceptance: 1 Inf(0)", "State: 0 {0} [t] 0 {0}", 0),
+    ("AP: 1 Acceptance: 0 t", "", 26),
+    ("AP: 1 \"a\" \"b\" Acceptance: 0 t", "", 26),
+    ("AP: 3 \"a\" \"b\" \"a\" Acceptance: 0 t", "", 26),
+    ("AP: 2 \"a\" \"A\" Acceptance: 0 t", "", 0),
+    ("Acceptance: 0 t", "State: [0] 0", 26),
+    ("AP: 1 \"a\" Acceptance: 0 t", "State: 0 [t&!1] 0", 26),
+    ("AP: 1 \"a\" Alias: @a 0|1 Acceptance: 0 t", "", 26),
+    ("Alias: @a 0 AP: 1 \"a\" Acceptance: 0 t", "", 0),
+    ("Acceptance: 0 t", "State: [@a] 0", 27),
+    ("Acceptance: 0 t Alias: @a @b Alias: @b t", "", 27),
+    ("Acceptance: 0 t Alias: @a @a", "", 27),
+    ("Acceptance: 0 t Alias: @a t Alias: @a t", "", 27),
+    (
+        "Acceptance: 0 t Alias: @b t Alias: @a @b",
+        "State: 0 [@a] 0",
+        0,
+    ),
+    ("Acceptance: 1 Foo(0)", "", 31),
+    ("Acceptance: 1 Inf(0)&inf(0)", "", 31),
+];
+
+// Bodies under one proposition, and the number of the refusal, or 0.
+const BODIES: [(&str, u32); 20] = [
+    ("", 0),
+    ("State: 0 State: 1 State: 0", 28),
+    ("State: 1 State: 0", 0),
+    ("State: 2", 0),
+    ("State: [t] 0 [t] 0", 29),
+    ("State: [t] 0 0 [t] 0", 29),
+    ("State: 0 [t] 0 0", 29),
+    ("State: 0 0 [t] 0", 29),
+    ("State: [t] 0 0 0 0", 0),
+    ("State: 0 [t] 0 [f] 0 [0] 0", 0),
+    ("State: 0 0", 30),
+    ("State: 0 0 0 0", 30),
+    ("State: 0 0 0", 0),
+    ("State: 0 0 0 State: 1 1", 30),
+    ("State: 0 0&1 0", 0),
+    ("State: 0", 0),
+    ("State: [t] 0", 0),
+    ("State: 0 {0} 0 {0} 0 {0}", 0),
+    ("State: 0 \"a\" 0 0 State: 1 \"a\" 1 1", 0),
+    ("State: 0 {} 0 {} 0", 0),
+];
+
+#[test]
+fn other_versions_are_refused(rt: HostRuntime) -> Result<(), Fail> {
+    for version in ["v2", "V1", "v", "v11", "v1a"].iter() {
+        let mut text = b"HOA: ".to_vec(rt.alloc())?;
+        text.extend_from_slice(version.as_bytes())?;
+        text.extend_from_slice(b" --BODY-- --END--")?;
+        assert_eq!(rt; outcome(rt.alloc(), text.as_slice()), 20, "{version}");
+    }
+    Ok(())
+}
+
+#[test]
+fn faults_of_items_are_refused(rt: HostRuntime) -> Result<(), Fail> {
+    for (items, body, number) in ITEMS.iter() {
+        let text = text_of(rt.alloc(), items.as_bytes(), body.as_bytes())?;
+        assert_eq!(rt;
+            outcome(rt.alloc(), text.as_slice()),
+            *number,
+            "{items} / {body}"
+        );
+    }
+    Ok(())
+}
+
+#[test]
+fn faults_of_bodies_are_refused(rt: HostRuntime) -> Result<(), Fail> {
+    for (body, number) in BODIES.iter() {
+        let items = b"AP: 1 \"a\" Acceptance: 1 Inf(0)";
+        let text = text_of(rt.alloc(), items, body.as_bytes())?;
+        assert_eq!(rt; outcome(rt.alloc(), text.as_slice()), *number, "{body}");
+    }
+    Ok(())
+}
+
+// An automaton of one state with an edge, where the start and the edge list these states.
+fn written(alloc: Global, start: &[u32], targets: &[u32]) -> Result<RawAutomaton, Refusal> {
+    let mut items = Vec::new(alloc);
+    items.push(RawItem::Start(Seq::from_vec(start.to_vec(alloc)?)))?;
+    items.push(RawItem::Acceptance {
+        count: 0,
+        formula: RawAcc::constant(alloc, true)?,
+    })?;
+    let mut edges = Vec::new(alloc);
+    edges.push(RawEdge {
+        label: None,
+        targets: Seq::from_vec(targets.to_vec(alloc)?),
+        marks: None,
+    })?;
+    let mut states = Vec::new(alloc);
+    states.push(RawState {
+        label: None,
+        number: 0,
+        name: None,
+        marks: None,
+        edges: Seq::from_vec(edges),
+    })?;
+    Ok(RawAutomaton {
+        version: Seq::from_vec(b"v1".to_vec(alloc)?),
+        items: Seq::from_vec(items),
+        states: Seq::from_vec(states),
+    })
+}
+
+// The number of the refusal of that automaton, or 0.
+fn outcome_of_lists(alloc: Global, start: &[u32], targets: &[u32]) -> Result<u32, Refusal> {
+    let raw = written(alloc, start, targets)?;
+    match automaton_of(alloc, raw) {
+        Ok(_) => Ok(0),
+        Err(refusal) => Ok(refusal.number()),
+    }
+}
+
+// No text writes an empty list of states. As a value it is refused with the states that are out of range.
+#[test]
+fn empty_lists_of_states_are_refused(rt: HostRuntime) -> Result<(), Fail> {
+    assert_eq!(rt; outcome_of_lists(rt.alloc(), &[0], &[0])?, 0);
+    assert_eq!(rt; outcome_of_lists(rt.alloc(), &[], &[0])?, 24);
+    assert_eq!(rt; outcome_of_lists(rt.alloc(), &[0], &[])?, 24);
+    Ok(())
+}

@@ -1,0 +1,171 @@
+-- The whole canonical text is the tokens of the automaton as it is written.
+use Rattle.std.proofs.Common.{◌≡◌, ℕ, Option, Some, None, List, [], ◌∷◌, ◌++◌, codes, length, map, append_assoc, refl, sym, subst, arith, lit<}
+use Rattle.std.specs.List.{AllByRecursion, flat_map}
+use Rattle.std.proofs.lemmas.List.Sums.{AllPass-from_list_all}
+use Rattle.omega_text.specs.Bytes.{is_word_byte}
+use Rattle.omega_text.specs.declared.hoa.kind.HoaKind.TheVariants as kind
+use Rattle.omega_text.specs.hoa.Forms.{IsForm}
+use Rattle.omega_acc.specs.Symbols.{IsNoOperator}
+use Rattle.omega_acc.specs.WritingLaws.{acc_written}
+use Rattle.omega_acc.specs.declared.acc_name.AccName.{AccName}
+use Rattle.omega_raw.specs.Grammar.{IsEdge, IsItem, IsState, each, item_row, spelled, state_row}
+use Rattle.omega_raw.specs.Symbols.{FirstIs}
+use Rattle.omega_raw.specs.Symbols.{Symbol, sign}
+use Rattle.omega_raw.specs.declared.raw_item.RawItem.{RawItem}
+use Rattle.omega_raw.specs.declared.raw_item.RawItem.TheVariants as item
+use Rattle.omega_automaton.specs.Automaton.{Description}
+use Rattle.omega_automaton.specs.declared.header.Header.{Header}
+use Rattle.omega_automaton.specs.declared.state.State.{State}
+use Rattle.omega_automaton.specs.declared.tool.Tool.{Tool}
+use Rattle.omega_canon.specs.BodyText.{body_text}
+use Rattle.omega_canon.specs.Canonical.{canonical}
+use Rattle.omega_canon.specs.HeaderText.{acc_name_line, acceptance_line, name_line, properties_line, propositions_line, start_line, states_line, tool_line, unknown_line}
+use Rattle.omega_canon.specs.Laws.{IsTextOf}
+use Rattle.omega_canon.specs.Writable.{AreJoined, IsWritable, IsWritableEdge, IsWritableHeader, IsWritableState}
+use Rattle.omega_canon.specs.Written.{acc_name_item, edge_written, items_written, name_item, properties_item, start_item, state_written, tool_item, unknown_item, written}
+use Rattle.omega_canon.proofs.texts.Items.{acc_name-spelled, acceptance-spelled, name-spelled, properties-spelled, propositions-spelled, start-spelled, states-spelled, tool-spelled, unknown-spelled}
+use Rattle.omega_canon.proofs.texts.Lists.{Any, all-append, all-map, all-then, each-append, each-map, each-spelled}
+use Rattle.omega_canon.proofs.texts.Pieces.{apart-line}
+use Rattle.omega_canon.proofs.texts.Spelled.{IsSpelled, Known, header-spelled, line-spelled, nothing-spelled, sign-spelled, space-spelled, word-spelled}
+use Rattle.omega_canon.proofs.texts.States.{states-spelled as body-states-spelled}
+
+-- the items of two lists
+items-spelled : (text : List ℕ) (first second : List RawItem) (symbols : List Symbol) → IsSpelled text (each item_row first (each item_row second symbols))
+    → IsSpelled text (each item_row (first ++ second) symbols)
+items-spelled text first second symbols spelled = subst (IsSpelled text) (sym (each-append item_row first second symbols)) spelled
+
+-- the lines `Start:`
+starts-spelled : Known → (starts : List (List ℕ)) (behind : List ℕ) (symbols : List Symbol) → AllByRecursion AreJoined starts
+    → IsSpelled behind symbols → IsSpelled (flat_map start_line starts ++ behind) (each item_row (map start_item starts) symbols)
+starts-spelled known starts behind symbols all spelled =
+    subst (IsSpelled (flat_map start_line starts ++ behind)) (sym (each-map item_row start_item starts symbols))
+    (each-spelled start_line (λ it. item_row (start_item it)) AreJoined Any (λ it rest may. tt)
+    (λ it rest others is may then. start-spelled known it rest others is then) starts behind symbols all tt spelled)
+
+-- the headers that the format leaves open
+headers-spelled : Known → (headers : List Header) (behind : List ℕ) (symbols : List Symbol) → AllByRecursion IsWritableHeader headers
+    → IsSpelled behind symbols → IsSpelled (flat_map unknown_line headers ++ behind) (each item_row (map unknown_item headers) symbols)
+headers-spelled known headers behind symbols all spelled =
+    subst (IsSpelled (flat_map unknown_line headers ++ behind)) (sym (each-map item_row unknown_item headers symbols))
+    (each-spelled unknown_line (λ it. item_row (unknown_item it)) IsWritableHeader Any (λ it rest may. tt)
+    (λ it rest others is may then. unknown-spelled known it rest others is then) headers behind symbols all tt spelled)
+
+-- items begin with no operator
+first-item : (items : List RawItem) (symbols : List Symbol) → FirstIs IsNoOperator symbols → FirstIs IsNoOperator (each item_row items symbols)
+first-item [] symbols first = first
+first-item (it ∷ items) symbols first = tt
+
+-- the symbols of the body
+abbrev body_symbols : List State → List Symbol
+body_symbols states = sign kind.Body ∷ each state_row (map state_written states) (sign kind.End ∷ [])
+
+-- the body
+body-spelled : Known → (states : List State) → AllByRecursion IsWritableState states → IsSpelled (body_text states) (body_symbols states)
+body-spelled known states all =
+    sign-spelled kind.Body (codes "--BODY--") _ _ (refl, refl) (known.closed kind.Body (codes "--BODY--") _ refl refl)
+    (line-spelled (body-states-spelled known states (codes "--END--\n") (sign kind.End ∷ []) all
+    (sign-spelled kind.End (codes "--END--") (10 ∷ []) [] (refl, refl) (known.closed kind.End (codes "--END--") _ refl refl) (line-spelled nothing-spelled))))
+
+-- the version is an identifier
+is-version : IsForm kind.Identifier (codes "v1")
+is-version = ((lit< tt, refl, AllPass-from_list_all is_word_byte (codes "v1") refl), λ is. cc, λ is. cc)
+
+-- the lines behind the first one
+module _ (known : Known) (a : Description) (is : IsWritable a) where
+  abbrev symbols : List Symbol
+  symbols = body_symbols a.defined
+
+  abbrev behind_acceptance : List RawItem
+  behind_acceptance = properties_item a.properties ++ map unknown_item a.unknown
+
+  abbrev behind_acceptance_text : List ℕ
+  behind_acceptance_text = properties_line a.properties ++ (flat_map unknown_line a.unknown ++ body_text a.defined)
+
+  rest-spelled : IsSpelled behind_acceptance_text (each item_row behind_acceptance symbols)
+  rest-spelled =
+      items-spelled _ (properties_item a.properties) (map unknown_item a.unknown) symbols
+      (properties-spelled known a.properties _ _ is.properties (headers-spelled known a.unknown _ symbols is.unknown (body-spelled known a.defined is.defined)))
+
+  abbrev behind_starts : List RawItem
+  behind_starts = item.Propositions (length a.propositions) a.propositions ∷ (acc_name_item a.acc_name ++ (item.Acceptance a.sets (acc_written a.acceptance) ∷ behind_acceptance))
+
+  abbrev behind_starts_text : List ℕ
+  behind_starts_text = propositions_line a.propositions ++ (acc_name_line a.acc_name ++ (acceptance_line a.sets a.acceptance ++ behind_acceptance_text))
+
+  back-spelled : IsSpelled behind_starts_text (each item_row behind_starts symbols)
+  back-spelled =
+      propositions-spelled known a.propositions _ _ is.count is.propositions
+      (items-spelled _ (acc_name_item a.acc_name) (item.Acceptance a.sets (acc_written a.acceptance) ∷ behind_acceptance) symbols
+      (acc_name-spelled known a.acc_name _ _ is.acc_name
+      (acceptance-spelled known a.sets a.acceptance _ _ is.sets is.acceptance (first-item behind_acceptance symbols tt) rest-spelled)))
+
+  abbrev front_text : List ℕ
+  front_text = tool_line a.tool ++ (name_line a.name ++ (states_line a.states ++ (flat_map start_line a.starts ++ behind_starts_text)))
+
+  front-spelled : IsSpelled front_text (each item_row (items_written a) symbols)
+  front-spelled =
+      items-spelled _ (tool_item a.tool) (name_item a.name ++ (item.States a.states ∷ (map start_item a.starts ++ behind_starts))) symbols
+      (tool-spelled known a.tool _ _ is.tool
+      (items-spelled _ (name_item a.name) (item.States a.states ∷ (map start_item a.starts ++ behind_starts)) symbols
+      (name-spelled known a.name _ _ is.name
+      (states-spelled known a.states _ _ is.states
+      (items-spelled _ (map start_item a.starts) behind_starts symbols
+      (starts-spelled known a.starts _ _ is.starts back-spelled))))))
+
+  text-apart : canonical a ≡ codes "HOA: v1\n" ++ front_text
+  text-apart = simp append_assoc
+
+  whole-spelled : IsSpelled (canonical a) (spelled (written a))
+  whole-spelled =
+      subst (λ text. IsSpelled text (spelled (written a))) (sym text-apart)
+      (header-spelled known (codes "HOA") _ _ (lit< tt, refl, AllPass-from_list_all is_word_byte (codes "HOA") refl)
+      (space-spelled (word-spelled known (codes "v1") (10 ∷ front_text) _ is-version (apart-line front_text) (line-spelled front-spelled))))
+
+-- ---- that it can be written
+
+written-tool : (it : Option Tool) → AllByRecursion IsItem (tool_item it)
+written-tool None = tt
+written-tool (Some tool) = (tt, tt)
+
+written-name : (it : Option (List ℕ)) → AllByRecursion IsItem (name_item it)
+written-name None = tt
+written-name (Some bytes) = (tt, tt)
+
+written-acc_name : (it : Option AccName) → AllByRecursion IsItem (acc_name_item it)
+written-acc_name None = tt
+written-acc_name (Some name) = (tt, tt)
+
+written-properties : (names : List (List ℕ)) → AllByRecursion IsItem (properties_item names)
+written-properties [] = tt
+written-properties (first ∷ others) = (tt, tt)
+
+written-items : (a : Description) → IsWritable a → AllByRecursion IsItem (items_written a)
+written-items a is =
+    all-append IsItem (tool_item a.tool) _ (written-tool a.tool)
+    (all-append IsItem (name_item a.name) _ (written-name a.name) (
+      tt,
+      all-append IsItem (map start_item a.starts) _ (all-map IsItem start_item a.starts (all-then AreJoined (λ states. IsItem (start_item states)) (λ it are. are.listed) a.starts is.starts)) (
+        tt,
+        all-append IsItem (acc_name_item a.acc_name) _ (written-acc_name a.acc_name) (
+          tt,
+          all-append IsItem (properties_item a.properties) _ (written-properties a.properties)
+              (all-map IsItem unknown_item a.unknown (all-then IsWritableHeader (λ it. IsItem (unknown_item it)) (λ it are. are.unknown) a.unknown is.unknown)),
+        ),
+      ),
+    ))
+
+written-states : (states : List State) → AllByRecursion IsWritableState states → AllByRecursion IsState (map state_written states)
+written-states states all =
+    all-map IsState state_written states (all-then IsWritableState (λ state. IsState (state_written state))
+    (λ state is. all-map IsEdge edge_written state.edges (all-then IsWritableEdge (λ edge. IsEdge (edge_written edge)) (λ edge are. are.targets.listed) state.edges is.edges))
+    states all)
+
+-- the canonical text of an automaton is that of the automaton as it is written
+pub canonical-spelled : Known → (a : Description) → IsWritable a → IsTextOf (canonical a) (written a)
+canonical-spelled known a is =
+    let there = (whole-spelled known a is).there (canonical a) 0 (omega arith) refl in
+    record {
+      tokens = there.tokens;
+      cut = record { end = there.end; cuts = there.cuts; rest = there.rest };
+      reads = record { items = written-items a is; states = written-states a.defined is.defined; spells = there.spells };
+    }

@@ -1,0 +1,137 @@
+use omega_automaton::{Automaton, automaton_of};
+use omega_canon::canonical;
+use omega_raw::read_raw;
+use omega_text::{Cursor, Refusal, hoa_tokens, write_number};
+use std::alloc::Global;
+use std::test::Fail;
+
+// What a text means.
+fn meaning(alloc: Global, text: &[u8]) -> Result<Automaton, Refusal> {
+    let tokens = hoa_tokens(alloc, text)?;
+    let mut cursor = Cursor::new(tokens.as_slice(), text.len());
+    let raw = read_raw(alloc, &mut cursor)?;
+    automaton_of(alloc, raw)
+}
+
+// The canonical text of what a text means.
+fn canon(alloc: Global, text: &[u8]) -> Result<Vec<u8>, Refusal> {
+    let automaton = meaning(alloc, text)?;
+    canonical(alloc, &automaton)
+}
+
+// Whether what a text means has this canonical text.
+fn is_canonical(alloc: Global, text: &[u8], wanted: &[u8]) -> Result<bool, Refusal> {
+    let found = canon(alloc, text)?;
+    Ok(found.as_slice() == wanted)
+}
+
+// A text, and its canonical text.
+const TEXTS: [(&str, &str); 9] = [
+    // an alias, and a mark that stands twice
+    (
+        "HOA: v1 States: 1 Start: 0 AP: 1 \"a\" Alias: @b 0|t Acceptance: 1 Inf(0) acc-name: Buchi --BODY-- State: 0 [!@b&0] 0 {0 0} --END--",
+        "HOA: v1\nStates: 1\nStart: 0\nAP: 1 \"a\"\nacc-name: Buchi\nAcceptance: 1 Inf(0)\n--BODY--\nState: 0\n[!(0|t)&0] 0 {0}\n--END--\n",
+    ),
+    // the least automaton
+    (
+        "HOA: v1 Acceptance: 0 t --BODY-- --END--",
+        "HOA: v1\nStates: 0\nAP: 0\nAcceptance: 0 t\n--BODY--\n--END--\n",
+    ),
+    // the order of lines
+    (
+        "HOA: v1 zz: 1 t \"s\" w properties: b a Acceptance: 2 Inf(0)&Fin(!1) acc-name: x 1 f y AP: 1 \"a\" properties: c Start: 1 States: 2 name: \"n\" y: Start: 0&1 tool: \"t\" \"1\" --BODY-- State: 1 State: [0] 0 \"zero\" {1 0} 1 0&1 {1} --END--",
+        "HOA: v1\ntool: \"t\" \"1\"\nname: \"n\"\nStates: 2\nStart: 1\nStart: 0&1\nAP: 1 \"a\"\nacc-name: x 1 f y\nAcceptance: 2 Inf(0)&Fin(!1)\nproperties: b a c\nzz: 1 t \"s\" w\ny:\n--BODY--\nState: 1\nState: [0] 0 \"zero\" {0 1}\n1\n0&1 {1}\n--END--\n",
+    ),
+    // quotes and backslashes
+    (
+        "HOA: v1 tool: \"\\\\\" name: \"a\\\"b\" AP: 2 \"\" \"/*\" Acceptance: 0 f --BODY-- State: 0 \"\" --END--",
+        "HOA: v1\ntool: \"\\\\\"\nname: \"a\\\"b\"\nStates: 1\nAP: 2 \"\" \"/*\"\nAcceptance: 0 f\n--BODY--\nState: 0 \"\"\n--END--\n",
+    ),
+    // marks between empty braces, and no properties
+    (
+        "HOA: v1 properties: Acceptance: 3 t --BODY-- State: 0 {} 0 {2 0 1 0} --END--",
+        "HOA: v1\nStates: 1\nAP: 0\nAcceptance: 3 t\n--BODY--\nState: 0\n0 {0 1 2}\n--END--\n",
+    ),
+    // parentheses that group as operators do, and others
+    (
+        "HOA: v1 AP: 2 \"a\" \"b\" Acceptance: 0 t --BODY-- State: 0 [(0|(1))&!((0&1))] 0 [0&(1&t)|(f|(0&1))] 0 --END--",
+        "HOA: v1\nStates: 1\nAP: 2 \"a\" \"b\"\nAcceptance: 0 t\n--BODY--\nState: 0\n[(0|1)&!(0&1)] 0\n[0&(1&t)|(f|0&1)] 0\n--END--\n",
+    ),
+    // the same of an acceptance
+    (
+        "HOA: v1 Acceptance: 3 (Inf(0)|Fin(!1))&(Inf(2)) | ((t) & f) --BODY-- --END--",
+        "HOA: v1\nStates: 0\nAP: 0\nAcceptance: 3 (Inf(0)|Fin(!1))&Inf(2)|t&f\n--BODY--\n--END--\n",
+    ),
+    // aliases that double
+    (
+        "HOA: v1 AP: 1 \"a\" Alias: @a 0&0 Alias: @b @a&@a Alias: @c @b&@b Acceptance: 0 t --BODY-- State: [@c] 0 --END--",
+        "HOA: v1\nStates: 1\nAP: 1 \"a\"\nAcceptance: 0 t\n--BODY--\nState: [0&0&(0&0)&(0&0&(0&0))] 0\n--END--\n",
+    ),
+    // comments and white space
+    (
+        "/* a /* b */ */HOA: v1\r\n\tAcceptance:/**/0 t/**/--BODY--State: 0 0&0--END--",
+        "HOA: v1\nStates: 1\nAP: 0\nAcceptance: 0 t\n--BODY--\nState: 0\n0&0\n--END--\n",
+    ),
+];
+
+#[test]
+fn texts_have_their_canonical_texts(rt: HostRuntime) -> Result<(), Fail> {
+    for (text, wanted) in TEXTS.iter() {
+        assert!(rt;
+            is_canonical(rt.alloc(), text.as_bytes(), wanted.as_bytes())?,
+            "{text}"
+        );
+    }
+    Ok(())
+}
+
+#[test]
+fn canonical_texts_are_their_own(rt: HostRuntime) -> Result<(), Fail> {
+    for (_, wanted) in TEXTS.iter() {
+        assert!(rt;
+            is_canonical(rt.alloc(), wanted.as_bytes(), wanted.as_bytes())?,
+            "{wanted}"
+        );
+    }
+    Ok(())
+}
+
+// An automaton of one proposition with aliases `@a0` as `0&0` and each next one as the one before it twice, up to this one.
+fn doubling(alloc: Global, last: u32) -> Result<Vec<u8>, Refusal> {
+    let mut text = Vec::new(alloc);
+    text.extend_from_slice(b"HOA: v1 AP: 1 \"a\" Acceptance: 0 t Alias: @a0 0&0")?;
+    for number in 1..=last {
+        put_alias(&mut text, number)?;
+    }
+    text.extend_from_slice(b" --BODY-- State: [@a")?;
+    write_number(u128::from(last), &mut text)?;
+    text.extend_from_slice(b"] 0 --END--")?;
+    Ok(text)
+}
+
+// The definition of an alias as the one before it twice.
+fn put_alias(text: &mut Vec<u8>, number: u32) -> Result<(), Refusal> {
+    let before = u128::from(number.saturating_sub(1));
+    text.extend_from_slice(b" Alias: @a")?;
+    write_number(u128::from(number), text)?;
+    text.extend_from_slice(b" @a")?;
+    write_number(before, text)?;
+    text.extend_from_slice(b"&@a")?;
+    write_number(before, text)
+}
+
+// How long the canonical text of such an automaton is, and whether it is its own canonical text.
+fn length_of_doubling(alloc: Global, last: u32) -> Result<(usize, bool), Refusal> {
+    let text = doubling(alloc, last)?;
+    let once = canon(alloc, text.as_slice())?;
+    let twice = canon(alloc, once.as_slice())?;
+    Ok((once.len(), once.as_slice() == twice.as_slice()))
+}
+
+// The 32,768 propositions with an operator between each two, and parentheses round each right part but the least ones.
+#[test]
+fn doubling_aliases_are_written_out(rt: HostRuntime) -> Result<(), Fail> {
+    assert_eq!(rt; length_of_doubling(rt.alloc(), 2)?, (94, true));
+    assert_eq!(rt; length_of_doubling(rt.alloc(), 14)?, (98_374, true));
+    Ok(())
+}

@@ -1,0 +1,149 @@
+use omega_automaton::{Automaton, RawAutomaton, automaton_of};
+use omega_empty::{Refusal, emptiness_game};
+use omega_game::Game;
+use omega_pg::write_game;
+use omega_raw::read_raw;
+use omega_text::{Cursor, hoa_tokens};
+use std::alloc::Global;
+use std::test::Fail;
+
+// The raw automaton that a text is read as.
+fn raw_in(alloc: Global, text: &str) -> Result<RawAutomaton, Refusal> {
+    let tokens = hoa_tokens(alloc, text.as_bytes())?;
+    let mut cursor = Cursor::new(tokens.as_slice(), text.len());
+    read_raw(alloc, &mut cursor)
+}
+
+// The automaton that a text means.
+fn automaton_in(alloc: Global, text: &str) -> Result<Automaton, Refusal> {
+    match raw_in(alloc, text) {
+        Ok(raw) => automaton_of(alloc, raw),
+        Err(refusal) => Err(refusal),
+    }
+}
+
+// The text of a game.
+fn written(alloc: Global, game: Game) -> Result<Vec<u8>, Refusal> {
+    write_game(alloc, &game)
+}
+
+// The emptiness game of an automaton.
+fn game_of(alloc: Global, automaton: Automaton) -> Result<Game, Refusal> {
+    emptiness_game(alloc, &automaton)
+}
+
+// The emptiness game of the automaton that a text means.
+fn game_in(alloc: Global, text: &str) -> Result<Game, Refusal> {
+    match automaton_in(alloc, text) {
+        Ok(automaton) => game_of(alloc, automaton),
+        Err(refusal) => Err(refusal),
+    }
+}
+
+// The text of an automaton's emptiness game.
+fn game_text(alloc: Global, text: &str) -> Result<Vec<u8>, Refusal> {
+    match game_in(alloc, text) {
+        Ok(game) => written(alloc, game),
+        Err(refusal) => Err(refusal),
+    }
+}
+
+// How many nodes the emptiness game has, 0 where it is refused.
+fn size_in(alloc: Global, text: &str) -> usize {
+    match game_in(alloc, text) {
+        Ok(game) => game.len(),
+        Err(_) => 0,
+    }
+}
+
+// The number of a refusal, 0 where there is none.
+fn number_of(answer: Result<Vec<u8>, Refusal>) -> u32 {
+    match answer {
+        Ok(_) => 0,
+        Err(refusal) => refusal.number(),
+    }
+}
+
+// Automata, and their games by the table: a co-Büchi one with marks of its own, the same set held by a state, an edge that is
+// never usable, an undefined state, and two sets waited for in turn.
+const GAMES: [(&str, &str); 5] = [
+    (
+        "HOA: v1 States: 2 Start: 0 acc-name: co-Buchi Acceptance: 1 Fin(0) --BODY-- State: 0 [t] 0 {0} [t] 1 State: 1 [t] 1 --END--",
+        "parity 5;\n0 0 0 2,3;\n1 0 0 4;\n2 1 0 0;\n3 0 0 1;\n4 0 0 1;\n5 1 0 5;\n",
+    ),
+    (
+        "HOA: v1 States: 1 Start: 0 acc-name: Buchi Acceptance: 1 Inf(0) --BODY-- State: 0 {0} [t] 0 --END--",
+        "parity 2;\n0 0 0 1;\n1 2 0 0;\n2 1 0 2;\n",
+    ),
+    (
+        "HOA: v1 States: 2 AP: 1 \"a\" Start: 1 acc-name: all Acceptance: 0 t --BODY-- State: 1 [0&!0] 0 [0] 1 State: 0 --END--",
+        "parity 4;\n0 0 0 4;\n1 0 0 3;\n3 0 0 1;\n4 1 0 4;\n",
+    ),
+    (
+        "HOA: v1 States: 2 acc-name: none Acceptance: 0 f --BODY-- --END--",
+        "parity 2;\n0 0 0 2;\n1 0 0 2;\n2 1 0 2;\n",
+    ),
+    (
+        "HOA: v1 States: 1 Start: 0 acc-name: generalized-Buchi 2 Acceptance: 2 Inf(0)&Inf(1) --BODY-- State: 0 [t] 0 {0} [t] 0 {1} --END--",
+        "parity 6;\n0 0 0 1,2;\n1 1 0 3;\n2 1 0 0;\n3 0 0 4,5;\n4 1 0 3;\n5 2 0 0;\n6 1 0 6;\n",
+    ),
+];
+
+#[test]
+fn games_are_by_the_table(rt: HostRuntime) -> Result<(), Fail> {
+    for (text, want) in GAMES.iter() {
+        let made = game_text(rt.alloc(), text)?;
+        assert_eq!(rt; made.as_slice(), want.as_bytes(), "{text}");
+    }
+    Ok(())
+}
+
+// Automata without a game, each with the number of its refusal: none is decided, one branches, one mentions 13 propositions on
+// a state that is not reached, one has too many identifiers, and the least number decides.
+const REFUSED: [(&str, u32); 7] = [
+    ("HOA: v1 Acceptance: 0 t --BODY-- --END--", 40),
+    (
+        "HOA: v1 acc-name: generalized-Buchi 2 Acceptance: 2 Inf(1)&Inf(0) --BODY-- --END--",
+        40,
+    ),
+    (
+        "HOA: v1 States: 1 Start: 0&0 acc-name: all Acceptance: 0 t --BODY-- --END--",
+        41,
+    ),
+    (
+        "HOA: v1 States: 1 acc-name: all Acceptance: 0 t --BODY-- State: 0 [f] 0&0 --END--",
+        41,
+    ),
+    (
+        "HOA: v1 States: 2 Start: 0 AP: 13 \"a\" \"b\" \"c\" \"d\" \"e\" \"f\" \"g\" \"h\" \"i\" \"j\" \"k\" \"l\" \"m\" acc-name: all Acceptance: 0 t --BODY-- State: 0 State: 1 [0&1&2&3&4&5&6&7&8&9&10&11&12] 1 --END--",
+        42,
+    ),
+    (
+        "HOA: v1 States: 2147483647 acc-name: all Acceptance: 0 t --BODY-- --END--",
+        13,
+    ),
+    (
+        "HOA: v1 States: 2147483647 Start: 0&0 Acceptance: 0 t --BODY-- --END--",
+        13,
+    ),
+];
+
+#[test]
+fn automata_without_a_game_are_refused(rt: HostRuntime) {
+    for (text, want) in REFUSED.iter() {
+        assert_eq!(rt; number_of(game_text(rt.alloc(), text)), *want, "{text}");
+    }
+}
+
+// As many states as fit with 16 sets, and one more.
+const MOST: &str =
+    "HOA: v1 States: 65535 Start: 0 acc-name: generalized-Buchi 16 Acceptance: 16 Inf(0)&Inf(1)&Inf(2)&Inf(3)&Inf(4)&Inf(5)&Inf(6)&Inf(7)&Inf(8)&Inf(9)&Inf(10)&Inf(11)&Inf(12)&Inf(13)&Inf(14)&Inf(15) --BODY-- --END--";
+
+const MORE: &str =
+    "HOA: v1 States: 65536 Start: 0 acc-name: generalized-Buchi 16 Acceptance: 16 Inf(0)&Inf(1)&Inf(2)&Inf(3)&Inf(4)&Inf(5)&Inf(6)&Inf(7)&Inf(8)&Inf(9)&Inf(10)&Inf(11)&Inf(12)&Inf(13)&Inf(14)&Inf(15) --BODY-- --END--";
+
+#[test]
+fn sixteen_sets_take_sixteen_counters(rt: HostRuntime) {
+    assert_eq!(rt; size_in(rt.alloc(), MOST), 1_048_561);
+    assert_eq!(rt; number_of(game_text(rt.alloc(), MORE)), 13);
+}

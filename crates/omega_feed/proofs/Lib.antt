@@ -1,0 +1,3 @@
+-- Lemmas by theme.
+pub mod Follows
+pub mod Pieces

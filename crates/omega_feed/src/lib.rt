@@ -1,0 +1,12 @@
+//! Streams of automata read from an input in pieces, and what is told of their items.
+#![tactic(auto)]
+
+mod item_text;
+mod stream_input;
+mod telling;
+
+pub use item_text::ItemText;
+pub use omega_hoa::{Automaton, Item};
+pub use omega_io::Input;
+pub use omega_text::Refusal;
+pub use stream_input::tell_stream;

@@ -1,0 +1,83 @@
+ghost use Rattle.std.specs.Prelude.{◌≡◌, ◌++◌, ◌+◌, ◌^◌, ◌<◌, ◌≤◌, [], List, ℕ, length, IfErr, IfOk, IsOkUnless, OnOk};
+ghost use Rattle.omega_text.specs.Limits.{most_text};
+ghost use Rattle.omega_text.specs.declared.refusal.Refusal.TheVariants.{Memory};
+ghost use Rattle.omega_hoa.specs.Stream.{IsStreamRefusal};
+ghost use Rattle.omega_feed.specs.Telling.{IsTelling, texts_from};
+ghost use Rattle.omega_feed.specs.steps.Following.{Follows, FollowsSome};
+
+use crate::item_text::ItemText;
+use omega_hoa::{Item, Stream};
+use omega_text::{HoaKind, Refusal, TokenKind};
+use std::alloc::Global;
+
+/// What is told of a stream so far, as its bytes come.
+#[derive(Drop)]
+pub(crate) struct Telling {
+    pub(crate) stream: Stream,
+    /// How many items were told of.
+    pub(crate) count: usize,
+    pub(crate) told: Vec<u8>,
+}
+
+/// Before the first byte.
+pub(crate) fn begin<T: ItemText>(alloc: Global) -> Telling
+    ensures { Follows T.text [] result }
+{
+    Telling {
+        stream: Stream::new(alloc),
+        count: 0,
+        told: Vec::new(alloc),
+    }
+}
+
+/// Takes the next piece, and tells of the items of the segments that end in it. Of a piece that is refused, and of those
+/// behind it, nothing is told: the stream keeps its refusal. 60 alone.
+pub(crate) fn take_piece<T: ItemText>(
+    alloc: Global,
+    telling: &mut Telling,
+    piece: &[u8],
+) -> Result<(), Refusal>
+    requires { FollowsSome T.text telling.old }
+    ensures follows { OnOk result ((seen : List ℕ) → length seen + length piece.now ≤ most_text → Follows T.text seen telling.old → Follows T.text (seen ++ piece.now) telling.new) }
+    ensures memory { IsOkUnless result Memory }
+{
+    HoaKind::goes_on_one_way();
+    let mut items = Vec::new(alloc);
+    match telling.stream.feed(piece, &mut items) {
+        Ok(()) => {
+            append_items::<T>(telling.count, items.as_slice(), &mut telling.told)?;
+            telling.count += items.len();
+            Ok(())
+        }
+        Err(refusal) => match refusal {
+            Refusal::Memory => Err(Refusal::Memory),
+            _ => Ok(()),
+        },
+    }
+}
+
+/// Tells of items, of which the first has this number. 60 alone.
+fn append_items<T: ItemText>(first: usize, items: &[Item], out: &mut Vec<u8>) -> Result<(), Refusal>
+    requires { first + length items.now < 2 ^ 64 }
+    ensures told { OnOk result (out.new.items ≡ out.old.items ++ texts_from T.text first items.now) }
+    ensures memory { IsOkUnless result Memory }
+{
+    for (place, item) in items.iter().enumerate() {
+        T::append(first + place, item, out)?;
+    }
+    Ok(())
+}
+
+/// Ends the stream, and gives what was told of it. 1 to 3 or 20 to 33: the refusal of the text.
+pub(crate) fn end<T: ItemText>(telling: Telling) -> Result<Vec<u8>, Refusal>
+    ensures told { IfOk result (λ told. (seen : List ℕ) → Follows T.text seen telling → IsTelling T.text seen told.items) }
+    ensures refused { IfErr result (λ refusal. (seen : List ℕ) → length seen ≤ most_text → Follows T.text seen telling → IsStreamRefusal seen refusal) }
+{
+    let Telling {
+        stream,
+        count: _,
+        told,
+    } = telling;
+    stream.finish()?;
+    Ok(told)
+}

@@ -1,0 +1,2 @@
+-- What the private contracts of the search for counterexamples cite.
+pub mod Ways

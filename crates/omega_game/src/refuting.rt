@@ -1,0 +1,92 @@
+//! Why a strategy does not win, without a solver.
+ghost use Rattle.std.specs.Prelude.{◌≡◌, ◌↔◌, ℕ, ◌<◌, length, All, IfOk, IfSome, IsNone, IsOkUnless};
+ghost use Rattle.omega_game.specs.Counterexample.{IsCounterexample};
+ghost use Rattle.omega_game.specs.Winning.{IsStrategy, Wins};
+ghost use Rattle.omega_game.specs.checking.Reaching.{LeadsInside};
+ghost use Rattle.omega_game.specs.checking.Recurring.{Recurs};
+ghost use Rattle.omega_game.specs.refuting.Ways.{IsCycle};
+
+mod breadth;
+mod ways;
+
+use crate::checking::deciding::decide;
+use crate::checking::decision::Decision;
+use crate::game::Game;
+use crate::lasso::Lasso;
+use crate::player::Player;
+use crate::reaching::{edges_left, reached_from};
+use crate::strategy::Strategy;
+use omega_text::{Refusal, Seq};
+use std::alloc::{AllocError, Global};
+use ways::way_to;
+
+/// Why a strategy of the player does not win from each of the places, which may come in any order and repeatedly: a walk
+/// from one of them that the strategy leaves possible, to a cycle on which the player loses. None exactly where it wins
+/// from each. `Memory` where a request for memory is refused.
+///
+/// The decision is that of `check_strategy`, at its cost, and rests on a place of a losing priority that comes back to
+/// itself. The cycle begins there. The stem is a shortest walk to it from one of the places, and the cycle a shortest one
+/// through no greater priority, so that it visits no place twice. Both are found by searches in breadth, linear in nodes
+/// and edges.
+pub fn counterexample(
+    alloc: Global,
+    game: &Game,
+    player: Player,
+    places: &[u32],
+    strategy: &Strategy,
+) -> Result<Option<Lasso>, Refusal>
+    requires places { All (λ place. place < length game.now) places.now }
+    requires fits { IsStrategy game.now player strategy.now.choice }
+    ensures none { IfOk result (λ found. IsNone found ↔ All (λ place. Wins game.now player strategy.now.choice place) places.now) }
+    ensures lasso { IfOk result (λ found. IfSome found (IsCounterexample game.now player strategy.now.choice places.now)) }
+    ensures memory { IsOkUnless result Refusal.Memory }
+{
+    let found = lasso_against(alloc, game, player, places, strategy.choice.as_slice())?;
+    Ok(found)
+}
+
+/// A lasso that shows why choices that are a strategy of the player do not win, none where they do.
+fn lasso_against(
+    alloc: Global,
+    game: &Game,
+    player: Player,
+    places: &[u32],
+    choices: &[Option<u32>],
+) -> Result<Option<Lasso>, AllocError>
+    requires places { All (λ place. place < length game.now) places.now }
+    requires strategy { IsStrategy game.now player choices.now }
+    ensures none { IfOk result (λ found. IsNone found ↔ All (λ place. Wins game.now player choices.now place) places.now) }
+    ensures lasso { IfOk result (λ found. IfSome found (IsCounterexample game.now player choices.now places.now)) }
+{
+    game.keeps_limits();
+    let marks = reached_from(alloc, game, choices, u32::MAX, places)?;
+    match decide(alloc, game, player, choices, &marks)? {
+        Decision::Wins => Ok(None),
+        Decision::Loses(place) => {
+            let stem = way_to(alloc, game, choices, u32::MAX, places, place)?;
+            let cycle = cycle_at(alloc, game, choices, place)?;
+            Ok(Some(Lasso {
+                stem: Seq::from_vec(stem),
+                cycle: Seq::from_vec(cycle),
+            }))
+        }
+    }
+}
+
+/// A place that recurs, and the places before it on a shortest way from it to itself.
+fn cycle_at(
+    alloc: Global,
+    game: &Game,
+    choices: &[Option<u32>],
+    place: u32,
+) -> Result<Vec<u32>, AllocError>
+    requires inside { place < length game.now }
+    requires choices { LeadsInside game.now choices.now }
+    requires recurs { Recurs game.now choices.now place }
+    ensures cycle { IfOk result (λ cycle. IsCycle game.now choices.now place cycle.items) }
+{
+    let left = edges_left(game, choices, place);
+    let mut cycle = way_to(alloc, game, choices, game.priority(place), left, place)?;
+    cycle.insert(0, place)?;
+    Ok(cycle)
+}

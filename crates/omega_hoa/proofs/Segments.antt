@@ -1,0 +1,40 @@
+-- What the bytes of a segment are read as.
+use Rattle.std.proofs.Common.{◌≡◌, ℕ, List, [], ap, subst, sym, ◌∙◌}
+use Rattle.omega_text.specs.Cases.{or_memory}
+use Rattle.omega_text.specs.Lexeme.{Lexeme}
+use Rattle.omega_text.specs.declared.hoa.kind.HoaKind.{HoaKind}
+use Rattle.omega_text.specs.declared.refusal.Refusal.{Refusal}
+use Rattle.omega_text.specs.declared.refusal.Refusal.TheVariants.{Automaton as AutomatonRefusal, Memory, Text}
+use Rattle.omega_text.specs.declared.refusal.text.TextFault.{TextFault}
+use Rattle.omega_text.specs.declared.refusal.text.TextFault.TheVariants.{Syntax}
+use Rattle.omega_acc.specs.Symbols.{IsUnread}
+use Rattle.omega_raw.specs.Grammar.{ReadsAutomaton, ReadsNone}
+use Rattle.omega_raw.specs.declared.raw_automaton.RawAutomaton.{RawAutomaton}
+use Rattle.omega_automaton.specs.Meaning.{IsMeaningless}
+use Rattle.omega_hoa.specs.Segment.{IsNoRaw, IsRawOf, IsSegmentFault}
+use Rattle.omega_hoa.specs.Stream.{IsSegment}
+use Rattle.omega_hoa.proofs.Writing.{nothing_left}
+
+-- an automaton that is read of a segment's tokens is all of them
+pub all_read : (tokens lexemes rest : List (Lexeme HoaKind)) (raw : RawAutomaton) (mark : HoaKind) → tokens ≡ lexemes → ReadsAutomaton tokens raw rest → IsSegment mark lexemes → IsRawOf lexemes raw
+all_read tokens lexemes rest raw mark same reads segment = nothing_left lexemes rest raw mark segment (subst (λ ls. ReadsAutomaton ls raw rest) same reads)
+
+-- where none is read the tokens are no automaton's
+pub none_read : (tokens lexemes : List (Lexeme HoaKind)) (refusal : Refusal) (fault : TextFault) (at : ℕ) → tokens ≡ lexemes → refusal ≡ Text fault → fault ≡ Syntax at
+    → IsUnread (ReadsNone tokens) refusal → IsNoRaw lexemes
+none_read tokens lexemes refusal fault at same is syntax unread =
+    let none : ReadsNone tokens = subst (IsUnread (ReadsNone tokens)) (is ∙ ap (λ said. Text said) syntax) unread in
+    λ raw written. none raw [] (subst (λ ls. ReadsAutomaton ls raw []) (sym same) written)
+
+-- a segment that is not read has a fault
+pub unread_fault : (lexemes : List (Lexeme HoaKind)) (refusal : Refusal) → IsUnread (IsNoRaw lexemes) refusal → or_memory (IsSegmentFault lexemes) refusal
+unread_fault lexemes (Text (Syntax at)) unread = unread
+unread_fault lexemes (Text fault) unread = absurd unread
+unread_fault lexemes Memory unread = tt
+unread_fault lexemes refusal unread = absurd unread
+
+-- so has one that means nothing
+pub meaningless_fault : (lexemes : List (Lexeme HoaKind)) (raw : RawAutomaton) (refusal : Refusal) → IsRawOf lexemes raw → IsMeaningless raw refusal → or_memory (IsSegmentFault lexemes) refusal
+meaningless_fault lexemes raw (AutomatonRefusal fault) written has = record { raw = raw; written = written; has = has }
+meaningless_fault lexemes raw Memory written has = tt
+meaningless_fault lexemes raw refusal written has = absurd has

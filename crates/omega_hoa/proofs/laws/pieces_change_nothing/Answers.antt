@@ -1,0 +1,8 @@
+-- How a text is cut into pieces changes neither its items nor its last refusal.
+use Rattle.omega_hoa.proofs.AnyCut.{cuts_change_nothing}
+use Rattle.omega_hoa.proofs.Readings.{readings_of}
+use Rattle.omega_hoa.proofs.laws.pieces_change_nothing.Goals as goal
+
+pub returns : goal.returns
+returns c = λ seen.
+    cuts_change_nothing (readings_of c.raws_are_one.ensures c.meanings_are_one.ensures) c.goes_on_one_way.ensures c.cuts_are_one.ensures seen

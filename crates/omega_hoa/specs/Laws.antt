@@ -1,0 +1,67 @@
+-- What holds of texts of one automaton, of streams, and of streams in pieces, whatever the code does.
+use Rattle.std.specs.Prelude.{◌≡◌, ℕ, ◌⊎◌, List, Option, Some, None, MatchOption}
+use Rattle.omega_text.specs.Refusal.{number_of}
+use Rattle.omega_text.specs.declared.refusal.Refusal.{Refusal}
+use Rattle.omega_text.specs.declared.refusal.Refusal.TheVariants.{Text}
+use Rattle.omega_text.specs.declared.refusal.text.TextFault.TheVariants.{TooLong}
+use Rattle.omega_automaton.specs.Automaton.{Description}
+use Rattle.omega_hoa.specs.Alone.{IsAutomatonRefusal, IsAutomatonText}
+use Rattle.omega_hoa.specs.Feeding.{IsFed}
+use Rattle.omega_hoa.specs.Kept.{Kept}
+use Rattle.omega_hoa.specs.Stream.{IsStreamFault, IsStreamRefusal, IsStreamText}
+use Rattle.omega_hoa.specs.declared.item.Item.{Item}
+
+-- two refusals are the same, but for the place of 3, which inside a segment is shown by tests alone
+abbrev pub AreAlike : Refusal → Refusal → Type 0
+AreAlike one other = (one ≡ other) ⊎ ((number_of one ≡ 3) × (number_of other ≡ 3))
+
+-- a text is that of at most one automaton
+abbrev pub AutomataAreOne : Type 0
+AutomataAreOne = (source : List ℕ) (one other : Description) → IsAutomatonText source one → IsAutomatonText source other → one ≡ other
+
+-- a text that is not that of one automaton has at most one refusal
+abbrev pub RefusalsAreOne : Type 0
+RefusalsAreOne = (source : List ℕ) (one other : Refusal) → IsAutomatonRefusal source one → IsAutomatonRefusal source other → AreAlike one other
+
+-- the text of an automaton has no refusal
+abbrev pub AutomataAreUnrefused : Type 0
+AutomataAreUnrefused = (source : List ℕ) (automaton : Description) (refusal : Refusal) → IsAutomatonText source automaton → IsAutomatonRefusal source refusal → ⊥
+
+-- no text is neither
+abbrev pub AutomataOrRefused : Type 0
+AutomataOrRefused = (source : List ℕ) → ((automaton : Description) → IsAutomatonText source automaton → ⊥) → ((refusal : Refusal) → IsAutomatonRefusal source refusal → ⊥) → ⊥
+
+-- a text is a stream with at most one list of items
+abbrev pub StreamsAreOne : Type 0
+StreamsAreOne = (source : List ℕ) (one other : List Item) → IsStreamText source one → IsStreamText source other → one ≡ other
+
+-- a text that is no stream is refused behind at most one list of items, and has at most one refusal
+abbrev pub StreamFaultsAreOne : Type 0
+StreamFaultsAreOne = (source : List ℕ) (items others : List Item) (one other : Refusal) → IsStreamFault source items one → IsStreamFault source others other
+    → (items ≡ others) × AreAlike one other
+
+-- a stream has no refusal
+abbrev pub StreamsAreUnrefused : Type 0
+StreamsAreUnrefused = (source : List ℕ) (items : List Item) (refusal : Refusal) → IsStreamText source items → IsStreamRefusal source refusal → ⊥
+
+-- no text is neither
+abbrev pub StreamsOrRefused : Type 0
+StreamsOrRefused = (source : List ℕ) → ((items : List Item) → IsStreamText source items → ⊥) → ((refusal : Refusal) → IsStreamRefusal source refusal → ⊥) → ⊥
+
+-- what a stream answers at its end that was fed with these bytes, and gave these items: nothing where they are a stream, else what refuses them, or what refused them before
+abbrev pub IsAnsweredAtEnd : List ℕ → List Item → Kept → Option Refusal → Type 0
+IsAnsweredAtEnd seen items kept None = IsStreamText seen items
+IsAnsweredAtEnd seen items kept (Some refusal) = MatchOption kept.refused (IsStreamFault seen items refusal) (λ before. refusal ≡ before)
+
+-- two answers are the same, but for the place of 3
+abbrev pub AnswersAreAlike : Option Refusal → Option Refusal → Type 0
+AnswersAreAlike None None = Unit {0}
+AnswersAreAlike None (Some other) = ⊥
+AnswersAreAlike (Some one) None = ⊥
+AnswersAreAlike (Some one) (Some other) = AreAlike one other
+
+-- two streams that were fed with the same bytes, in whichever pieces, and of which none passed the limit, gave the same items and answer alike at their ends
+abbrev pub CutsChangeNothing : Type 0
+CutsChangeNothing = (seen : List ℕ) (items others : List Item) (kept left : Kept) (one other : Option Refusal) → IsFed seen items kept → IsFed seen others left
+    → (one ≡ Some (Text TooLong) → ⊥) → (other ≡ Some (Text TooLong) → ⊥) → IsAnsweredAtEnd seen items kept one → IsAnsweredAtEnd seen others left other
+    → (items ≡ others) × AnswersAreAlike one other

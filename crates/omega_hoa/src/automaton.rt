@@ -1,5 +1,0 @@
-/// An omega-automaton.
-#[derive(Debug, Drop)]
-pub struct Automaton {
-    never: std::convert::Infallible,
-}

@@ -1,0 +1,93 @@
+//! What holds of texts of one automaton and of streams, whatever the code does: each call does nothing and states one law.
+ghost use Rattle.omega_hoa.specs.Laws.{AutomataAreOne, AutomataAreUnrefused, AutomataOrRefused, CutsChangeNothing, RefusalsAreOne, StreamFaultsAreOne, StreamsAreOne, StreamsAreUnrefused, StreamsOrRefused};
+
+use omega_automaton::{meanings_are_one, meanings_are_there};
+use omega_raw::raws_are_one;
+use omega_text::laws::{cut_or_fault, cuts_are_one, cuts_have_no_fault, faults_are_one};
+use omega_text::{HoaKind, TokenKind};
+
+/// A text is that of at most one automaton.
+pub fn automata_are_one()
+    ensures { AutomataAreOne }
+{
+    cuts_are_one::<HoaKind>();
+    raws_are_one();
+    meanings_are_one();
+}
+
+/// A text that is not that of one automaton has at most one refusal, but for the place of 3 inside its segment.
+pub fn refusals_are_one()
+    ensures { RefusalsAreOne }
+{
+    cuts_are_one::<HoaKind>();
+    faults_are_one::<HoaKind>();
+    cuts_have_no_fault::<HoaKind>();
+    raws_are_one();
+    meanings_are_one();
+}
+
+/// The text of an automaton has no refusal.
+pub fn automata_are_unrefused()
+    ensures { AutomataAreUnrefused }
+{
+    cuts_are_one::<HoaKind>();
+    cuts_have_no_fault::<HoaKind>();
+    raws_are_one();
+    meanings_are_one();
+}
+
+/// No text is neither that of an automaton nor refused.
+pub fn automata_or_refused()
+    ensures { AutomataOrRefused }
+{
+    cut_or_fault::<HoaKind>();
+    meanings_are_there();
+}
+
+/// A text is a stream with at most one list of items.
+pub fn streams_are_one()
+    ensures { StreamsAreOne }
+{
+    cuts_are_one::<HoaKind>();
+    raws_are_one();
+    meanings_are_one();
+}
+
+/// A text that is no stream is refused behind at most one list of items, and has at most one refusal but for the place of 3
+/// inside a segment.
+pub fn stream_faults_are_one()
+    ensures { StreamFaultsAreOne }
+{
+    HoaKind::goes_on_one_way();
+    raws_are_one();
+    meanings_are_one();
+}
+
+/// A stream has no refusal.
+pub fn streams_are_unrefused()
+    ensures { StreamsAreUnrefused }
+{
+    HoaKind::goes_on_one_way();
+    raws_are_one();
+    meanings_are_one();
+}
+
+/// No text is neither a stream nor refused.
+pub fn streams_or_refused()
+    ensures { StreamsOrRefused }
+{
+    HoaKind::goes_on_one_way();
+    cut_or_fault::<HoaKind>();
+    meanings_are_there();
+}
+
+/// In whichever pieces a text within the limit is fed to a `Stream`, its items are the same, and what is answered at its end is
+/// alike: nothing, or the same refusal but for the place of 3 inside a segment.
+pub fn pieces_change_nothing()
+    ensures { CutsChangeNothing }
+{
+    HoaKind::goes_on_one_way();
+    cuts_are_one::<HoaKind>();
+    raws_are_one();
+    meanings_are_one();
+}
