@@ -4,3 +4,5 @@ pub mod Marks
 pub mod Ranges
 pub mod Ready
 pub mod Nodes
+pub mod Starting
+pub mod Passing

@@ -11,6 +11,7 @@ mod kinds;
 mod laws;
 mod marks;
 mod nodes;
+mod searching;
 mod usable;
 mod verdict;
 
@@ -19,4 +20,5 @@ pub use game_laws::{unwon_is_empty, won_walks_accept};
 pub use games::emptiness_game;
 pub use laws::{accepting_lassos_are_won, accepting_runs_have_lassos, lassos_are_accepting_runs};
 pub use omega_automaton::{Automaton, Refusal, Seq};
+pub use searching::lasso;
 pub use verdict::Verdict;
