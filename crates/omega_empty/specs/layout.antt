@@ -1,6 +1,7 @@
--- What private contracts cite: how edges are judged, where those of a state stand, and how nodes are added.
+-- What private contracts cite: how edges are judged, where those of a state stand, how nodes are added, and how choices are followed.
 pub mod Judging
 pub mod Marks
 pub mod Ranges
 pub mod Ready
 pub mod Nodes
+pub mod Following

@@ -4,6 +4,7 @@
 mod branching;
 mod deciding;
 mod edge_ranges;
+mod following;
 mod game_laws;
 mod games;
 mod judged;
@@ -11,6 +12,7 @@ mod kinds;
 mod laws;
 mod marks;
 mod nodes;
+mod starting;
 mod usable;
 mod verdict;
 
