@@ -4,6 +4,7 @@
 mod branching;
 mod deciding;
 mod edge_ranges;
+mod following;
 mod game_laws;
 mod games;
 mod judged;
@@ -12,6 +13,7 @@ mod laws;
 mod marks;
 mod nodes;
 mod searching;
+mod starting;
 mod usable;
 mod verdict;
 
