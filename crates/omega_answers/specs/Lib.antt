@@ -1,8 +1,10 @@
 -- What each subcommand answers and refuses; in `steps` what private contracts alone cite.
+pub mod Game
 pub mod PlayerText
 pub mod Verify
 pub mod canon
 pub mod check
+pub mod empty
 pub mod show
 pub mod solve
 pub mod steps

@@ -99,7 +99,7 @@ Asks subcommand options (line.Run (command.Search from) budget) =
     × Gives (IsNumberText most_number) (text_of name.From options) from × GivesBudget (text_of name.Budget options) budget
 Asks subcommand options (line.Run (command.Verify game explain) budget) = ⊥
 Asks subcommand options (line.Run command.Empty budget) = ⊥
-Asks subcommand options (line.Run command.Game budget) = ⊥
+Asks subcommand options (line.Run command.Game budget) = (subcommand ≡ codes "game") × (budget ≡ most_lifts)
 Asks subcommand options (line.Verify file explain) =
     (subcommand ≡ codes "verify") × (text_of name.Game options ≡ Some (string_bytes file)) × GivesFlag (text_of name.Explain options) explain
 Asks subcommand options (line.Help text) = ⊥
@@ -153,6 +153,7 @@ pub record IsUnknown (subcommand : List ℕ) : Type 0 where
   pub canon : subcommand ≢ codes "canon"
   pub solve : subcommand ≢ codes "solve"
   pub verify : subcommand ≢ codes "verify"
+  pub game : subcommand ≢ codes "game"
 
 -- two options of `solve` that are not given together: the search is for both players
 pub record IsConflict (subcommand : List ℕ) (options : Options) (one other : OptionName) : Type 0 where

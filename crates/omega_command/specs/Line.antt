@@ -19,7 +19,7 @@ IsOffered (Solve asked from) = Unit {0}
 IsOffered (Search from) = Unit {0}
 IsOffered (Verify game explain) = Unit {0}
 IsOffered Empty = ⊥
-IsOffered Game = ⊥
+IsOffered Game = Unit {0}
 
 -- what the line asks for can be done: its command is offered, with a budget that a solver takes
 abbrev pub IsRunnable : Line → Type 0

@@ -1,5 +1,6 @@
 mod canon;
 mod check;
+mod game;
 mod options;
 pub mod program;
 mod show;

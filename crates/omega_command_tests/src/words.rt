@@ -3,12 +3,12 @@ use std::alloc::Global;
 use std::test::Fail;
 
 /// Command lines that are at fault, and what the text says of each.
-static FAULTS: [(&str, &str); 40] = [
+static FAULTS: [(&str, &str); 43] = [
     ("", "requires a subcommand"),
     ("frobnicate", "unrecognized subcommand 'frobnicate'"),
     ("help", "unrecognized subcommand 'help'"),
     ("empty", "unrecognized subcommand 'empty'"),
-    ("game", "unrecognized subcommand 'game'"),
+    ("games", "unrecognized subcommand 'games'"),
     ("--version", "unexpected argument '--version'"),
     ("-V", "unexpected argument '-V'"),
     ("show", "--format <FORMAT>"),
@@ -90,6 +90,9 @@ static FAULTS: [(&str, &str); 40] = [
     ),
     ("solve --search --search", "cannot be used multiple times"),
     ("verify --game a --search", "unexpected argument '--search'"),
+    ("game --format hoa", "unexpected argument '--format'"),
+    ("game --budget 1", "unexpected argument '--budget'"),
+    ("game a.hoa", "unexpected argument 'a.hoa'"),
     ("verify", "--game <FILE>"),
     ("verify --game", "a value is required for '--game <FILE>'"),
     ("verify --game a --game b", "cannot be used multiple times"),
@@ -101,7 +104,7 @@ static FAULTS: [(&str, &str); 40] = [
 ];
 
 /// Requests for help, and what the text says.
-static HELP: [(&str, &str); 25] = [
+static HELP: [(&str, &str); 32] = [
     ("--help", "Usage: omega <COMMAND>"),
     ("-h", "3  the budget is used up"),
     ("--help", "0 1 0 1; 1 2 1 0"),
@@ -133,6 +136,13 @@ static HELP: [(&str, &str); 25] = [
         "Usage: omega verify [OPTIONS] --game <FILE>",
     ),
     ("verify -h", "53 BadSolution"),
+    ("game -h", "accepting lasso"),
+    ("game -h", "generalized-Buchi K"),
+    ("game -h", "40 NotParity"),
+    ("game -h", "omega game | omega show --format pg"),
+    ("game --help", "Usage: omega game"),
+    ("game --help", "0 0 0 2,3;"),
+    ("game -h", "the sink"),
 ];
 
 /// The words of a command line, the program's name first.
@@ -240,6 +250,17 @@ fn asks_for_the_search(rt: HostRuntime) -> Result<(), Fail> {
     ] {
         assert_eq!(rt; search_of(rt.alloc(), words)?, asked, "{words}");
     }
+    Ok(())
+}
+
+#[test]
+fn asks_for_the_game(rt: HostRuntime) -> Result<(), Fail> {
+    let words = words_of(rt.alloc(), "game")?;
+    let is_asked = match read_words(rt.alloc(), words.as_slice())? {
+        Line::Run(Command::Game, _) => true,
+        _ => false,
+    };
+    assert!(rt; is_asked);
     Ok(())
 }
 

@@ -9,6 +9,7 @@ use Rattle.omega_command.specs.declared.command.Command.TheVariants.{Canon, Chec
 use Rattle.omega_command.specs.declared.command.Format.TheVariants.{Hoa, Pg}
 use Rattle.omega_io.specs.declared.exit.Exit.{Exit}
 use Rattle.omega_io.specs.declared.exit.Exit.TheVariants.{Done}
+use Rattle.omega_answers.specs.Game.{IsEmptinessGameAnswer, IsEmptinessGameRefusal}
 use Rattle.omega_answers.specs.Verify.{IsVerifyAnswer, IsVerifyRefusal}
 use Rattle.omega_answers.specs.canon.Hoa.{IsStreamCanonAnswer}
 use Rattle.omega_answers.specs.canon.Pg.{IsCanonAnswer}
@@ -40,7 +41,7 @@ Answers (Solve player from) budget text exit output = (exit ≡ Done) × IsSolve
 Answers (Search from) budget text exit output = (exit ≡ Done) × IsSolveAnswer text way.Search from budget output
 Answers (Verify game explain) budget text exit output = IsVerifyAnswer game explain text exit output
 Answers Empty budget text exit output = ⊥
-Answers Game budget text exit output = ⊥
+Answers Game budget text exit output = (exit ≡ Done) × IsEmptinessGameAnswer text output
 
 -- the command refuses the text by this refusal, with this budget
 abbrev pub Refuses : Command → ℕ → List ℕ → Refusal → Type 0
@@ -54,7 +55,7 @@ Refuses (Solve player from) budget text refusal = IsSolveRefusal text (asked_for
 Refuses (Search from) budget text refusal = IsSolveRefusal text way.Search from budget refusal
 Refuses (Verify game explain) budget text refusal = IsVerifyRefusal game text refusal
 Refuses Empty budget text refusal = ⊥
-Refuses Game budget text refusal = ⊥
+Refuses Game budget text refusal = IsEmptinessGameRefusal text refusal
 
 -- the whole input was read, and this is the command's answer to it
 abbrev pub Responds : Command → ℕ → (unread_before unread_after : Option (List ℕ)) → Exit → List ℕ → Type 0

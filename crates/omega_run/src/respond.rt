@@ -6,7 +6,7 @@ ghost use Rattle.omega_io.specs.Failures.{failures_of};
 
 use omega_answers::{
     Asked, canon_game, canon_stream, check_game, check_stream, show_game, show_stream, solve_game,
-    verify_solution,
+    verify_solution, write_emptiness_game,
 };
 use omega_command::{Command, Format};
 use omega_game::Player;
@@ -66,8 +66,11 @@ pub fn respond<R: Input>(
             let text = read_all(alloc, input)?;
             verify_solution(alloc, game.as_slice(), text, *explain)
         }
+        Command::Game => {
+            let text = read_all(alloc, input)?;
+            Ok((Exit::Done, write_emptiness_game(alloc, text)?))
+        }
         Command::Empty => unreachable!(),
-        Command::Game => unreachable!(),
     }
 }
 

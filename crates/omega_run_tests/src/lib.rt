@@ -2,6 +2,8 @@
 #![tactic(auto)]
 
 #[cfg(test)]
+mod emptiness_games;
+#[cfg(test)]
 mod games;
 #[cfg(test)]
 mod running;

@@ -1,4 +1,4 @@
-ghost use Rattle.std.specs.Prelude.{◌≡◌, Bool, Some, IfOk, IfErr, MatchOption};
+ghost use Rattle.std.specs.Prelude.{◌≡◌, Bool, Some, IfOk, IfErr, MatchOption, codes};
 ghost use Rattle.omega_text.specs.Limits.{most_number};
 ghost use Rattle.omega_command.specs.CommandLine.{Asks, Gives, GivesBudget, GivesFlag, IsFaulty, IsFormatText, IsMistake, IsNumberText, IsPlayerText, IsTruthText, text_of};
 ghost use Rattle.omega_command.specs.declared.words.options.OptionName.TheVariants as name;
@@ -33,16 +33,7 @@ pub fn line_for<'a>(
         return Ok(Line::Run(Command::Canon(format_in(options)?), MOST_LIFTS));
     }
     if subcommand == "solve" {
-        let player = player_in(options)?;
-        let from = identifier_in(options)?;
-        let budget = budget_in(options)?;
-        if !is_search(options)? {
-            return Ok(Line::Run(Command::Solve { player, from }, budget));
-        }
-        if player.is_some() {
-            return Err(Mistake::Conflict(OptionName::Search, OptionName::Player));
-        }
-        return Ok(Line::Run(Command::Search { from }, budget));
+        return solving_for(options);
     }
     if subcommand == "verify" {
         let Some(name) = options.game else {
@@ -54,7 +45,27 @@ pub fn line_for<'a>(
             Err(_) => Err(Mistake::Memory),
         };
     }
+    if subcommand == "game" {
+        return Ok(Line::Run(Command::Game, MOST_LIFTS));
+    }
     Err(Mistake::Unknown)
+}
+
+/// What `solve` asks for with the texts of its options, or what is wrong with them.
+fn solving_for<'a>(options: &Options<'a>) -> Result<Line, Mistake<'a>>
+    ensures asked { IfOk result (Asks (codes "solve") options.now) }
+    ensures mistaken { IfErr result (IsMistake (codes "solve") options.now) }
+{
+    let player = player_in(options)?;
+    let from = identifier_in(options)?;
+    let budget = budget_in(options)?;
+    if !is_search(options)? {
+        return Ok(Line::Run(Command::Solve { player, from }, budget));
+    }
+    if player.is_some() {
+        return Err(Mistake::Conflict(OptionName::Search, OptionName::Player));
+    }
+    Ok(Line::Run(Command::Search { from }, budget))
 }
 
 fn format_in<'a>(options: &Options<'a>) -> Result<Format, Mistake<'a>>

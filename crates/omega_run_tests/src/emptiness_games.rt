@@ -1,0 +1,154 @@
+use crate::running::omega;
+use std::alloc::Global;
+use std::test::Fail;
+
+/// A Büchi automaton of one state, whose edge is marked and can be taken.
+const LOOP: &str =
+    "HOA: v1 States: 1 Start: 0 AP: 1 \"a\" acc-name: Buchi Acceptance: 1 Inf(0) --BODY-- State: 0 [0] 0 {0} --END--";
+
+/// The same, where no set of propositions makes the label true.
+const UNUSABLE: &str =
+    "HOA: v1 States: 1 Start: 0 AP: 1 \"a\" acc-name: Buchi Acceptance: 1 Inf(0) --BODY-- State: 0 [0&!0] 0 {0} --END--";
+
+/// Two sets that wait for each other, on two edges of one state.
+const TWO_SETS: &str =
+    "HOA: v1 States: 1 Start: 0 acc-name: generalized-Buchi 2 Acceptance: 2 Inf(0)&Inf(1) --BODY-- State: 0 [t] 0 {0} [t] 0 {1} --END--";
+
+/// An input, and the emptiness game that is written of it.
+static GAMES: [(&str, &str); 9] = [
+    (LOOP, "parity 2;\n0 0 0 1;\n1 2 0 0;\n2 1 0 2;\n"),
+    (UNUSABLE, "parity 2;\n0 0 0 2;\n2 1 0 2;\n"),
+    (
+        TWO_SETS,
+        "parity 6;\n0 0 0 1,2;\n1 1 0 3;\n2 1 0 0;\n3 0 0 4,5;\n4 1 0 3;\n5 2 0 0;\n6 1 0 6;\n",
+    ),
+    (
+        "HOA: v1 States: 2 Start: 0 acc-name: co-Buchi Acceptance: 1 Fin(0) --BODY-- State: 0 [t] 0 {0} [t] 1 State: 1 [t] 1 --END--",
+        "parity 5;\n0 0 0 2,3;\n1 0 0 4;\n2 1 0 0;\n3 0 0 1;\n4 0 0 1;\n5 1 0 5;\n",
+    ),
+    (
+        "HOA: v1 States: 1 Start: 0 acc-name: parity max odd 1 Acceptance: 1 Fin(0) --BODY-- State: 0 [t] 0 --END--",
+        "parity 2;\n0 0 0 1;\n1 0 0 0;\n2 1 0 2;\n",
+    ),
+    (
+        "HOA: v1 States: 1 Start: 0 acc-name: parity max even 1 Acceptance: 1 Inf(0) --BODY-- State: 0 [t] 0 --END--",
+        "parity 2;\n0 0 0 1;\n1 1 0 0;\n2 1 0 2;\n",
+    ),
+    (
+        "HOA: v1 States: 1 Start: 0 acc-name: parity min even 2 Acceptance: 2 Inf(0)|Fin(1) --BODY-- State: 0 [t] 0 {0 1} --END--",
+        "parity 2;\n0 0 0 1;\n1 2 0 0;\n2 1 0 2;\n",
+    ),
+    (
+        "HOA: v1 States: 1 Start: 0 acc-name: generalized-Buchi 1 Acceptance: 1 Inf(0) --BODY-- State: 0 {0} [t] 0 --END--",
+        "parity 2;\n0 0 0 1;\n1 2 0 0;\n2 1 0 2;\n",
+    ),
+    (
+        "HOA: v1 acc-name: all Acceptance: 0 t --BODY-- --END--",
+        "parity 0;\n0 1 0 0;\n",
+    ),
+];
+
+/// An input, and the line of its refusal.
+static REFUSALS: [(&str, &str); 16] = [
+    ("", "omega: 3 Syntax at 0\n"),
+    (
+        "HOA: ( & 7 nonsense --ABORT-- /*a/*b*/c*/ HOA: v1 Acceptance: 0 t --BODY-- --END--",
+        "omega: 3 Syntax at 20\n",
+    ),
+    (
+        "HOA: v1 Acceptance: 0 t --BODY-- --END-- HOA: v1 Acceptance: 0 t --BODY-- --END--",
+        "omega: 3 Syntax at 41\n",
+    ),
+    (
+        "HOA: v1 States: 1 Start: 0 AP: 1 \"a\" Acceptance: 0 t --BODY-- State: 0 0 0 0 --END--",
+        "omega: 30 ImplicitCount\n",
+    ),
+    (
+        "HOA: v1 States: 1 Start: 1 Acceptance: 0 t --BODY-- State: 0 [t] 0&0 --END--",
+        "omega: 24 StateRange\n",
+    ),
+    (
+        "HOA: v1 States: 1 Start: 0 AP: 1 \"a\" Acceptance: 0 t --BODY-- State: 0 0 0 --END--",
+        "omega: 40 NotParity\n",
+    ),
+    (
+        "HOA: v1 States: 2 Start: 0 Acceptance: 0 t --BODY-- State: 0 [t] 0&1 State: 1 --END--",
+        "omega: 40 NotParity\n",
+    ),
+    (
+        "HOA: v1 States: 1 Start: 0 acc-name: Buchi Acceptance: 1 Fin(0) --BODY-- --END--",
+        "omega: 40 NotParity\n",
+    ),
+    (
+        "HOA: v1 States: 1 Start: 0 acc-name: generalized-Buchi 2 Acceptance: 2 Inf(1)&Inf(0) --BODY-- State: 0 [t] 0 {0} [t] 0 {1} --END--",
+        "omega: 40 NotParity\n",
+    ),
+    (
+        "HOA: v1 States: 2 Start: 0 acc-name: all Acceptance: 0 t --BODY-- State: 0 [t] 0&1 State: 1 --END--",
+        "omega: 41 UniversalBranch\n",
+    ),
+    (
+        "HOA: v1 States: 2 Start: 0 acc-name: all Acceptance: 0 t --BODY-- State: 0 [t] 0&0 State: 1 --END--",
+        "omega: 41 UniversalBranch\n",
+    ),
+    (
+        "HOA: v1 States: 2 Start: 0&1 acc-name: all Acceptance: 0 t --BODY-- --END--",
+        "omega: 41 UniversalBranch\n",
+    ),
+    (
+        "HOA: v1 States: 2 Start: 0 AP: 13 \"a\" \"b\" \"c\" \"d\" \"e\" \"f\" \"g\" \"h\" \"i\" \"j\" \"k\" \"l\" \"m\" acc-name: all Acceptance: 0 t --BODY-- State: 1 [0&1&2&3&4&5&6&7&8&9&10&11&12] 1 --END--",
+        "omega: 42 TooManyPropositions\n",
+    ),
+    (
+        "HOA: v1 States: 2147483647 Start: 0 acc-name: all Acceptance: 0 t --BODY-- --END--",
+        "omega: 13 TooManyNodes\n",
+    ),
+    (
+        "HOA: v1 States: 2147483647 Start: 0 Acceptance: 0 t --BODY-- --END--",
+        "omega: 13 TooManyNodes\n",
+    ),
+    (
+        "HOA: v1 States: 65536 Start: 0 acc-name: generalized-Buchi 16 Acceptance: 16 Inf(0)&Inf(1)&Inf(2)&Inf(3)&Inf(4)&Inf(5)&Inf(6)&Inf(7)&Inf(8)&Inf(9)&Inf(10)&Inf(11)&Inf(12)&Inf(13)&Inf(14)&Inf(15) --BODY-- --END--",
+        "omega: 13 TooManyNodes\n",
+    ),
+];
+
+#[test]
+fn writes_emptiness_games(rt: HostRuntime) -> Result<(), Fail> {
+    for (text, game) in GAMES.as_slice() {
+        let left = omega(rt.alloc(), "game", text.as_bytes())?;
+        assert_eq!(rt; left.status, 0, "{text}");
+        assert!(rt; left.output.as_slice() == game.as_bytes(), "{text}");
+        assert!(rt; left.error.is_empty(), "{text}");
+    }
+    Ok(())
+}
+
+#[test]
+fn refuses_emptiness_games(rt: HostRuntime) -> Result<(), Fail> {
+    for (text, line) in REFUSALS.as_slice() {
+        let left = omega(rt.alloc(), "game", text.as_bytes())?;
+        assert_eq!(rt; left.status, 1, "{text}");
+        assert!(rt; left.output.is_empty(), "{text}");
+        assert!(rt; left.error.as_slice() == line.as_bytes(), "{text}");
+    }
+    Ok(())
+}
+
+/// The output of a command line, where it is done.
+fn output_of(alloc: Global, line: &str, text: &[u8]) -> Result<Vec<u8>, Fail> {
+    Ok(omega(alloc, line, text)?.output)
+}
+
+#[test]
+fn solves_what_game_writes(rt: HostRuntime) -> Result<(), Fail> {
+    for (text, solution) in [
+        (LOOP, "paritysol 2;\n0 0 1;\n1 0 0;\n2 1;\n"),
+        (UNUSABLE, "paritysol 2;\n0 1;\n2 1;\n"),
+    ] {
+        let game = output_of(rt.alloc(), "game", text.as_bytes())?;
+        let solved = output_of(rt.alloc(), "solve", game.as_slice())?;
+        assert!(rt; solved.as_slice() == solution.as_bytes(), "{text}");
+    }
+    Ok(())
+}
