@@ -1,5 +1,5 @@
 use omega_automaton::{Automaton, RawAutomaton, automaton_of};
-use omega_empty::{Refusal, Verdict, emptiness_game, lasso};
+use omega_empty::{Refusal, Verdict, emptiness, emptiness_game, lasso};
 use omega_game::Game;
 use omega_pg::write_game;
 use omega_raw::read_raw;
@@ -214,6 +214,37 @@ const SEARCHED: [(&str, &[u32]); 8] = [
         &[],
     ),
 ];
+
+// What lifting within a budget says of an automaton.
+fn decide(alloc: Global, automaton: Automaton, budget: u32) -> Result<Verdict, Refusal> {
+    emptiness(alloc, &automaton, u64::from(budget))
+}
+
+// What lifting within a budget says of the automaton that a text means.
+fn decide_in(alloc: Global, text: &str, budget: u32) -> Result<Verdict, Refusal> {
+    match automaton_in(alloc, text) {
+        Ok(automaton) => decide(alloc, automaton, budget),
+        Err(refusal) => Err(refusal),
+    }
+}
+
+// A Büchi automaton whose lasso takes two lifts: the sink of its game takes them.
+const LOOP: &str =
+    "HOA: v1 States: 1 Start: 0 AP: 1 \"a\" acc-name: Buchi Acceptance: 1 Inf(0) --BODY-- State: 0 [0] 0 {0} --END--";
+
+#[test]
+fn lifting_finds_the_only_cycle(rt: HostRuntime) {
+    for (text, want) in SEARCHED.iter() {
+        assert!(rt; says(decide_in(rt.alloc(), text, 1000), want), "{text}");
+    }
+}
+
+#[test]
+fn lifting_keeps_its_budget(rt: HostRuntime) {
+    assert_eq!(rt; search_number(decide_in(rt.alloc(), LOOP, 0)), 51);
+    assert_eq!(rt; search_number(decide_in(rt.alloc(), LOOP, 1)), 51);
+    assert!(rt; says(decide_in(rt.alloc(), LOOP, 2), &[0]));
+}
 
 #[test]
 fn searches_find_the_only_cycle(rt: HostRuntime) {
