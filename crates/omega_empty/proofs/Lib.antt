@@ -1,7 +1,9 @@
--- Lemmas of emptiness: counters, lassos, the nodes of the game as they are made, who wins it and what that means, and runs.
+-- Lemmas of emptiness: counters, lassos, the nodes of the game as they are made, who wins it and what that means, how its choices are followed, runs, and what a search finds.
 pub mod Counters
 pub mod Leads
 pub mod making
 pub mod playing
 pub mod meaning
 pub mod runs
+pub mod finding
+pub mod walking

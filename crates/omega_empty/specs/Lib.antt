@@ -8,4 +8,5 @@ pub mod Refusing
 pub mod Runs
 pub mod Laws
 pub mod GameLaws
+pub mod Verdict
 pub mod layout

@@ -1,6 +1,9 @@
--- What private contracts cite: how edges are judged, where those of a state stand, and how nodes are added.
+-- What private contracts cite: how edges are judged, where those of a state stand, how nodes are added, how choices are followed, where starts stand, and what a lasso of places passes.
 pub mod Judging
 pub mod Marks
 pub mod Ranges
 pub mod Ready
 pub mod Nodes
+pub mod Starting
+pub mod Passing
+pub mod Following

@@ -1,5 +1,5 @@
 use omega_automaton::{Automaton, RawAutomaton, automaton_of};
-use omega_empty::{Refusal, emptiness_game};
+use omega_empty::{Refusal, Verdict, emptiness, emptiness_game, lasso};
 use omega_game::Game;
 use omega_pg::write_game;
 use omega_raw::read_raw;
@@ -146,4 +146,116 @@ const MORE: &str =
 fn sixteen_sets_take_sixteen_counters(rt: HostRuntime) {
     assert_eq!(rt; size_in(rt.alloc(), MOST), 1_048_561);
     assert_eq!(rt; number_of(game_text(rt.alloc(), MORE)), 13);
+}
+
+// What a search says of an automaton.
+fn search(alloc: Global, automaton: Automaton) -> Result<Verdict, Refusal> {
+    lasso(alloc, &automaton)
+}
+
+// What a search says of the automaton that a text means.
+fn search_in(alloc: Global, text: &str) -> Result<Verdict, Refusal> {
+    match automaton_in(alloc, text) {
+        Ok(automaton) => search(alloc, automaton),
+        Err(refusal) => Err(refusal),
+    }
+}
+
+// Whether a search says that there is a lasso of this cycle, or none where the cycle has no edge.
+fn says(answer: Result<Verdict, Refusal>, want: &[u32]) -> bool {
+    match answer {
+        Ok(Verdict::Empty) => want.is_empty(),
+        Ok(Verdict::Lasso { stem: _, cycle }) => !want.is_empty() && cycle.as_slice() == want,
+        Err(_) => false,
+    }
+}
+
+// The number of the refusal of a search, 0 where there is none.
+fn search_number(answer: Result<Verdict, Refusal>) -> u32 {
+    match answer {
+        Ok(_) => 0,
+        Err(refusal) => refusal.number(),
+    }
+}
+
+// Automata, and the numbers of the edges of their only accepting cycle, which ends with the edge that makes it accept; no
+// numbers where no lasso accepts: an edge that is never usable, no start, no acceptance.
+const SEARCHED: [(&str, &[u32]); 8] = [
+    (
+        "HOA: v1 States: 2 Start: 0 acc-name: co-Buchi Acceptance: 1 Fin(0) --BODY-- State: 0 [t] 0 {0} [t] 1 State: 1 [t] 1 --END--",
+        &[2],
+    ),
+    (
+        "HOA: v1 States: 1 Start: 0 acc-name: Buchi Acceptance: 1 Inf(0) --BODY-- State: 0 {0} [t] 0 --END--",
+        &[0],
+    ),
+    (
+        "HOA: v1 States: 2 Start: 0 Start: 1 acc-name: Buchi Acceptance: 1 Inf(0) --BODY-- State: 0 [t] 0 State: 1 [t] 1 {0} --END--",
+        &[1],
+    ),
+    (
+        "HOA: v1 States: 1 Start: 0 acc-name: generalized-Buchi 2 Acceptance: 2 Inf(0)&Inf(1) --BODY-- State: 0 [t] 0 {0} [t] 0 {1} --END--",
+        &[0, 1],
+    ),
+    (
+        "HOA: v1 States: 1 Start: 0 acc-name: all Acceptance: 0 t --BODY-- State: 0 [t] 0 --END--",
+        &[0],
+    ),
+    (
+        "HOA: v1 States: 1 Start: 0 acc-name: Buchi Acceptance: 1 Inf(0) --BODY-- State: 0 [f] 0 {0} [t] 0 --END--",
+        &[],
+    ),
+    (
+        "HOA: v1 States: 1 acc-name: all Acceptance: 0 t --BODY-- State: 0 [t] 0 --END--",
+        &[],
+    ),
+    (
+        "HOA: v1 States: 1 Start: 0 acc-name: none Acceptance: 0 f --BODY-- State: 0 [t] 0 --END--",
+        &[],
+    ),
+];
+
+// What lifting within a budget says of an automaton.
+fn decide(alloc: Global, automaton: Automaton, budget: u32) -> Result<Verdict, Refusal> {
+    emptiness(alloc, &automaton, u64::from(budget))
+}
+
+// What lifting within a budget says of the automaton that a text means.
+fn decide_in(alloc: Global, text: &str, budget: u32) -> Result<Verdict, Refusal> {
+    match automaton_in(alloc, text) {
+        Ok(automaton) => decide(alloc, automaton, budget),
+        Err(refusal) => Err(refusal),
+    }
+}
+
+// A Büchi automaton whose lasso takes two lifts: the sink of its game takes them.
+const LOOP: &str =
+    "HOA: v1 States: 1 Start: 0 AP: 1 \"a\" acc-name: Buchi Acceptance: 1 Inf(0) --BODY-- State: 0 [0] 0 {0} --END--";
+
+#[test]
+fn lifting_finds_the_only_cycle(rt: HostRuntime) {
+    for (text, want) in SEARCHED.iter() {
+        assert!(rt; says(decide_in(rt.alloc(), text, 1000), want), "{text}");
+    }
+}
+
+#[test]
+fn lifting_keeps_its_budget(rt: HostRuntime) {
+    assert_eq!(rt; search_number(decide_in(rt.alloc(), LOOP, 0)), 51);
+    assert_eq!(rt; search_number(decide_in(rt.alloc(), LOOP, 1)), 51);
+    assert!(rt; says(decide_in(rt.alloc(), LOOP, 2), &[0]));
+}
+
+#[test]
+fn searches_find_the_only_cycle(rt: HostRuntime) {
+    for (text, want) in SEARCHED.iter() {
+        assert!(rt; says(search_in(rt.alloc(), text), want), "{text}");
+    }
+}
+
+#[test]
+fn searches_are_refused_as_games_are(rt: HostRuntime) {
+    for (text, want) in REFUSED.iter() {
+        assert_eq!(rt; search_number(search_in(rt.alloc(), text)), *want, "{text}");
+    }
 }

@@ -25,7 +25,7 @@ length_trail next zero v = refl
 length_trail next (suc k) v = ap suc (length_trail next k (next v))
 
 -- a priority that does not lose for player 0 is even
-even_from : (q : ℕ) → (IsTrue (loses Zero q) → ⊥) → q % 2 ≡ 0
+pub even_from : (q : ℕ) → (IsTrue (loses Zero q) → ⊥) → q % 2 ≡ 0
 even_from q kept = go (cases_eq (q % 2) 1)
   where
     go : (q % 2 ≡ 1) ⊎ (q % 2 ≡ 1 → ⊥) → q % 2 ≡ 0

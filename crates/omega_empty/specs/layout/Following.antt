@@ -1,0 +1,26 @@
+-- Following the choices of player 0 from the node of a start that it wins.
+use Rattle.std.specs.Prelude.{◌≡◌, ◌<◌, ◌≤◌, Bool, true, List, ℕ, Some, drop, length, slice_get, take}
+use Rattle.omega_automaton.specs.Automaton.{Description}
+use Rattle.omega_game.specs.Game.{Node, identifier_at}
+use Rattle.omega_empty.specs.Lasso.{IsAcceptingLasso, IsStart}
+
+-- the node with an identifier stands at a place, which is among those won
+pub record IsWonAt (game : List Node) (won : List Bool) (identifier v : ℕ) : Type 0 where
+  pub node : v < length game
+  pub named : identifier_at game v ≡ identifier
+  pub is_won : slice_get won v ≡ Some true
+
+-- the node of a start, at the first counter, does
+pub record IsWonStart (a : Description) (game : List Node) (won : List Bool) (v : ℕ) : Type 0 where
+  pub start : ℕ
+  pub begins : IsStart a start
+  pub stands : IsWonAt game won start v
+
+-- the node of no start does
+abbrev pub HasNoWonStart : Description → List Node → List Bool → Type 0
+HasNoWonStart a game won = (start v : ℕ) → IsStart a start → ¬ IsWonAt game won start v
+
+-- the edges before the knot are the stem of an accepting lasso, and those from there on its cycle
+pub record IsKnotted (a : Description) (edges : List ℕ) (knot : ℕ) : Type 0 where
+  pub within : knot ≤ length edges
+  pub accepting : IsAcceptingLasso a (take knot edges) (drop knot edges)

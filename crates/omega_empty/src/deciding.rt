@@ -1,0 +1,70 @@
+ghost use Rattle.std.specs.Prelude.{◌≡◌, ◌≤◌, IfErr, IfOk, IsOkUnless, drop, length, take};
+ghost use Rattle.omega_game.specs.declared.player.Player.TheVariants.{Zero};
+ghost use Rattle.omega_solve.specs.Headline.{IsExact};
+ghost use Rattle.omega_solve.specs.Limits.{most_lifts};
+ghost use Rattle.omega_empty.specs.EmptinessGame.{IsEmptinessGame};
+ghost use Rattle.omega_empty.specs.Verdict.{IsEmptinessRefusal, IsVerdict};
+ghost use Rattle.omega_empty.specs.layout.Following.{IsWonStart};
+
+use crate::following::follow_choices;
+use crate::game_laws::unwon_is_empty;
+use crate::games::emptiness_game;
+use crate::starting::won_start;
+use crate::verdict::Verdict;
+use omega_automaton::{Automaton, Refusal};
+use omega_game::{Game, Player};
+use omega_solve::{Found, Nested, PackedTable, Solver};
+use omega_text::Seq;
+use std::alloc::Global;
+
+/// Whether an automaton is empty, or an accepting lasso, found with at most so many lifts in its emptiness game. The
+/// lasso begins at the first start that player 0 wins, and follows the choices until a state comes again at the same
+/// counter. Refused as `emptiness_game` refuses, or else with 50 where the table of lifting would be too wide, with 51
+/// where the budget does not suffice, or with 60.
+pub fn emptiness(alloc: Global, automaton: &Automaton, budget: u64) -> Result<Verdict, Refusal>
+    requires { budget ≤ most_lifts }
+    ensures verdict { IfOk result (IsVerdict automaton.now) }
+    ensures refused { IfErr result (IsEmptinessRefusal automaton.now budget) }
+{
+    unwon_is_empty();
+    automaton.keeps_limits();
+    let game = emptiness_game(alloc, automaton)?;
+    let solver: Solver<'_, PackedTable, Nested> = Solver::prepare(alloc, &game, Player::Zero)?;
+    let found = Found::by(alloc, solver, budget)?;
+    match won_start(automaton, &game, found.won.as_slice()) {
+        None => Ok(Verdict::Empty),
+        Some(start) => lasso_from(alloc, automaton, &game, &found, start),
+    }
+}
+
+/// The lasso that the choices of player 0 make from the place of a start's node. 60 alone.
+fn lasso_from(
+    alloc: Global,
+    automaton: &Automaton,
+    game: &Game,
+    found: &Found,
+    start: u32,
+) -> Result<Verdict, Refusal>
+    requires game { IsEmptinessGame automaton.now game.now }
+    requires exact { IsExact game.now Zero found.now.won.items found.now.choice.items }
+    requires start { IsWonStart automaton.now game.now found.now.won.items start }
+    ensures verdict { IfOk result (IsVerdict automaton.now) }
+    ensures memory { IsOkUnless result Refusal.Memory }
+{
+    let knotted = follow_choices(alloc, automaton, game, found, start)?;
+    lasso_of(alloc, knotted.edges.as_slice(), knotted.knot)
+}
+
+/// The lasso whose cycle begins behind so many of the edges. 60 alone.
+fn lasso_of(alloc: Global, edges: &[u32], knot: usize) -> Result<Verdict, Refusal>
+    requires { knot ≤ length edges.now }
+    ensures lasso { IfOk result (λ verdict. verdict ≡ Verdict.Lasso (take knot edges.now) (drop knot edges.now)) }
+    ensures memory { IsOkUnless result Refusal.Memory }
+{
+    let stem = Vec::from_slice(alloc, &edges[..knot])?;
+    let cycle = Vec::from_slice(alloc, &edges[knot..])?;
+    Ok(Verdict::Lasso {
+        stem: Seq::from_vec(stem),
+        cycle: Seq::from_vec(cycle),
+    })
+}

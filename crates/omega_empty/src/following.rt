@@ -1,0 +1,53 @@
+ghost use Rattle.std.specs.Prelude.{IfOk, IsOkUnless};
+ghost use Rattle.omega_game.specs.declared.player.Player.TheVariants.{Zero};
+ghost use Rattle.omega_solve.specs.Headline.{IsExact};
+ghost use Rattle.omega_empty.specs.EmptinessGame.{IsEmptinessGame};
+ghost use Rattle.omega_empty.specs.layout.Following.{IsKnotted, IsWonStart};
+
+use crate::game_laws::won_walks_accept;
+use omega_automaton::{Automaton, Refusal};
+use omega_game::Game;
+use omega_solve::Found;
+use std::alloc::Global;
+
+/// Edges passed one behind the other, of which the last leads back to where the knot's begins.
+#[derive(Drop)]
+pub(crate) struct Knotted {
+    /// The numbers of the edges.
+    pub(crate) edges: Vec<u32>,
+    /// How many come before the cycle.
+    pub(crate) knot: usize,
+}
+
+/// The edges that the choices of player 0 pass from the place of a start's node until a state's node comes again. A step
+/// passes two nodes: an edge's, and that of the state that it enters. 60 alone.
+pub(crate) fn follow_choices(
+    alloc: Global,
+    automaton: &Automaton,
+    game: &Game,
+    found: &Found,
+    start: u32,
+) -> Result<Knotted, Refusal>
+    requires game { IsEmptinessGame automaton.now game.now }
+    requires exact { IsExact game.now Zero found.now.won.items found.now.choice.items }
+    requires start { IsWonStart automaton.now game.now found.now.won.items start }
+    ensures knotted { IfOk result (λ found. IsKnotted automaton.now found.edges.items found.knot) }
+    ensures memory { IsOkUnless result Refusal.Memory }
+{
+    won_walks_accept();
+    automaton.keeps_limits();
+    let states = u64::from(automaton.state_count());
+    let span = states + u64::from(automaton.edge_count());
+    let mut met = vec![in alloc; None; game.len()]?;
+    let mut edges = Vec::new(alloc);
+    let mut at = start as usize;
+    while met[at].is_none() {
+        met[at] = Some(edges.len());
+        let passed = found.choice[at].unwrap();
+        let number = u64::from(game.id(passed)) % span - states;
+        edges.push(number as u32)?;
+        at = found.choice[passed as usize].unwrap() as usize;
+    }
+    let knot = met[at].unwrap();
+    Ok(Knotted { edges, knot })
+}

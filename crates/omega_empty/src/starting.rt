@@ -1,0 +1,50 @@
+ghost use Rattle.std.specs.Prelude.{◌≡◌, ℕ, MatchOption, [], ◌∷◌, length};
+ghost use Rattle.omega_empty.specs.layout.Following.{HasNoWonStart, IsWonAt, IsWonStart};
+
+use omega_automaton::Automaton;
+use omega_game::Game;
+use omega_text::Seq;
+
+/// The place of the node of the first start, at the first counter, that is among the places won.
+pub(crate) fn won_start(automaton: &Automaton, game: &Game, won: &[bool]) -> Option<u32>
+    requires { length won.now ≡ length game.now }
+    ensures { MatchOption result (HasNoWonStart automaton.now game.now won.now) (IsWonStart automaton.now game.now won.now) }
+{
+    for start in automaton.starts() {
+        if let Some(place) = won_single(game, won, start) {
+            return Some(place);
+        }
+    }
+    None
+}
+
+/// The place of the node of a start, if the start is a single state and its place is among those won.
+fn won_single(game: &Game, won: &[bool], start: &Seq<u32>) -> Option<u32>
+    requires { length won.now ≡ length game.now }
+    ensures { MatchOption result
+        ((state v : ℕ) → start.now ≡ state ∷ [] → ¬ IsWonAt game.now won.now state v)
+        (λ v. (state : ℕ) × (start.now ≡ state ∷ []) × IsWonAt game.now won.now state v) }
+{
+    if start.len() != 1 {
+        return None;
+    }
+    won_place(game, won, start.as_slice()[0])
+}
+
+/// The place of the node with an identifier, if it is among the places won.
+fn won_place(game: &Game, won: &[bool], identifier: u32) -> Option<u32>
+    requires { length won.now ≡ length game.now }
+    ensures { MatchOption result ((v : ℕ) → ¬ IsWonAt game.now won.now identifier v) (IsWonAt game.now won.now identifier) }
+{
+    game.keeps_limits();
+    match game.place_of(identifier) {
+        None => None,
+        Some(place) => {
+            if won[place as usize] {
+                Some(place)
+            } else {
+                None
+            }
+        }
+    }
+}
