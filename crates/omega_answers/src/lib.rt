@@ -4,7 +4,6 @@
 mod automaton_text;
 mod canon;
 mod check;
-mod empty;
 mod game;
 mod game_text;
 mod player_text;

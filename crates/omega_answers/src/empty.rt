@@ -1,1 +1,0 @@
-mod lasso_text;
