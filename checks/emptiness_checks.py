@@ -1,9 +1,9 @@
-"""Emptiness of automata: its game, byte for byte, and whether a lasso is written exactly where one accepts."""
+"""Emptiness games of automata, byte for byte, and that player 0 wins a start's node exactly where a lasso accepts."""
 import subprocess
 
 from automata import Refused, read_one
 from automaton_texts import Maker
-from emptiness import game_text, has_accepting_lasso, judge, lasso_fault
+from emptiness import game_text, has_accepting_lasso, judge
 from program import OMEGA, SECONDS, fault_of, refusal_fault, shown
 
 ONE_STATE = b'HOA: v1 States: 1 Start: 0 AP: 1 "a" acc-name: %s Acceptance: %s --BODY-- State: 0 %s --END--'
@@ -47,36 +47,30 @@ class Emptied(Maker):
         return b"State: " + label + b"%d" % number + self.marks(sets) + b"".join(edges) + b"\n"
 
 
-def numbers_of(line, word):
-    words = line.split(b" ")
-    return [int(number) for number in words[1:]] if words[0] == word else None
+def winners_of(solution):
+    """The winner of each node of a solution text, by its identifier."""
+    lines = [line.rstrip(b";").split(b" ") for line in solution.splitlines()[1:]]
+    return {int(words[0]): int(words[1]) for words in lines}
 
 
-def verdict_fault(text, automaton):
-    """What is wrong with what `empty` says of a text, or nothing."""
-    ran = subprocess.run([OMEGA, "empty"], input=text, capture_output=True, timeout=SECONDS)
-    if ran.returncode or ran.stderr:
+def solution_fault(automaton):
+    """Whether player 0 wins a start's node of the game exactly if some lasso accepts."""
+    ran = subprocess.run([OMEGA, "solve", "--search"], input=game_text(automaton), capture_output=True, timeout=SECONDS)
+    if ran.returncode:
         return f"status {ran.returncode}: {shown(ran.stderr)}"
-    accepts = has_accepting_lasso(automaton)
-    if not accepts:
-        return None if ran.stdout == b"empty\n" else f"{shown(ran.stdout)}, and no lasso accepts"
-    lines = ran.stdout.split(b"\n")
-    if len(lines) != 3 or lines[2]:
-        return f"{shown(ran.stdout)}, and a lasso accepts"
-    stem, cycle = numbers_of(lines[0], b"stem"), numbers_of(lines[1], b"cycle")
-    return "no stem and cycle" if stem is None or cycle is None else lasso_fault(automaton, stem, cycle)
+    winners = winners_of(ran.stdout)
+    won = any(winners[states[0]] == 0 for states in automaton.said(b"Start:"))
+    return None if won == has_accepting_lasso(automaton) else f"player 0 wins a start: {won}"
 
 
-def text_fault(words, text):
-    """What differs from what is wanted of `game` or `empty` for a text, or nothing."""
+def fault_of_game(text):
+    """What differs from what is wanted of `game`, and of `solve` on what it writes, or nothing."""
     try:
         automaton = read_one(text)
         judge(automaton)
     except Refused as refused:
-        return refusal_fault(words, text, refused)
-    if words == ["game"]:
-        return fault_of(words, text, 0, game_text(automaton))
-    return verdict_fault(text, automaton)
+        return refusal_fault(["game"], text, refused)
+    return fault_of(["game"], text, 0, game_text(automaton)) or solution_fault(automaton)
 
 
 def emptiness_checks():
@@ -84,10 +78,8 @@ def emptiness_checks():
              for edge in (b"", b"[0] 0", b"[0&!0] 0", b"[t] 0 {0}", b"[t] 0 {0} [0] 0", b"{0} [t] 0", b"[t] 0&0", b"0 0")]
     texts += [b"", b"x", b"HOA: v1 --BODY-- --END--", b"HOA: x --ABORT--",
               b"HOA: v1 States: 2147483647 acc-name: all Acceptance: 0 t --BODY-- --END--",
-              b"HOA: v1 States: 1048575 acc-name: all Acceptance: 0 t --BODY-- --END--",
               b"HOA: v1 States: 1048576 acc-name: all Acceptance: 0 t --BODY-- --END--"]
     maker = Emptied(2000)
     texts += [maker.automaton_of(*kind) for _ in range(25) for kind in KINDS]
     for text in texts:
-        for name in ("game", "empty"):
-            yield f"{name} of {shown(text)}", text_fault([name], text)
+        yield f"the emptiness game of {shown(text)}", fault_of_game(text)
