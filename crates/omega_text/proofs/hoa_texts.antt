@@ -7,6 +7,7 @@ pub mod Laws
 pub mod Longest
 pub mod Numbers
 pub mod Onward
+pub mod Passing
 pub mod Pieces
 pub mod Read
 pub mod Runs

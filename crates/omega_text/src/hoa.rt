@@ -5,6 +5,7 @@ mod kept_mode;
 mod kind;
 pub mod laws;
 mod mode;
+mod passing;
 mod pending;
 mod placed;
 mod token;

@@ -131,13 +131,18 @@ module _ (bytes : List ℕ) (some : 0 < length bytes) (letter : is_letter (head 
       } in
       first_read bytes (count + 1) (Whole HeaderName) scanned (Some HeaderName) 0 refl (refl, (take count bytes, text, word))
 
+  -- how far a word is read
+  pub first_reached : (kind : HoaKind) → (count ≡ 1 → kind ≡ letter_kind (head bytes)) → (count ≢ 1 → kind ≡ Identifier) → run (Some Start) (take count bytes) ≡ Some (Word kind)
+  first_reached kind one more =
+      let size = length-take-le count bytes within in
+      word_reached (take count bytes) kind word
+      (λ single. one (omega arith) ∙ ap letter_kind (sym (head-take count bytes (omega (arith, word.0)))))
+      (λ long. more (omega arith))
+
   -- a word that no colon follows
   pub first_word : (kind : HoaKind) → (count < length bytes → get_or bytes count 0 ≢ 58) → (count ≡ 1 → kind ≡ letter_kind (head bytes)) → (count ≢ 1 → kind ≡ Identifier) → IsFirstUnit bytes (Some kind) 0 count
   first_word kind no_colon one more =
-      let size = length-take-le count bytes within in
-      let reached = word_reached (take count bytes) kind word
-      (λ single. one (omega arith) ∙ ap letter_kind (sym (head-take count bytes (omega (arith, word.0)))))
-      (λ long. more (omega arith)) in
+      let reached = first_reached kind one more in
       let stuck : count < length bytes → next_mode (Word kind) (get_or bytes count 0) ≡ None = λ inside.
       pass (is_word_byte (get_or bytes count 0)) _ _ (ap (λ n. is_word_byte (get_or bytes n 0)) is ∙ prefix_len_stops is_word_byte bytes 0 (omega arith))
       ∙ pass (get_or bytes count 0 == 58) _ _ (no_test (get_or bytes count 0) 58 (no_colon inside)) in

@@ -13,7 +13,7 @@ use crate::refusal::TextFault;
 use crate::token::Span;
 
 /// Above every number: the value of digits that are none.
-const NO_NUMBER: u64 = MOST_NUMBER as u64 + 1;
+pub(super) const NO_NUMBER: u64 = MOST_NUMBER as u64 + 1;
 
 /// The unit that is being read: how far, where it begins, and the value of its digits.
 #[derive(Clone, Copy, Debug, PartialEq, Eq)]

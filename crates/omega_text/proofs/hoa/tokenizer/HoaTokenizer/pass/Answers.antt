@@ -1,0 +1,17 @@
+-- What was read and settled before, with the bytes that were passed.
+use Rattle.std.proofs.Common.{◌+◌, ◌-◌, refl, sym}
+use Rattle.omega_text.proofs.hoa_texts.Passing.{has_passed, has_passed_none, way_read}
+use Rattle.omega_text.proofs.hoa.tokenizer.HoaTokenizer.pass.Goals as goal
+
+pub pass_bytes-after-requires-clause-way : goal.pass_bytes-after-requires-clause-way
+pass_bytes-after-requires-clause-way c = way_read c.args.self.now _ c.in-None.is c.requires.room
+
+pub returns-in-Some-clause-reads : goal.returns-in-Some-clause-reads
+returns-in-Some-clause-reads c = has_passed_none c.args.bytes.now c.args.from c.args.self.now
+
+pub returns-in-None-clause-reads : goal.returns-in-None-clause-reads
+returns-in-None-clause-reads c =
+    let after = c.pass_bytes-after.result in
+    has_passed c.args.bytes.now c.args.from after.1 c.args.self.now
+    (record { pending = after.0; place = c.args.self.now.place + (after.1 - c.args.from); fault = c.args.self.now.fault })
+    c.pass_bytes-after.ensures c.in-None.is c.in-None.is refl

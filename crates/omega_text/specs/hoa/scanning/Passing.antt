@@ -1,0 +1,83 @@
+-- Bytes that are read at once, while they settle neither a mark nor a fault.
+use Rattle.std.specs.Prelude.{◌≡◌, ℕ, ◌+◌, ◌-◌, ◌<◌, ◌≤◌, ◌^◌, ◌⊎◌, Bool, true, false, Option, Some, None, List, [], ◌∷◌, ◌++◌, length, take, drop}
+use Rattle.omega_text.specs.Lexeme.{Lexeme}
+use Rattle.omega_text.specs.declared.hoa.kind.HoaKind.{HoaKind}
+use Rattle.omega_text.specs.declared.hoa.kind.HoaKind.TheVariants.{Body, End, Abort}
+use Rattle.omega_text.specs.declared.hoa.pending.Pending.{Pending}
+use Rattle.omega_text.specs.declared.hoa.placed.PlacedToken.{PlacedToken}
+use Rattle.omega_text.specs.declared.hoa.placed.Settled.{Settled}
+use Rattle.omega_text.specs.declared.hoa.tokenizer.HoaTokenizer.{HoaTokenizer}
+use Rattle.omega_text.specs.hoa.scanning.Modes.{first_mode}
+use Rattle.omega_text.specs.declared.hoa.mode.Mode.{Mode}
+use Rattle.omega_text.specs.declared.hoa.mode.Mode.TheVariants.{Blank, Whole}
+use Rattle.omega_text.specs.declared.hoa.passing.Course.{Course}
+use Rattle.omega_text.specs.declared.hoa.passing.Course.TheVariants.{GoesOn, Ends, Other}
+use Rattle.omega_text.specs.hoa.scanning.Reading.{Any, HasRead, IsAt, IsUnfinished}
+use Rattle.omega_text.specs.hoa.scanning.Unfinished.{fresh}
+
+-- the marks `--BODY--`, `--END--` and `--ABORT--`
+abbrev pub is_mark : HoaKind → Bool
+is_mark Body = true
+is_mark End = true
+is_mark Abort = true
+is_mark kind = false
+
+-- none of the tokens is a mark
+abbrev pub NoneMarks : List (Lexeme HoaKind) → Type 0
+NoneMarks [] = Unit {0}
+NoneMarks (lexeme ∷ lexemes) = (is_mark lexeme.kind ≡ false) × NoneMarks lexemes
+
+-- a byte that is a whole unit, and no mark
+abbrev pub IsSingle : ℕ → Type 0
+IsSingle byte = (first_mode byte ≡ Some Blank) ⊎ ((kind : HoaKind) × (first_mode byte ≡ Some (Whole kind)) × (is_mark kind ≡ false))
+
+-- a token that may have been settled is no mark
+abbrev pub IsNoneMark : Option PlacedToken → Type 0
+IsNoneMark None = Unit {0}
+IsNoneMark (Some token) = is_mark token.kind ≡ false
+
+-- neither a mark nor a fault was settled
+pub record IsPlain (settled : Settled) : Type 0 where
+  pub sound : settled.fault ≡ None
+  pub first : IsNoneMark settled.first
+  pub second : IsNoneMark settled.second
+
+-- bytes more were read, and the tokens that they settled are no marks
+pub record HasPassed (seen : List ℕ) (lexemes : List (Lexeme HoaKind)) (bytes : List ℕ) (tokenizer : HoaTokenizer) : Type 0 where
+  pub passed : List (Lexeme HoaKind)
+  pub read : HasRead (seen ++ bytes) (lexemes ++ passed) tokenizer
+  pub plain : NoneMarks passed
+
+-- a tokenizer has read some bytes, and places can be counted further by so many
+abbrev pub HasRoom : ℕ → HoaTokenizer → Type 0
+HasRoom count tokenizer = (seen : List ℕ) × (lexemes : List (Lexeme HoaKind)) × HasRead seen lexemes tokenizer × (length seen + count < 2 ^ 64)
+
+-- bytes more were read into a unit and those behind it, and the tokens that they settled are no marks
+pub record Passed (seen : List ℕ) (lexemes : List (Lexeme HoaKind)) (bytes : List ℕ) (after : Pending) : Type 0 where
+  pub added : List (Lexeme HoaKind)
+  pub at : IsAt Any (seen ++ bytes) (lexemes ++ added) after
+  pub plain : NoneMarks added
+
+-- the same in whatever text the unit before is, where so many bytes were read
+abbrev pub PassesAs : ℕ → List ℕ → (before after : Pending) → Type 0
+PassesAs start bytes before after = (seen : List ℕ) (lexemes : List (Lexeme HoaKind)) → start ≡ length seen → IsAt Any seen lexemes before → Passed seen lexemes bytes after
+
+-- the same of the bytes from one place to another
+pub record Passes (start : ℕ) (bytes : List ℕ) (from to : ℕ) (before after : Pending) : Type 0 where
+  pub forward : from ≤ to
+  pub within : to ≤ length bytes
+  pub reads : PassesAs start (take (to - from) (drop from bytes)) before after
+
+-- a unit that has been read so far is whole and no mark, or not whole and without a value
+abbrev pub IsCourse : Mode → Course → Type 0
+IsCourse next GoesOn = (value : ℕ) (begun : List ℕ) → IsUnfinished next value begun
+IsCourse next Ends = (next ≡ Blank) ⊎ ((kind : HoaKind) × (next ≡ Whole kind) × (is_mark kind ≡ false))
+IsCourse next Other = Unit {0}
+
+-- the same of one byte, behind which no unit has been begun
+abbrev pub IsEndedBy : ℕ → Pending → Type 0
+IsEndedBy byte before = (seen : List ℕ) (lexemes : List (Lexeme HoaKind)) → IsAt Any seen lexemes before → Passed seen lexemes (byte ∷ []) (fresh (length seen + 1))
+
+-- a unit is being read at a place, and places can be counted further by so many
+abbrev pub IsOnWayFor : ℕ → Pending → ℕ → Type 0
+IsOnWayFor count pending place = (seen : List ℕ) × (lexemes : List (Lexeme HoaKind)) × (place ≡ length seen) × IsAt Any seen lexemes pending × (place + count < 2 ^ 64)

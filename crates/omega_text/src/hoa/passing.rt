@@ -1,0 +1,265 @@
+//! Bytes that settle neither a mark nor a fault, read at once.
+
+ghost use Rattle.std.specs.Prelude.{◌≡◌, ◌+◌, ◌-◌, ◌<◌, ◌≤◌, ◌^◌, ◌∷◌, [], length, slice_index, take, true, IfSome, IsTrue};
+ghost use Rattle.std.specs.List.{prefix_len};
+ghost use Rattle.omega_text.specs.Bytes.{is_digit, is_letter};
+ghost use Rattle.omega_text.specs.hoa.scanning.Passing.{IsCourse, IsEndedBy, IsNoneMark, IsOnWayFor, IsPlain, IsSingle, Passes, PassesAs};
+ghost use Rattle.omega_text.specs.hoa.scanning.Reading.{IsOnWay};
+ghost use Rattle.omega_text.specs.hoa.scanning.Unfinished.{IsValueOf, fresh};
+
+use super::kept_mode::KeptMode;
+use super::kind::HoaKind;
+use super::mode::{Mode, letter_kind, sign_kind};
+use super::pending::{NO_NUMBER, Pending};
+use super::placed::{PlacedToken, Settled};
+use super::tokenizer::read_byte;
+use crate::bytes::{is_letter, is_white, tail, word_count};
+use crate::digits::{front_digits, has_needless_zero};
+use crate::limits::MOST_NUMBER;
+
+/// The unit that is being read, with the bytes from a place on, up to one that settles a mark or a fault; and the place of
+/// that one, or the end. `start` is the place among the bytes of all.
+pub(super) fn pass_bytes(
+    pending: Pending,
+    start: usize,
+    bytes: &[u8],
+    from: usize,
+) -> (Pending, usize)
+    requires within { from ≤ length bytes.now }
+    requires way { IsOnWayFor (length bytes.now - from) pending start }
+    ensures { Passes start bytes.now from result.1 pending result.0 }
+{
+    let mut reached = pending;
+    let mut place = from;
+    while place < bytes.len() {
+        let (begun, end) = pass_plain(reached, start + (place - from), bytes, place);
+        if end == bytes.len() {
+            return (begun, end);
+        }
+        match pass_byte(&begun, start + (end - from), bytes[end]) {
+            None => return (begun, end),
+            Some(after) => {
+                reached = after;
+                place = end + 1;
+            }
+        }
+    }
+    (reached, place)
+}
+
+/// The unit with one byte more, or the unit that the byte begins, unless the byte settles a mark or a fault.
+#[inline(always)]
+fn pass_byte(pending: &Pending, place: usize, byte: u8) -> Option<Pending>
+    requires { IsOnWay pending.now place }
+    ensures { IfSome result (λ after. PassesAs place (byte ∷ []) pending.now after) }
+{
+    match pending.mode.next(byte) {
+        None => pass_settling(pending, place, byte),
+        Some(next) => match course_of(next) {
+            Course::GoesOn => Some(Pending {
+                mode: next,
+                start: pending.start,
+                value: 0,
+            }),
+            Course::Ends => Some(Pending::new(place + 1)),
+            Course::Other => pass_settling(pending, place, byte),
+        },
+    }
+}
+
+/// What comes of a unit by one byte more.
+#[derive(Clone, Copy, Debug, PartialEq, Eq)]
+enum Course {
+    /// It is not whole yet, and has no value.
+    GoesOn,
+    /// It is whole, and no mark.
+    Ends,
+    /// It is a mark, or digits.
+    Other,
+}
+
+#[inline(always)]
+fn course_of(next: KeptMode) -> Course
+    ensures { IsCourse next result }
+{
+    match next.get() {
+        Mode::Start | Mode::Digits => Course::Other,
+        Mode::Blank => Course::Ends,
+        Mode::Whole(kind) => match kind {
+            HoaKind::Body | HoaKind::End | HoaKind::Abort => Course::Other,
+            _ => Course::Ends,
+        },
+        _ => Course::GoesOn,
+    }
+}
+
+/// The same for any byte.
+fn pass_settling(pending: &Pending, place: usize, byte: u8) -> Option<Pending>
+    requires { IsOnWay pending.now place }
+    ensures { IfSome result (λ after. PassesAs place (byte ∷ []) pending.now after) }
+{
+    let (after, settled) = read_byte(*pending, place, byte);
+    if is_plain(settled) { Some(after) } else { None }
+}
+
+/// Whether neither a mark nor a fault was settled.
+#[inline(always)]
+fn is_plain(settled: Settled) -> bool
+    ensures { IsTrue result → IsPlain settled }
+{
+    match settled.fault {
+        Some(_) => false,
+        None => is_no_mark(settled.first) && is_no_mark(settled.second),
+    }
+}
+
+#[inline(always)]
+fn is_no_mark(settled: Option<PlacedToken>) -> bool
+    ensures { IsTrue result → IsNoneMark settled }
+{
+    match settled {
+        None => true,
+        Some(token) => match token.kind {
+            HoaKind::Body | HoaKind::End | HoaKind::Abort => false,
+            _ => true,
+        },
+    }
+}
+
+/// Where no unit has been begun, those that a byte or a run of bytes tells, up to one that goes on or ends in another way.
+#[inline(always)]
+fn pass_plain(pending: Pending, start: usize, bytes: &[u8], from: usize) -> (Pending, usize)
+    requires within { from ≤ length bytes.now }
+    requires way { IsOnWayFor (length bytes.now - from) pending start }
+    ensures { Passes start bytes.now from result.1 pending result.0 }
+{
+    match pending.mode.get() {
+        Mode::Start => pass_simple(start, bytes, from),
+        _ => (pending, from),
+    }
+}
+
+/// White bytes, signs, words and numbers, as long as a white byte, a sign or a colon ends them; and the word or the number
+/// that none of them ends.
+#[inline(always)]
+fn pass_simple(start: usize, bytes: &[u8], from: usize) -> (Pending, usize)
+    requires within { from ≤ length bytes.now }
+    requires room { start + (length bytes.now - from) < 2 ^ 64 }
+    ensures { Passes start bytes.now from result.1 (fresh start) result.0 }
+{
+    let mut place = from;
+    while place < bytes.len() {
+        let byte = bytes[place];
+        if is_single(byte) {
+            place += 1;
+        } else {
+            let (begun, end) = simple_unit(bytes, place, start + (place - from));
+            if !is_ended_at(&begun, bytes, end) {
+                return (begun, end);
+            }
+            place = end + 1;
+        }
+    }
+    (Pending::new(start + (place - from)), place)
+}
+
+/// Whether a byte is a unit of its own and no mark: white, or a sign.
+#[inline(always)]
+fn is_single(byte: u8) -> bool
+    ensures { IsTrue result → IsSingle byte }
+{
+    is_white(byte) || sign_kind(byte).is_some()
+}
+
+/// The word or the number that begins at a place, and where it ends; nothing where neither begins.
+#[inline(always)]
+fn simple_unit(bytes: &[u8], place: usize, start: usize) -> (Pending, usize)
+    requires { place < length bytes.now }
+    ensures { Passes start bytes.now place result.1 (fresh start) result.0 }
+{
+    let byte = bytes[place];
+    if is_letter(byte) {
+        word_at(bytes, place, start)
+    } else if byte.is_ascii_digit() {
+        digits_at(bytes, place, start)
+    } else {
+        (Pending::new(start), place)
+    }
+}
+
+#[inline(always)]
+fn word_at(bytes: &[u8], place: usize, start: usize) -> (Pending, usize)
+    requires within { place < length bytes.now }
+    requires letter { is_letter (slice_index bytes.now place) ≡ true }
+    ensures { Passes start bytes.now place result.1 (fresh start) result.0 }
+{
+    let rest = tail(bytes, place);
+    let count = word_count(rest);
+    let kind = if count == 1 {
+        letter_kind(rest[0])
+    } else {
+        HoaKind::Identifier
+    };
+    let pending = Pending {
+        mode: KeptMode::new(Mode::Word(kind)),
+        start,
+        value: 0,
+    };
+    (pending, place + count)
+}
+
+#[inline(always)]
+fn digits_at(bytes: &[u8], place: usize, start: usize) -> (Pending, usize)
+    requires within { place < length bytes.now }
+    requires digit { is_digit (slice_index bytes.now place) ≡ true }
+    ensures { Passes start bytes.now place result.1 (fresh start) result.0 }
+{
+    let rest = tail(bytes, place);
+    let (count, value) = front_value(rest);
+    let pending = Pending {
+        mode: KeptMode::new(Mode::Digits),
+        start,
+        value,
+    };
+    (pending, place + count)
+}
+
+/// How many bytes at the front are digits, and their value, or a number above the greatest where they are no number.
+#[inline(always)]
+fn front_value(bytes: &[u8]) -> (usize, u64)
+    requires some { 0 < length bytes.now }
+    requires digit { is_digit (slice_index bytes.now 0) ≡ true }
+    ensures count { result.0 ≡ prefix_len is_digit bytes.now }
+    ensures value { IsValueOf result.1 (take result.0 bytes.now) }
+{
+    let (count, value) = front_digits(bytes);
+    if has_needless_zero(bytes, count) {
+        (count, NO_NUMBER)
+    } else {
+        (count, value)
+    }
+}
+
+/// Whether the byte at a place ends a word or a number, and is itself a whole unit or the colon of a header name.
+#[inline(always)]
+fn is_ended_at(begun: &Pending, bytes: &[u8], place: usize) -> bool
+    ensures within { IsTrue result → place < length bytes.now }
+    ensures ended { IsTrue result → IsEndedBy (slice_index bytes.now place) begun.now }
+{
+    if place >= bytes.len() {
+        return false;
+    }
+    is_ended(begun, bytes[place])
+}
+
+/// Whether a byte ends a word or a number, and is itself a whole unit or, behind a word, the colon of a header name.
+#[inline(always)]
+fn is_ended(begun: &Pending, byte: u8) -> bool
+    ensures { IsTrue result → IsEndedBy byte begun.now }
+{
+    match begun.mode.get() {
+        Mode::Word(_) => byte == b':' || is_single(byte),
+        Mode::Digits => begun.value <= MOST_NUMBER as u64 && is_single(byte),
+        _ => false,
+    }
+}
