@@ -11,7 +11,7 @@ ghost use Rattle.omega_text.specs.declared.hoa.kind.HoaKind.{HoaKind as Kind};
 
 use crate::passing::is_passed;
 use crate::pending::Pending;
-use crate::raw_label::{RawLabel, RawNode};
+use crate::raw_label::{RawLabel, RawNode, name_length};
 use crate::unfinished::{Unfinished, deeper};
 use omega_text::{AutomatonFault, HoaKind, Refusal, TextFault, TokenSource};
 use std::alloc::Global;
@@ -88,7 +88,8 @@ fn is_prefix<'a, S: TokenSource<'a, HoaKind>>(
         HoaKind::False => unfinished.nodes.push(RawNode::Constant(false))?,
         HoaKind::Int => unfinished.nodes.push(RawNode::Proposition(token.value))?,
         HoaKind::AliasName => {
-            unfinished.nodes.push(RawNode::Alias(token.text.len()))?;
+            let count = name_length(token.text)?;
+            unfinished.nodes.push(RawNode::Alias(count))?;
             unfinished.names.extend_from_slice(token.text)?;
         }
         _ => return Err(Refusal::Text(TextFault::Syntax { at })),
