@@ -4,6 +4,7 @@ pub mod AccUniqueness
 pub mod AccUnread
 pub mod AliasLemmas
 pub mod AtomLemmas
+pub mod BareLemmas
 pub mod BelowLemmas
 pub mod BuchiLemmas
 pub mod ChainLemmas
@@ -20,6 +21,7 @@ pub mod PlainLemmas
 pub mod PutLemmas
 pub mod RawAccLemmas
 pub mod RawLabelLemmas
+pub mod ReplacedAtLemmas
 pub mod ReadingLemmas
 pub mod ReadingUniqueness
 pub mod TextLemmas

@@ -3,6 +3,7 @@ pub mod AccFields
 pub mod AccStates
 pub mod Acceptance
 pub mod Aliases
+pub mod Bare
 pub mod Building
 pub mod Chain
 pub mod Emitting

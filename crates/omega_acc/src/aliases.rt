@@ -5,7 +5,7 @@ ghost use Rattle.omega_acc.specs.Depth.{IsMemory};
 ghost use Rattle.omega_acc.specs.Expanding.{IsAdded, IsBodyAt, IsRepeated, entries_of, expansion, place_among};
 ghost use Rattle.omega_acc.specs.layout.Extents.{extent_named, extent_of};
 
-use crate::extents::{Extent, Extents, atom, both, in_parentheses, negated};
+use crate::extents::{Extent, Extents, atom, bare, both, in_parentheses, negated};
 use crate::raw_label::{RawLabel, RawNode};
 use indexmap::IndexSet;
 use omega_text::{AutomatonFault, Refusal, Seq};
@@ -94,8 +94,19 @@ impl Aliases {
         }
     }
 
-    /// The extent of a label once expanded. Refusal 60 alone.
+    /// The extent of a label once expanded. Refusal 60 alone; a label without aliases takes no memory.
     pub(crate) fn measure(&self, alloc: Global, raw: &RawLabel) -> Result<Option<Extent>, Refusal>
+        ensures ok { IfOk result (λ extent. extent ≡ option_map extent_of (expansion self.now raw.now)) }
+        ensures err { IfErr result IsMemory }
+    {
+        if raw.has_alias() {
+            return self.measure_nodes(alloc, raw);
+        }
+        Ok(Some(bare(raw.depth(), raw.bare_size())))
+    }
+
+    /// The same, node by node.
+    fn measure_nodes(&self, alloc: Global, raw: &RawLabel) -> Result<Option<Extent>, Refusal>
         ensures ok { IfOk result (λ extent. extent ≡ option_map extent_of (expansion self.now raw.now)) }
         ensures err { IfErr result IsMemory }
     {
@@ -105,8 +116,8 @@ impl Aliases {
             let extent = match node {
                 RawNode::Constant(_) | RawNode::Proposition(_) => atom(),
                 RawNode::Alias(count) => {
-                    let extent = self.extent(front(names, *count));
-                    names = behind(names, *count);
+                    let extent = self.extent(front(names, *count as usize));
+                    names = behind(names, *count as usize);
                     in_parentheses(extent)
                 }
                 RawNode::Not => negated(stack.pop()),

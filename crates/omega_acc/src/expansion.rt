@@ -1,4 +1,4 @@
-ghost use Rattle.std.specs.Prelude.{◌≡◌, ◌≤◌, ◌++◌, [], length, take, IfErr, IfOk, IsSome, OnOk};
+ghost use Rattle.std.specs.Prelude.{◌≡◌, ◌≤◌, ◌++◌, [], length, slice_range, take, IfErr, IfOk, IsSome, OnOk};
 ghost use Rattle.omega_acc.specs.Depth.{IsMemory};
 ghost use Rattle.omega_acc.specs.Expanding.{IsExpanded, IsExpansion, IsUnexpanded, entries_of, replaced};
 ghost use Rattle.omega_acc.specs.layout.Emitting.{nodes_of};
@@ -18,8 +18,8 @@ pub fn expand(alloc: Global, raw: &RawLabel, aliases: &Aliases) -> Result<Label,
     ensures ok { IfOk result (λ label. IsExpansion aliases.now raw.now label) }
     ensures err { IfErr result (IsUnexpanded aliases.now raw.now) }
 {
-    expanded_size(alloc, raw, aliases)?;
-    let mut nodes = Vec::new(alloc);
+    let size = expanded_size(alloc, raw, aliases)?;
+    let mut nodes = Vec::with_capacity(alloc, size as usize)?;
     emit(aliases, raw, aliases.len(), &mut nodes)?;
     Ok(Label::of_nodes(nodes))
 }
@@ -41,8 +41,16 @@ pub fn expanded_size(alloc: Global, raw: &RawLabel, aliases: &Aliases) -> Result
     Ok(extent.size)
 }
 
+/// Where the nodes stand that an alias was replaced by.
+#[derive(Clone, Copy)]
+struct Stretch {
+    place: usize,
+    start: usize,
+    end: usize,
+}
+
 /// Appends the nodes of a label with its aliases replaced by the definitions before a place. It goes down at most as far as
-/// the label is deep.
+/// the label is deep. An alias that is the same as the one before it is copied from there, and not gone down into once more.
 fn emit(
     aliases: &Aliases,
     raw: &RawLabel,
@@ -55,6 +63,11 @@ fn emit(
     ensures err { IfErr result IsMemory }
 {
     let mut names = raw.names();
+    let mut last = Stretch {
+        place: before,
+        start: 0,
+        end: 0,
+    };
     for node in raw.nodes() {
         match node {
             RawNode::Constant(value) => out.push(LabelNode::Constant(*value))?,
@@ -64,13 +77,33 @@ fn emit(
             RawNode::Or => out.push(LabelNode::Or)?,
             RawNode::Group => {}
             RawNode::Alias(count) => {
-                let place = aliases.place(front(names, *count));
-                names = behind(names, *count);
+                let place = aliases.place(front(names, *count as usize));
+                names = behind(names, *count as usize);
                 if place < before {
-                    emit(aliases, aliases.body(place), place, out)?;
+                    let body = aliases.body(place);
+                    if place == last.place {
+                        repeat(out, last.start, last.end)?;
+                    } else {
+                        let start = out.as_slice().len();
+                        emit(aliases, body, place, out)?;
+                        let end = out.as_slice().len();
+                        last = Stretch { place, start, end };
+                    }
                 }
             }
         }
     }
+    Ok(())
+}
+
+/// Appends nodes that stand there once more.
+fn repeat(out: &mut Vec<LabelNode>, start: usize, end: usize) -> Result<(), Refusal>
+    requires forward { start ≤ end }
+    requires within { end ≤ length out.old.items }
+    ensures ok { OnOk result (out.new.items ≡ out.old.items ++ slice_range out.old.items start end) }
+    ensures err { IfErr result IsMemory }
+{
+    prove!(end <= out.as_slice().len());
+    out.extend_from_within(start..end)?;
     Ok(())
 }

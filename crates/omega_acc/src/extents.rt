@@ -26,6 +26,17 @@ pub(crate) fn atom() -> Option<Extent>
     Some(Extent { depth: 1, size: 1 })
 }
 
+/// The extent of a label without aliases, by its depth up to just past the limit and its atoms and operators.
+pub(crate) fn bare(depth: u32, size: usize) -> Extent
+    ensures depth { result.depth ≡ depth }
+    ensures size { result.size ≡ min size 65537 }
+{
+    Extent {
+        depth,
+        size: size.min(PAST_SIZE as usize) as u32,
+    }
+}
+
 /// The extent of a part in parentheses.
 pub(crate) fn in_parentheses(part: Option<Extent>) -> Option<Extent>
     ensures { result ≡ option_map deeper_extent part }

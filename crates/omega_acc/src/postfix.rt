@@ -35,3 +35,13 @@ pub(crate) fn with_all<N: Copy>(nodes: Seq<N>, others: Seq<N>) -> Result<Seq<N>,
     nodes.extend_from_slice(others.as_slice())?;
     Ok(Seq::from_vec(nodes))
 }
+
+/// The same nodes in as much memory as they need.
+pub(crate) fn fitted<N: Copy>(alloc: Global, nodes: &[N]) -> Result<Vec<N>, Refusal>
+    ensures ok { IfOk result (λ copy. copy.items ≡ nodes.now) }
+    ensures err { IfErr result IsMemory }
+{
+    let mut copy = Vec::with_capacity(alloc, nodes.len())?;
+    copy.extend_from_slice(nodes)?;
+    Ok(copy)
+}

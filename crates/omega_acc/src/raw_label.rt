@@ -1,8 +1,9 @@
-ghost use Rattle.std.specs.Prelude.{◌≡◌, ◌<◌, ◌≤◌, ◌↔◌, IsTrue, max, nat_lt, IfErr, IfOk};
-ghost use Rattle.std.specs.List.{list_all};
+ghost use Rattle.std.specs.Prelude.{◌≡◌, ◌<◌, ◌≤◌, ◌↔◌, IsTrue, count_by, length, max, nat_lt, IfErr, IfOk};
+ghost use Rattle.std.specs.List.{list_all, list_any};
 ghost use Rattle.omega_acc.specs.RawLabel.{alias as alias_tree, conjunction, constant as constant_tree, disjunction, group as group_tree, negation, proposition as proposition_tree, raw_depth, raw_propositions};
 ghost use Rattle.omega_acc.specs.Depth.{IsDeeper, IsMemory, counted};
 ghost use Rattle.omega_acc.specs.Limits.{most_depth};
+ghost use Rattle.omega_acc.specs.layout.Bare.{is_alias, is_bare};
 ghost use Rattle.omega_acc.specs.layout.Propositions.{proposition_below};
 
 use crate::depth::deeper;
@@ -17,7 +18,7 @@ use std::marker::Model;
 pub(crate) enum RawNode {
     Constant(bool),
     Proposition(u32),
-    Alias(usize),
+    Alias(u32),
     Not,
     And,
     Or,
@@ -86,10 +87,11 @@ impl RawLabel {
         ensures ok { IfOk result (λ label. label ≡ alias_tree name.now) }
         ensures err { IfErr result IsMemory }
     {
+        let count = name_length(name)?;
         let mut names = Vec::new(alloc);
         names.extend_from_slice(name)?;
         Ok(RawLabel {
-            nodes: alone(alloc, RawNode::Alias(name.len()))?,
+            nodes: alone(alloc, RawNode::Alias(count))?,
             names: Seq::from_vec(names),
             depth: 1,
         })
@@ -174,6 +176,20 @@ impl RawLabel {
         all_propositions_below(self.nodes(), count)
     }
 
+    /// Whether an alias stands in it.
+    pub(crate) fn has_alias(&self) -> bool
+        ensures { result ≡ list_any is_alias (raw_postfix self.now) }
+    {
+        any_alias(self.nodes())
+    }
+
+    /// How many atoms and operators it has, parentheses left out.
+    pub(crate) fn bare_size(&self) -> usize
+        ensures { result ≡ count_by is_bare (raw_postfix self.now) }
+    {
+        count_bare(self.nodes())
+    }
+
     /// The label of nodes in postfix order, alias names and a depth.
     pub(crate) fn of_nodes(nodes: Vec<RawNode>, names: Vec<u8>, depth: u32) -> RawLabel
         requires { IsRawLabel nodes.items names.items depth }
@@ -198,6 +214,52 @@ impl RawLabel {
         ensures { result.now ≡ alias_names self.now }
     {
         self.names.as_slice()
+    }
+}
+
+/// The length of an alias name, as a node keeps it. Refusal 60 where it is over the numbers of 32 bits, which none is in a
+/// text.
+pub(crate) fn name_length(name: &[u8]) -> Result<u32, Refusal>
+    ensures ok { IfOk result (λ count. count ≡ length name.now) }
+    ensures err { IfErr result IsMemory }
+{
+    if name.len() > u32::MAX as usize {
+        return Err(Refusal::Memory);
+    }
+    Ok(name.len() as u32)
+}
+
+/// Whether one of the nodes is an alias.
+fn any_alias(nodes: &[RawNode]) -> bool
+    ensures { result ≡ list_any is_alias nodes.now }
+{
+    nodes.iter().any(|node| stands_for_more(*node))
+}
+
+/// Whether a node is an alias.
+fn stands_for_more(node: RawNode) -> bool
+    ensures { result ≡ is_alias node }
+{
+    match node {
+        RawNode::Alias(_) => true,
+        _ => false,
+    }
+}
+
+/// How many of the nodes are no parentheses.
+fn count_bare(nodes: &[RawNode]) -> usize
+    ensures { result ≡ count_by is_bare nodes.now }
+{
+    nodes.iter().filter(|node| stays(**node)).count()
+}
+
+/// Whether a node stays where parentheses are left out.
+fn stays(node: RawNode) -> bool
+    ensures { result ≡ is_bare node }
+{
+    match node {
+        RawNode::Group => false,
+        _ => true,
     }
 }
 

@@ -11,7 +11,8 @@ ghost use Rattle.omega_text.specs.declared.hoa.kind.HoaKind.{HoaKind as Kind};
 
 use crate::passing::is_passed;
 use crate::pending::Pending;
-use crate::raw_label::{RawLabel, RawNode};
+use crate::postfix::fitted;
+use crate::raw_label::{RawLabel, RawNode, name_length};
 use crate::unfinished::{Unfinished, deeper};
 use omega_text::{AutomatonFault, HoaKind, Refusal, TextFault, TokenSource};
 use std::alloc::Global;
@@ -25,10 +26,11 @@ pub fn read_raw_label<'a, S: TokenSource<'a, HoaKind>>(
     ensures ok { IfOk result (λ label. Reads (S.left source.old) label (S.left source.new)) }
     ensures err { IfErr result (IsUnread (ReadsNone (S.left source.old))) }
 {
-    let mut unfinished = Unfinished::new(alloc);
+    let mut unfinished = Unfinished::new(alloc)?;
     operand(&mut unfinished, source)?;
     while goes_on(&mut unfinished, source)? {}
-    Ok(RawLabel::of_nodes(unfinished.nodes, unfinished.names, unfinished.depth))
+    let nodes = fitted(alloc, unfinished.nodes.as_slice())?;
+    Ok(RawLabel::of_nodes(nodes, unfinished.names, unfinished.depth))
 }
 
 /// Reads a label as `read_raw_label` does. Refusal 3 where there is none, else 32 where it is over 256 deep, an alias having
@@ -88,7 +90,8 @@ fn is_prefix<'a, S: TokenSource<'a, HoaKind>>(
         HoaKind::False => unfinished.nodes.push(RawNode::Constant(false))?,
         HoaKind::Int => unfinished.nodes.push(RawNode::Proposition(token.value))?,
         HoaKind::AliasName => {
-            unfinished.nodes.push(RawNode::Alias(token.text.len()))?;
+            let count = name_length(token.text)?;
+            unfinished.nodes.push(RawNode::Alias(count))?;
             unfinished.names.extend_from_slice(token.text)?;
         }
         _ => return Err(Refusal::Text(TextFault::Syntax { at })),

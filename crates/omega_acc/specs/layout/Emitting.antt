@@ -1,6 +1,7 @@
 -- The nodes of a label with its aliases replaced.
-use Rattle.std.specs.Prelude.{ℕ, List, [], ◌∷◌, ◌++◌, Option, Some, None, IsSome, take, drop}
-use Rattle.omega_acc.specs.Expanding.{Entry, Meaning, stands_for}
+use Rattle.std.specs.Prelude.{◌≡◌, ℕ, ◌<◌, ◌≤◌, List, [], ◌∷◌, ◌++◌, Option, Some, None, IsSome, length, slice_range, take, drop}
+use Rattle.omega_acc.specs.Expanding.{Defined, Entry, IsBodyAt, Meaning, entries_of, replaced, stands_for}
+use Rattle.omega_acc.specs.RawLabel.{RawLabelTree}
 use Rattle.omega_acc.specs.layout.Label.{postfix}
 use Rattle.omega_acc.specs.declared.label.LabelNode.{LabelNode}
 use Rattle.omega_acc.specs.declared.label.LabelNode.TheVariants as plain
@@ -33,3 +34,10 @@ AllStand entries names (Not ∷ nodes) = AllStand entries names nodes
 AllStand entries names (And ∷ nodes) = AllStand entries names nodes
 AllStand entries names (Or ∷ nodes) = AllStand entries names nodes
 AllStand entries names (Group ∷ nodes) = AllStand entries names nodes
+
+-- what the definition at a place means stands from one place to another, if that definition comes before the limit
+pub record IsReplacedAt (definitions : List Defined) (limit : ℕ) (out : List LabelNode) (place start stop : ℕ) : Type 0 where
+  pub forward : start ≤ stop
+  pub within : stop ≤ length out
+  pub nodes : (body : RawLabelTree) → place < limit → IsBodyAt definitions place body
+      → slice_range out start stop ≡ nodes_of (replaced (take place (entries_of [] definitions)) body)

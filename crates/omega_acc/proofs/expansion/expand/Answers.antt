@@ -9,22 +9,22 @@ use Rattle.omega_acc.proofs.expansion.expand.Goals as goal
 pub emit-requires-clause-defined : goal.emit-requires-clause-defined
 emit-requires-clause-defined c =
     subst (λ entries. IsSome (replaced entries c.args.raw.now)) (sym (take-entries_of c.args.aliases.now c.len.result c.len.ensures))
-    (sound-some (expansion c.args.aliases.now c.args.raw.now) c.in_ok-expanded_size.ensures.ok.sound)
+    (sound-some (expansion c.args.aliases.now c.args.raw.now) c.in_ok-size.ensures.ok.sound)
 
 pub of_nodes-requires : goal.of_nodes-requires
 of_nodes-requires c =
-    IsLabel-sound (expansion c.args.aliases.now c.args.raw.now) _ c.in_ok-expanded_size.ensures.ok.sound
+    IsLabel-sound (expansion c.args.aliases.now c.args.raw.now) _ c.in_ok-size.ensures.ok.sound
     (shallow-replaced (entries_of [] c.args.aliases.now) (shallow-entries [] c.args.aliases.now tt) c.args.raw.now)
     (c.in_ok-emit.ensures.ok
-    ∙ (ap (λ front. front ++ nodes_of (replaced (take c.len.result (entries_of [] c.args.aliases.now)) c.args.raw.now)) c.new-nodes.ensures.items
+    ∙ (ap (λ front. front ++ nodes_of (replaced (take c.len.result (entries_of [] c.args.aliases.now)) c.args.raw.now)) c.in_ok-nodes.ensures.items
     ∙ ap (λ entries. nodes_of (replaced entries c.args.raw.now)) (take-entries_of c.args.aliases.now c.len.result c.len.ensures)))
 
 pub returns-clause-ok : goal.returns-clause-ok
 returns-clause-ok c = record {
-  sound = c.in_ok-expanded_size.ensures.ok.sound;
-  tree_is = tree-sound (expansion c.args.aliases.now c.args.raw.now) c.emit.new.out.items c.in_ok-expanded_size.ensures.ok.sound
+  sound = c.in_ok-size.ensures.ok.sound;
+  tree_is = tree-sound (expansion c.args.aliases.now c.args.raw.now) c.emit.new.out.items c.in_ok-size.ensures.ok.sound
       (c.in_ok-emit.ensures.ok
-      ∙ (ap (λ front. front ++ nodes_of (replaced (take c.len.result (entries_of [] c.args.aliases.now)) c.args.raw.now)) c.new-nodes.ensures.items
+      ∙ (ap (λ front. front ++ nodes_of (replaced (take c.len.result (entries_of [] c.args.aliases.now)) c.args.raw.now)) c.in_ok-nodes.ensures.items
       ∙ ap (λ entries. nodes_of (replaced entries c.args.raw.now)) (take-entries_of c.args.aliases.now c.len.result c.len.ensures)))
       ∙ ap Some (sym c.of_nodes.ensures);
 }

@@ -1,11 +1,12 @@
 -- What begins a part is passed, and where nothing does nothing is read.
-use Rattle.std.proofs.Common.{true, false, ap, append-nil, subst, sym, ◌∙◌}
+use Rattle.std.proofs.Common.{true, false, [], ◌∷◌, ◌++◌, ap, append-nil, subst, sym, ◌∙◌}
 use Rattle.omega_acc.specs.RawLabel.{alias, constant, proposition}
 use Rattle.omega_acc.specs.Symbols.{seen_as}
 use Rattle.omega_acc.specs.layout.Building.{Wants}
 use Rattle.omega_acc.proofs.ReadingLemmas.{BeginNone, IsAtom, begins_others, called, has_atom, none_wanted, numbered, truth, wants_denied, wants_opened}
+use Rattle.omega_acc.specs.declared.raw_label.RawNode.TheVariants.{Alias}
 use Rattle.omega_acc.proofs.reading.is_prefix.Goals as goal
-use Rattle.omega_acc.proofs.reading.is_prefix.Goals.{in-True+in_ok-push-in-True, in-False+in_ok-push-in-False, in-Int+in_ok-push-in-Int, in-AliasName+in_ok-push-in-AliasName+in_ok-extend_from_slice-in-AliasName}
+use Rattle.omega_acc.proofs.reading.is_prefix.Goals.{in-True+in_ok-push-in-True, in-False+in_ok-push-in-False, in-Int+in_ok-push-in-Int, in-AliasName+in_ok-count-in-AliasName+in_ok-push-in-AliasName+in_ok-extend_from_slice-in-AliasName}
 
 pub returns-in_default-clause-err : goal.returns-in_default-clause-err
 returns-in_default-clause-err g c whole wants = none_wanted whole _ _ _ _ wants (subst BeginNone (sym c.in_default.ensures.none.0) tt)
@@ -44,8 +45,8 @@ returns-clause-wants g c whole wants =
           (subst (IsAtom (proposition c.in-Some.token.value)) (sym (ap (λ k. seen_as k c.in-Some.token.value c.in-Some.token.text.now) w.in-Int.is)) (numbered c.in-Some.token.value))
           (ap (λ u. u.nodes.items) w.unfinished-is ∙ w.in_ok-push-in-Int.ensures.items)
           (ap (λ u. u.names.items) w.unfinished-is ∙ sym (append-nil _)) (ap (λ u. u.pending) w.unfinished-is) wants
-      | in-AliasName+in_ok-push-in-AliasName+in_ok-extend_from_slice-in-AliasName w ↦ has_atom whole _ _ _ _ _ _ (alias c.in-Some.token.text.now) _ _ _ c.in-Some.ensures.some
+      | in-AliasName+in_ok-count-in-AliasName+in_ok-push-in-AliasName+in_ok-extend_from_slice-in-AliasName w ↦ has_atom whole _ _ _ _ _ _ (alias c.in-Some.token.text.now) _ _ _ c.in-Some.ensures.some
           (subst (IsAtom (alias c.in-Some.token.text.now)) (sym (ap (λ k. seen_as k c.in-Some.token.value c.in-Some.token.text.now) w.in-AliasName.is)) (called c.in-Some.token.text.now))
-          (ap (λ u. u.nodes.items) w.unfinished-is ∙ w.in_ok-push-in-AliasName.ensures.items)
+          (ap (λ u. u.nodes.items) w.unfinished-is ∙ (w.in_ok-push-in-AliasName.ensures.items ∙ ap (λ n. c.args.unfinished.now.nodes.items ++ Alias n ∷ []) w.in_ok-count-in-AliasName.ensures.ok))
           (ap (λ u. u.names.items) w.unfinished-is ∙ w.in_ok-extend_from_slice-in-AliasName.ensures.items) (ap (λ u. u.pending) w.unfinished-is) wants
     ]

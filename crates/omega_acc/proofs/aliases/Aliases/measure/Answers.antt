@@ -1,14 +1,10 @@
--- At the end the extent alone is left.
-use Rattle.std.proofs.Common.{[], ap, sym, ◌∙◌, arith}
-use Rattle.std.proofs.lemmas.List.{at_drop_all}
+-- A label without aliases has its own extent.
+use Rattle.std.proofs.Common.{[], ap, min, sym, ◌∙◌}
 use Rattle.omega_acc.specs.Expanding.{entries_of}
-use Rattle.omega_acc.specs.layout.Extents.{extent_named, extents_behind, top_extent}
-use Rattle.omega_acc.proofs.ExtentLemmas.{extents_behind-label}
+use Rattle.omega_acc.proofs.BareLemmas.{extent-bare}
 use Rattle.omega_acc.proofs.aliases.Aliases.measure.Goals as goal
 
 pub returns-clause-ok : goal.returns-clause-ok
 returns-clause-ok c =
-    c.pop-2.ensures.extent
-    ∙ ap top_extent
-    (sym (at_drop_all (extents_behind (extent_named (entries_of [] c.args.self.now)) c.loop-node.stack c.loop-node.names.now) c.nodes-node-items.result.now c.loop-node.node-index (omega (arith, c.loop-node-test.false)))
-    ∙ (c.loop-node.invariant ∙ extents_behind-label (entries_of [] c.args.self.now) c.args.raw.now))
+    extent-bare (entries_of [] c.args.self.now) c.args.raw.now c.bare.result (sym c.has_alias.ensures ∙ c.if-has_alias.false)
+    (c.bare.ensures.depth ∙ c.depth.ensures) (c.bare.ensures.size ∙ ap (λ n. min n 65537) c.bare_size.ensures)

@@ -3,7 +3,7 @@ use Rattle.std.proofs.Common.{◌≡◌, [], drop}
 use Rattle.omega_acc.specs.Expanding.{entries_of}
 use Rattle.omega_acc.specs.layout.Extents.{extent_named, extents_behind}
 use Rattle.omega_acc.specs.layout.RawLabel.{alias_names, raw_postfix}
-use Rattle.omega_acc.proofs.aliases.Aliases.measure.Given as goal
+use Rattle.omega_acc.proofs.aliases.Aliases.measure_nodes.Given as goal
 
 abbrev pub invariant-loop-node : goal.invariant-loop-node
 invariant-loop-node l =
