@@ -98,7 +98,10 @@ Asks subcommand options (line.Run (command.Search from) budget) =
     (subcommand ≡ codes "solve") × GivesFlag (text_of name.Search options) true × (text_of name.Player options ≡ None)
     × Gives (IsNumberText most_number) (text_of name.From options) from × GivesBudget (text_of name.Budget options) budget
 Asks subcommand options (line.Run (command.Verify game explain) budget) = ⊥
-Asks subcommand options (line.Run command.Empty budget) = ⊥
+Asks subcommand options (line.Run command.Empty budget) =
+    (subcommand ≡ codes "empty") × GivesFlag (text_of name.Search options) false × GivesBudget (text_of name.Budget options) budget
+Asks subcommand options (line.Run command.EmptySearch budget) =
+    (subcommand ≡ codes "empty") × GivesFlag (text_of name.Search options) true × (text_of name.Budget options ≡ None) × (budget ≡ most_lifts)
 Asks subcommand options (line.Run command.Game budget) = (subcommand ≡ codes "game") × (budget ≡ most_lifts)
 Asks subcommand options (line.Verify file explain) =
     (subcommand ≡ codes "verify") × (text_of name.Game options ≡ Some (string_bytes file)) × GivesFlag (text_of name.Explain options) explain
@@ -112,8 +115,8 @@ abbrev pub HasOption : List ℕ → OptionName → Type 0
 HasOption subcommand name.Format = (subcommand ≡ codes "show") ⊎ (subcommand ≡ codes "check") ⊎ (subcommand ≡ codes "canon")
 HasOption subcommand name.Player = subcommand ≡ codes "solve"
 HasOption subcommand name.From = subcommand ≡ codes "solve"
-HasOption subcommand name.Budget = subcommand ≡ codes "solve"
-HasOption subcommand name.Search = subcommand ≡ codes "solve"
+HasOption subcommand name.Budget = (subcommand ≡ codes "solve") ⊎ (subcommand ≡ codes "empty")
+HasOption subcommand name.Search = (subcommand ≡ codes "solve") ⊎ (subcommand ≡ codes "empty")
 HasOption subcommand name.Game = subcommand ≡ codes "verify"
 HasOption subcommand name.Explain = subcommand ≡ codes "verify"
 
@@ -153,15 +156,20 @@ pub record IsUnknown (subcommand : List ℕ) : Type 0 where
   pub canon : subcommand ≢ codes "canon"
   pub solve : subcommand ≢ codes "solve"
   pub verify : subcommand ≢ codes "verify"
+  pub empty : subcommand ≢ codes "empty"
   pub game : subcommand ≢ codes "game"
 
--- two options of `solve` that are not given together: the search is for both players
+-- the option that is not given beside the search of the subcommand: that of `solve` is for both players, that of `empty` makes no lifts
+abbrev pub IsApartFromSearch : List ℕ → OptionName → Type 0
+IsApartFromSearch subcommand option =
+    ((subcommand ≡ codes "solve") × (option ≡ name.Player)) ⊎ ((subcommand ≡ codes "empty") × (option ≡ name.Budget))
+
+-- two options that are not given together: the search, and the option that is apart from it
 pub record IsConflict (subcommand : List ℕ) (options : Options) (one other : OptionName) : Type 0 where
-  pub solve : subcommand ≡ codes "solve"
   pub one_is : one ≡ name.Search
-  pub other_is : other ≡ name.Player
+  pub apart : IsApartFromSearch subcommand other
   pub flagged : GivesFlag (text_of name.Search options) true
-  pub player : text_of name.Player options ≢ None
+  pub given : text_of other options ≢ None
 
 -- what is wrong: no subcommand has the name, or an option that it takes is faulty, or two are not given together; or memory is wanting
 abbrev pub IsMistake : List ℕ → Options → Mistake → Type 0

@@ -2,7 +2,7 @@
 use Rattle.std.specs.Prelude.{◌≤◌}
 use Rattle.omega_solve.specs.Limits.{most_lifts}
 use Rattle.omega_command.specs.declared.command.Command.{Command}
-use Rattle.omega_command.specs.declared.command.Command.TheVariants.{Canon, Check, Empty, Game, Search, Show, Solve, Verify}
+use Rattle.omega_command.specs.declared.command.Command.TheVariants.{Canon, Check, Empty, EmptySearch, Game, Search, Show, Solve, Verify}
 use Rattle.omega_command.specs.declared.command.Format.TheVariants.{Hoa, Pg}
 use Rattle.omega_command.specs.declared.line.Line.{Line}
 use Rattle.omega_command.specs.declared.line.Line.TheVariants as line
@@ -18,7 +18,8 @@ IsOffered (Canon Hoa) = Unit {0}
 IsOffered (Solve asked from) = Unit {0}
 IsOffered (Search from) = Unit {0}
 IsOffered (Verify game explain) = Unit {0}
-IsOffered Empty = ⊥
+IsOffered Empty = Unit {0}
+IsOffered EmptySearch = Unit {0}
 IsOffered Game = Unit {0}
 
 -- what the line asks for can be done: its command is offered, with a budget that a solver takes

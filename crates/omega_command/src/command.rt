@@ -27,8 +27,10 @@ pub enum Command {
         /// Whether it is explained where the solution is not right.
         explain: bool,
     },
-    /// Says whether an automaton accepts nothing, and shows a lasso where it does not.
+    /// Says whether an automaton accepts nothing, and shows a lasso where it does not. Decided by lifting.
     Empty,
+    /// The same, decided by a search.
+    EmptySearch,
     /// Writes the emptiness game of an automaton.
     Game,
 }

@@ -1,5 +1,6 @@
 mod canon;
 mod check;
+mod empty;
 mod game;
 mod options;
 pub mod program;

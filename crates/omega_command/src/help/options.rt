@@ -41,12 +41,12 @@ pub fn from_option<'a>(alloc: Global) -> Arg<'a> {
     )
 }
 
-/// The flag that takes the search in place of lifting.
-pub fn search_option<'a>(alloc: Global) -> Arg<'a> {
+/// The flag that takes a search in place of lifting, with what it does for its subcommand.
+pub fn search_option<'a>(alloc: Global, help: &'a str) -> Arg<'a> {
     Arg::new(alloc, "search")
         .long("search")
         .action(ArgAction::SetTrue)
-        .help("Solve by a search whose answer is judged, which is far quicker on large games")
+        .help(help)
 }
 
 /// The flag that asks why a solution is not right.

@@ -55,6 +55,9 @@ pub fn solve_command<'a>(alloc: Global) -> Result<Command<'a>, AllocError> {
         .after_help(DETAILS)
         .arg(player_option(alloc))?
         .arg(from_option(alloc))?
-        .arg(search_option(alloc))?
+        .arg(search_option(
+            alloc,
+            "Solve by a search whose answer is judged, which is far quicker on large games",
+        ))?
         .arg(budget_option(alloc))
 }

@@ -45,6 +45,9 @@ pub fn line_for<'a>(
             Err(_) => Err(Mistake::Memory),
         };
     }
+    if subcommand == "empty" {
+        return emptiness_for(options);
+    }
     if subcommand == "game" {
         return Ok(Line::Run(Command::Game, MOST_LIFTS));
     }
@@ -66,6 +69,21 @@ fn solving_for<'a>(options: &Options<'a>) -> Result<Line, Mistake<'a>>
         return Err(Mistake::Conflict(OptionName::Search, OptionName::Player));
     }
     Ok(Line::Run(Command::Search { from }, budget))
+}
+
+/// What `empty` asks for with the texts of its options, or what is wrong with them.
+fn emptiness_for<'a>(options: &Options<'a>) -> Result<Line, Mistake<'a>>
+    ensures asked { IfOk result (Asks (codes "empty") options.now) }
+    ensures mistaken { IfErr result (IsMistake (codes "empty") options.now) }
+{
+    let budget = budget_in(options)?;
+    if !is_search(options)? {
+        return Ok(Line::Run(Command::Empty, budget));
+    }
+    if options.budget.is_some() {
+        return Err(Mistake::Conflict(OptionName::Search, OptionName::Budget));
+    }
+    Ok(Line::Run(Command::EmptySearch, MOST_LIFTS))
 }
 
 fn format_in<'a>(options: &Options<'a>) -> Result<Format, Mistake<'a>>
@@ -110,7 +128,7 @@ fn identifier_in<'a>(options: &Options<'a>) -> Result<Option<u32>, Mistake<'a>>
     }
 }
 
-/// Whether the game is solved by the search.
+/// Whether a search is taken in place of lifting.
 fn is_search<'a>(options: &Options<'a>) -> Result<bool, Mistake<'a>>
     ensures given { IfOk result (GivesFlag (text_of name.Search options.now)) }
     ensures faulty { IfErr result (IsFaulty name.Search options.now) }
