@@ -90,21 +90,26 @@ Asks subcommand options (line.Run (command.Show format) budget) =
 Asks subcommand options (line.Run (command.Check format) budget) =
     (subcommand ≡ codes "check") × Gives IsFormatText (text_of name.Format options) (Some format) × (budget ≡ most_lifts)
 Asks subcommand options (line.Run (command.Canon format) budget) =
-    (subcommand ≡ codes "canon") × Gives IsFormatText (text_of name.Format options) (Some format) × (budget ≡ most_lifts)
+    (subcommand ≡ codes "canon") × Gives IsFormatText (text_of name.Format options) (Some format)
+    × (text_of name.From options ≡ None) × (budget ≡ most_lifts)
+Asks subcommand options (line.Run (command.CanonPart from) budget) =
+    (subcommand ≡ codes "canon") × Gives IsFormatText (text_of name.Format options) (Some Pg)
+    × Gives (IsNumberText most_number) (text_of name.From options) (Some from) × (budget ≡ most_lifts)
 Asks subcommand options (line.Run (command.Solve player from) budget) =
     (subcommand ≡ codes "solve") × GivesFlag (text_of name.Search options) false × Gives IsPlayerText (text_of name.Player options) player
     × Gives (IsNumberText most_number) (text_of name.From options) from × GivesBudget (text_of name.Budget options) budget
 Asks subcommand options (line.Run (command.Search from) budget) =
     (subcommand ≡ codes "solve") × GivesFlag (text_of name.Search options) true × (text_of name.Player options ≡ None)
     × Gives (IsNumberText most_number) (text_of name.From options) from × GivesBudget (text_of name.Budget options) budget
-Asks subcommand options (line.Run (command.Verify game explain) budget) = ⊥
+Asks subcommand options (line.Run (command.Verify game from explain) budget) = ⊥
 Asks subcommand options (line.Run command.Empty budget) =
     (subcommand ≡ codes "empty") × GivesFlag (text_of name.Search options) false × GivesBudget (text_of name.Budget options) budget
 Asks subcommand options (line.Run command.EmptySearch budget) =
     (subcommand ≡ codes "empty") × GivesFlag (text_of name.Search options) true × (text_of name.Budget options ≡ None) × (budget ≡ most_lifts)
 Asks subcommand options (line.Run command.Game budget) = (subcommand ≡ codes "game") × (budget ≡ most_lifts)
-Asks subcommand options (line.Verify file explain) =
-    (subcommand ≡ codes "verify") × (text_of name.Game options ≡ Some (string_bytes file)) × GivesFlag (text_of name.Explain options) explain
+Asks subcommand options (line.Verify file from explain) =
+    (subcommand ≡ codes "verify") × (text_of name.Game options ≡ Some (string_bytes file))
+    × Gives (IsNumberText most_number) (text_of name.From options) from × GivesFlag (text_of name.Explain options) explain
 Asks subcommand options (line.Help text) = ⊥
 Asks subcommand options (line.Fault text) = ⊥
 
@@ -114,7 +119,7 @@ Asks subcommand options (line.Fault text) = ⊥
 abbrev pub HasOption : List ℕ → OptionName → Type 0
 HasOption subcommand name.Format = (subcommand ≡ codes "show") ⊎ (subcommand ≡ codes "check") ⊎ (subcommand ≡ codes "canon")
 HasOption subcommand name.Player = subcommand ≡ codes "solve"
-HasOption subcommand name.From = subcommand ≡ codes "solve"
+HasOption subcommand name.From = (subcommand ≡ codes "solve") ⊎ (subcommand ≡ codes "canon") ⊎ (subcommand ≡ codes "verify")
 HasOption subcommand name.Budget = (subcommand ≡ codes "solve") ⊎ (subcommand ≡ codes "empty")
 HasOption subcommand name.Search = (subcommand ≡ codes "solve") ⊎ (subcommand ≡ codes "empty")
 HasOption subcommand name.Game = subcommand ≡ codes "verify"
@@ -147,6 +152,7 @@ IsFaulty option options (mistake.Value other text reason) =
     (other ≡ option) × (text_of option options ≡ Some text.now) × StandsForNothing option text.now
 IsFaulty option options mistake.Unknown = ⊥
 IsFaulty option options (mistake.Conflict one other) = ⊥
+IsFaulty option options (mistake.OnlyWith other format) = ⊥
 IsFaulty option options mistake.Memory = ⊥
 
 -- no subcommand has this name
@@ -171,11 +177,24 @@ pub record IsConflict (subcommand : List ℕ) (options : Options) (one other : O
   pub flagged : GivesFlag (text_of name.Search options) true
   pub given : text_of other options ≢ None
 
--- what is wrong: no subcommand has the name, or an option that it takes is faulty, or two are not given together; or memory is wanting
+-- the option of the subcommand goes with this format only
+abbrev pub IsForFormat : List ℕ → OptionName → Format → Type 0
+IsForFormat subcommand option format = (subcommand ≡ codes "canon") × (option ≡ name.From) × (format ≡ Pg)
+
+-- the option goes with this format only, and is given with another
+pub record IsOfOtherFormat (subcommand : List ℕ) (options : Options) (option : OptionName) (format : Format) : Type 0 where
+  pub only_with : IsForFormat subcommand option format
+  pub other : Format
+  pub other_given : Gives IsFormatText (text_of name.Format options) (Some other)
+  pub is_other : other ≢ format
+  pub given : text_of option options ≢ None
+
+-- what is wrong: no subcommand has the name, or an option that it takes is faulty, or two are not given together, or one is for another format; or memory is wanting
 abbrev pub IsMistake : List ℕ → Options → Mistake → Type 0
 IsMistake subcommand options mistake.Unknown = IsUnknown subcommand
 IsMistake subcommand options mistake.Memory = Unit {0}
 IsMistake subcommand options (mistake.Conflict one other) = IsConflict subcommand options one other
+IsMistake subcommand options (mistake.OnlyWith option format) = IsOfOtherFormat subcommand options option format
 IsMistake subcommand options (mistake.Missing option) = HasOption subcommand option × IsFaulty option options (mistake.Missing option)
 IsMistake subcommand options (mistake.Value option text reason) =
     HasOption subcommand option × IsFaulty option options (mistake.Value option text reason)
@@ -206,4 +225,4 @@ abbrev pub IsPrinted : ErrorKind → Line → Type 0
 IsPrinted kind (line.Help text) = (kind ≡ DisplayHelp) ⊎ (kind ≡ DisplayVersion)
 IsPrinted kind (line.Fault text) = (kind ≢ DisplayHelp) × (kind ≢ DisplayVersion)
 IsPrinted kind (line.Run command budget) = ⊥
-IsPrinted kind (line.Verify file explain) = ⊥
+IsPrinted kind (line.Verify file from explain) = ⊥

@@ -1,5 +1,6 @@
 use omega_game::Player;
 use omega_text::Seq;
+use std::fmt;
 
 /// What the program does with the text on its input.
 #[derive(Debug, Drop)]
@@ -10,6 +11,11 @@ pub enum Command {
     Check(Format),
     /// Writes the text in the one form that its value has.
     Canon(Format),
+    /// Writes the part of a game that one node reaches, in the same form.
+    CanonPart {
+        /// The identifier of the node.
+        from: u32,
+    },
     /// Solves a game: for both players, or for one alone; whole, or the part that one node reaches.
     Solve {
         player: Option<Player>,
@@ -21,9 +27,11 @@ pub enum Command {
         /// The identifier of the node whose part is solved.
         from: Option<u32>,
     },
-    /// Checks the solution of a game whose text is kept here.
+    /// Checks the solution of a game whose text is kept here, or of the part of it that one node reaches.
     Verify {
         game: Seq<u8>,
+        /// The identifier of the node whose part is meant.
+        from: Option<u32>,
         /// Whether it is explained where the solution is not right.
         explain: bool,
     },
@@ -42,4 +50,14 @@ pub enum Format {
     Pg,
     /// A stream of automata in the Hanoi Omega-Automata Format, version 1.
     Hoa,
+}
+
+/// The name of the format on a command line.
+impl fmt::Display for Format {
+    fn fmt<W: fmt::Write>(&self, f: &mut fmt::Formatter<W>) -> fmt::Result {
+        f.write_str(match self {
+            Format::Pg => "pg",
+            Format::Hoa => "hoa",
+        })
+    }
 }

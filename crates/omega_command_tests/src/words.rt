@@ -3,13 +3,21 @@ use std::alloc::Global;
 use std::test::Fail;
 
 /// Command lines, and what each asks for, as it shows itself to a programmer. A budget that is not given is 2^40.
-static ASKED: [(&str, &str); 22] = [
+static ASKED: [(&str, &str); 26] = [
     ("omega show --format pg", "Run(Show(Pg), 1099511627776)"),
     ("omega show --format hoa", "Run(Show(Hoa), 1099511627776)"),
     ("omega check --format pg", "Run(Check(Pg), 1099511627776)"),
     ("omega check --format=hoa", "Run(Check(Hoa), 1099511627776)"),
     ("omega canon --format pg", "Run(Canon(Pg), 1099511627776)"),
     ("omega canon --format hoa", "Run(Canon(Hoa), 1099511627776)"),
+    (
+        "omega canon --format pg --from 4",
+        "Run(CanonPart { from: 4 }, 1099511627776)",
+    ),
+    (
+        "omega canon --from 0 --format pg",
+        "Run(CanonPart { from: 0 }, 1099511627776)",
+    ),
     (
         "omega solve",
         "Run(Solve { player: None, from: None }, 1099511627776)",
@@ -32,19 +40,27 @@ static ASKED: [(&str, &str); 22] = [
     ),
     (
         "omega verify --game g",
-        "Verify { file: \"g\", explain: false }",
+        "Verify { file: \"g\", from: None, explain: false }",
     ),
     (
         "omega verify --game my\tgame.pg",
-        "Verify { file: \"my\\tgame.pg\", explain: false }",
+        "Verify { file: \"my\\tgame.pg\", from: None, explain: false }",
     ),
     (
         "omega verify --game g --explain",
-        "Verify { file: \"g\", explain: true }",
+        "Verify { file: \"g\", from: None, explain: true }",
     ),
     (
         "omega verify --explain --game g",
-        "Verify { file: \"g\", explain: true }",
+        "Verify { file: \"g\", from: None, explain: true }",
+    ),
+    (
+        "omega verify --from 0 --game g",
+        "Verify { file: \"g\", from: Some(0), explain: false }",
+    ),
+    (
+        "omega verify --explain --game g --from=2147483647",
+        "Verify { file: \"g\", from: Some(2147483647), explain: true }",
     ),
     ("omega empty", "Run(Empty, 1099511627776)"),
     ("omega empty --budget 0", "Run(Empty, 0)"),
@@ -59,7 +75,7 @@ static ASKED: [(&str, &str); 22] = [
 ];
 
 /// Command lines that are at fault, and what is said of each.
-static FAULTS: [(&str, &str); 51] = [
+static FAULTS: [(&str, &str); 60] = [
     ("omega", "requires a subcommand"),
     ("omega frobnicate", "unrecognized subcommand 'frobnicate'"),
     ("omega help", "unrecognized subcommand 'help'"),
@@ -94,10 +110,7 @@ static FAULTS: [(&str, &str); 51] = [
         "omega show --format pg --budget 1",
         "unexpected argument '--budget'",
     ),
-    (
-        "omega show --format pg more",
-        "unexpected argument 'more'",
-    ),
+    ("omega show --format pg more", "unexpected argument 'more'"),
     (
         "omega solve --player 2",
         "invalid value '2' for '--player <P>'",
@@ -166,6 +179,36 @@ static FAULTS: [(&str, &str); 51] = [
         "unexpected argument '--search'",
     ),
     ("omega verify --explain", "--game <FILE>"),
+    (
+        "omega canon --format hoa --from 4",
+        "'--from <ID>' goes with '--format pg' only",
+    ),
+    (
+        "omega canon --format hoa --from x",
+        "invalid value 'x' for '--from <ID>'",
+    ),
+    ("omega canon --from 4", "--format <FORMAT>"),
+    (
+        "omega canon --format pg --from 2147483648",
+        "is not in 0..=2147483647",
+    ),
+    (
+        "omega show --format pg --from 4",
+        "unexpected argument '--from'",
+    ),
+    ("omega verify --from 4", "--game <FILE>"),
+    (
+        "omega verify --game a --from",
+        "a value is required for '--from <ID>'",
+    ),
+    (
+        "omega verify --game a --from +4",
+        "invalid value '+4' for '--from <ID>': a number is written in digits, without a sign",
+    ),
+    (
+        "omega verify --game a --from 2147483648",
+        "is not in 0..=2147483647",
+    ),
     ("omega empty --format hoa", "unexpected argument '--format'"),
     ("omega empty --player 0", "unexpected argument '--player'"),
     (
@@ -204,7 +247,7 @@ static FAULTS: [(&str, &str); 51] = [
 ];
 
 /// Requests for help, and what the text says.
-static HELP: [(&str, &str); 40] = [
+static HELP: [(&str, &str); 43] = [
     ("omega --help", "Usage: omega <COMMAND>"),
     ("omega -h", "3  the budget is used up"),
     ("omega -h", "6  the answer of `omega verify` is no"),
@@ -220,17 +263,18 @@ static HELP: [(&str, &str); 40] = [
         "omega show --help",
         "1 automaton states 1 edges 1 propositions 0 sets 1 acceptance Inf(0)",
     ),
-    (
-        "omega check --help",
-        "Usage: omega check --format <FORMAT>",
-    ),
+    ("omega check --help", "Usage: omega check --format <FORMAT>"),
     ("omega check -h", "omega: 3 Syntax at 17"),
     ("omega check -h", "omega: 3 Syntax at 42"),
     ("omega check -h", "14 TooManyEdges"),
     ("omega check -h", "33 Expansion"),
     (
         "omega canon --help",
-        "Usage: omega canon --format <FORMAT>",
+        "Usage: omega canon [OPTIONS] --format <FORMAT>",
+    ),
+    (
+        "omega canon -h",
+        "echo '0 0 0 1; 1 1 1 1; 2 2 0 0;' | omega canon --format pg --from 0",
     ),
     ("omega canon --help", "9 3 1 4;"),
     ("omega canon --help", "[(0|t)&0] 0"),
@@ -245,6 +289,8 @@ static HELP: [(&str, &str); 40] = [
         "Usage: omega verify [OPTIONS] --game <FILE>",
     ),
     ("omega verify -h", "53 BadSolution"),
+    ("omega verify -h", "omega verify --game game.pg --from 0"),
+    ("omega verify -h", "54 UnknownNode"),
     ("omega empty --help", "Usage: omega empty [OPTIONS]"),
     ("omega empty --help", "--budget <N>"),
     ("omega empty --help", "stem 1"),

@@ -34,11 +34,12 @@ pub fn player_option<'a>(alloc: Global) -> Arg<'a> {
         .help("Solve for this player alone, 0 or 1")
 }
 
-/// The option that names the node whose part is solved.
-pub fn from_option<'a>(alloc: Global) -> Arg<'a> {
-    Arg::new(alloc, "from").long("from").value_name("ID").help(
-        "Solve only the part that the node with this identifier reaches",
-    )
+/// The option that names the node whose part is meant, with what is done with the part.
+pub fn from_option<'a>(alloc: Global, help: &'a str) -> Arg<'a> {
+    Arg::new(alloc, "from")
+        .long("from")
+        .value_name("ID")
+        .help(help)
 }
 
 /// The flag that takes a search in place of lifting, with what it does for its subcommand.

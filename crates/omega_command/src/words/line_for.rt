@@ -30,20 +30,13 @@ pub fn line_for<'a>(
         return Ok(Line::Run(Command::Check(format_in(options)?), MOST_LIFTS));
     }
     if subcommand == "canon" {
-        return Ok(Line::Run(Command::Canon(format_in(options)?), MOST_LIFTS));
+        return canonical_for(options);
     }
     if subcommand == "solve" {
         return solving_for(options);
     }
     if subcommand == "verify" {
-        let Some(name) = options.game else {
-            return Err(Mistake::Missing(OptionName::Game));
-        };
-        let explain = is_explained(options)?;
-        return match String::from_str(alloc, name) {
-            Ok(file) => Ok(Line::Verify { file, explain }),
-            Err(_) => Err(Mistake::Memory),
-        };
+        return verifying_for(alloc, options);
     }
     if subcommand == "empty" {
         return emptiness_for(options);
@@ -52,6 +45,41 @@ pub fn line_for<'a>(
         return Ok(Line::Run(Command::Game, MOST_LIFTS));
     }
     Err(Mistake::Unknown)
+}
+
+/// What `canon` asks for with the texts of its options, or what is wrong with them.
+fn canonical_for<'a>(options: &Options<'a>) -> Result<Line, Mistake<'a>>
+    ensures asked { IfOk result (Asks (codes "canon") options.now) }
+    ensures mistaken { IfErr result (IsMistake (codes "canon") options.now) }
+{
+    let format = format_in(options)?;
+    let Some(from) = identifier_in(options)? else {
+        return Ok(Line::Run(Command::Canon(format), MOST_LIFTS));
+    };
+    match format {
+        Format::Pg => Ok(Line::Run(Command::CanonPart { from }, MOST_LIFTS)),
+        Format::Hoa => Err(Mistake::OnlyWith(OptionName::From, Format::Pg)),
+    }
+}
+
+/// What `verify` asks for with the texts of its options, or what is wrong with them.
+fn verifying_for<'a>(alloc: Global, options: &Options<'a>) -> Result<Line, Mistake<'a>>
+    ensures asked { IfOk result (Asks (codes "verify") options.now) }
+    ensures mistaken { IfErr result (IsMistake (codes "verify") options.now) }
+{
+    let Some(name) = options.game else {
+        return Err(Mistake::Missing(OptionName::Game));
+    };
+    let from = identifier_in(options)?;
+    let explain = is_explained(options)?;
+    match String::from_str(alloc, name) {
+        Ok(file) => Ok(Line::Verify {
+            file,
+            from,
+            explain,
+        }),
+        Err(_) => Err(Mistake::Memory),
+    }
 }
 
 /// What `solve` asks for with the texts of its options, or what is wrong with them.
