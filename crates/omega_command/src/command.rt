@@ -41,6 +41,14 @@ pub enum Command {
     EmptySearch,
     /// Writes the emptiness game of an automaton.
     Game,
+    /// Draws the one game or automaton that the text stands for.
+    Draw(Format),
+    /// Draws a game with a solution of it, whose text is kept here.
+    DrawSolution {
+        solution: Seq<u8>,
+    },
+    /// Draws an automaton with an accepting lasso, if it has one.
+    DrawLasso,
 }
 
 /// What kind of text is read.

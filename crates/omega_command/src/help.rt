@@ -1,5 +1,6 @@
 mod canon;
 mod check;
+mod draw;
 mod empty;
 mod game;
 mod options;

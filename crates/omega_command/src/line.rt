@@ -13,6 +13,10 @@ pub enum Line {
         from: Option<u32>,
         explain: bool,
     },
+    /// To draw a game with the solution of it in a file.
+    DrawSolution {
+        file: String,
+    },
     /// A text of help, which goes to standard output.
     Help(String),
     /// What is wrong with the command line, which goes to standard error.

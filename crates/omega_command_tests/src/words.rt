@@ -3,7 +3,7 @@ use std::alloc::Global;
 use std::test::Fail;
 
 /// Command lines, and what each asks for, as it shows itself to a programmer. A budget that is not given is 2^40.
-static ASKED: [(&str, &str); 26] = [
+static ASKED: [(&str, &str); 30] = [
     ("omega show --format pg", "Run(Show(Pg), 1099511627776)"),
     ("omega show --format hoa", "Run(Show(Hoa), 1099511627776)"),
     ("omega check --format pg", "Run(Check(Pg), 1099511627776)"),
@@ -70,12 +70,22 @@ static ASKED: [(&str, &str); 26] = [
     ),
     ("omega empty --search", "Run(EmptySearch, 1099511627776)"),
     ("omega game", "Run(Game, 1099511627776)"),
+    ("omega draw --format pg", "Run(Draw(Pg), 1099511627776)"),
+    ("omega draw --format hoa", "Run(Draw(Hoa), 1099511627776)"),
+    (
+        "omega draw --format hoa --lasso",
+        "Run(DrawLasso, 1099511627776)",
+    ),
+    (
+        "omega draw --solution s --format pg",
+        "DrawSolution { file: \"s\" }",
+    ),
     ("--help show --format pg", "Run(Show(Pg), 1099511627776)"),
     ("./o game", "Run(Game, 1099511627776)"),
 ];
 
 /// Command lines that are at fault, and what is said of each.
-static FAULTS: [(&str, &str); 60] = [
+static FAULTS: [(&str, &str); 68] = [
     ("omega", "requires a subcommand"),
     ("omega frobnicate", "unrecognized subcommand 'frobnicate'"),
     ("omega help", "unrecognized subcommand 'help'"),
@@ -227,6 +237,32 @@ static FAULTS: [(&str, &str); 60] = [
         "omega empty --budget 1099511627776 --search",
         "'--search' and '--budget <N>' are not given together",
     ),
+    ("omega draw", "--format <FORMAT>"),
+    (
+        "omega draw --format dot",
+        "invalid value 'dot' for '--format <FORMAT>'",
+    ),
+    (
+        "omega draw --format pg --lasso",
+        "'--lasso' goes with '--format hoa' only",
+    ),
+    (
+        "omega draw --format hoa --solution s",
+        "'--solution <FILE>' goes with '--format pg' only",
+    ),
+    (
+        "omega draw --lasso --solution s --format hoa",
+        "'--solution <FILE>' goes with '--format pg' only",
+    ),
+    (
+        "omega draw --format pg --solution",
+        "a value is required for '--solution <FILE>'",
+    ),
+    (
+        "omega draw --format pg --solution a --solution b",
+        "cannot be used multiple times",
+    ),
+    ("omega draw --format pg g", "unexpected argument 'g'"),
     ("omega game --format hoa", "unexpected argument '--format'"),
     ("omega game --budget 1", "unexpected argument '--budget'"),
     ("omega game a.hoa", "unexpected argument 'a.hoa'"),
@@ -247,7 +283,7 @@ static FAULTS: [(&str, &str); 60] = [
 ];
 
 /// Requests for help, and what the text says.
-static HELP: [(&str, &str); 43] = [
+static HELP: [(&str, &str); 46] = [
     ("omega --help", "Usage: omega <COMMAND>"),
     ("omega -h", "3  the budget is used up"),
     ("omega -h", "6  the answer of `omega verify` is no"),
@@ -304,6 +340,12 @@ static HELP: [(&str, &str); 43] = [
     ("omega game -h", "40 NotParity"),
     ("omega game -h", "omega game | omega show --format pg"),
     ("omega game --help", "Usage: omega game"),
+    (
+        "omega draw --help",
+        "Usage: omega draw [OPTIONS] --format <FORMAT>",
+    ),
+    ("omega draw -h", "| dot -Tsvg > game.svg"),
+    ("omega draw -h", "omega draw --format hoa --lasso"),
     ("omega game --help", "0 0 0 2,3;"),
     ("omega game -h", "the sink"),
 ];

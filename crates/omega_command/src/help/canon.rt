@@ -16,7 +16,7 @@ order of identifiers.
 
 --from ID writes the part of the game that is reached from the node with that identifier, in the same
 form: a game of its own, whose nodes keep their identifiers. It is the game that `omega solve --from ID`
-solves. Where no node has the identifier, 54 UnknownNode is told. It goes with --format pg alone.
+solves. Where no node has the identifier, 54 UnknownNode is told. It goes with --format pg only.
 
   $ echo '0 0 0 1; 1 1 1 1; 2 2 0 0;' | omega canon --format pg --from 0
   parity 1;
@@ -42,8 +42,8 @@ is written.
 A text that is refused writes nothing but one line on standard error. `omega check --help` lists the
 refusals of both formats.
 
-Exit status: 0 done, 1 the text is refused, 2 the command line is wrong, 4 out of memory, 5 a read or
-a write failed.";
+Exit status: 0 done, 1 the text or the task is refused, 2 the command line is wrong, 4 out of memory, 5
+a read or a write failed.";
 
 /// The subcommand that writes the one text of a value.
 pub fn canon_command<'a>(alloc: Global) -> Result<Command<'a>, AllocError> {

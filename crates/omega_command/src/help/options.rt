@@ -65,3 +65,19 @@ pub fn budget_option<'a>(alloc: Global) -> Arg<'a> {
         .value_name("N")
         .help("Give up after N lifts, 0 to 1099511627776, which is also the default")
 }
+
+/// The option that names the file of a solution.
+pub fn solution_option<'a>(alloc: Global) -> Arg<'a> {
+    Arg::new(alloc, "solution")
+        .long("solution")
+        .value_name("FILE")
+        .help("Draw the solution of the game in this file too")
+}
+
+/// The flag that asks for a lasso to be drawn.
+pub fn lasso_option<'a>(alloc: Global) -> Arg<'a> {
+    Arg::new(alloc, "lasso")
+        .long("lasso")
+        .action(ArgAction::SetTrue)
+        .help("Draw an accepting lasso of the automaton too")
+}

@@ -37,8 +37,8 @@ where that player owns the node, one of its successors. Any other text of this k
 53 BadSolution. What is wrong with the game is told before what is wrong with the solution. A file
 that can't be read is told as 61 Io.
 
-Exit status: 0 yes, 1 a text is refused, 2 the command line is wrong, 4 out of memory, 5 a read or a
-write failed, 6 no.";
+Exit status: 0 yes, 1 a text or the task is refused, 2 the command line is wrong, 4 out of memory, 5 a
+read or a write failed, 6 no.";
 
 /// The subcommand that checks a solution of a game.
 pub fn verify_command<'a>(alloc: Global) -> Result<Command<'a>, AllocError> {
