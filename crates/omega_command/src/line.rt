@@ -17,7 +17,7 @@ pub enum Line {
     DrawSolution {
         file: String,
     },
-    /// A text of help, which goes to standard output.
+    /// A text of help, or the version, which goes to standard output.
     Help(String),
     /// What is wrong with the command line, which goes to standard error.
     Fault(String),

@@ -88,11 +88,14 @@ static ASKED: [(&str, &str); 30] = [
 static FAULTS: [(&str, &str); 68] = [
     ("omega", "requires a subcommand"),
     ("omega frobnicate", "unrecognized subcommand 'frobnicate'"),
-    ("omega help", "unrecognized subcommand 'help'"),
+    (
+        "omega help frobnicate",
+        "unrecognized subcommand 'frobnicate'",
+    ),
     ("omega emptiness", "unrecognized subcommand 'emptiness'"),
     ("omega games", "unrecognized subcommand 'games'"),
-    ("omega --version", "unexpected argument '--version'"),
-    ("omega -V", "unexpected argument '-V'"),
+    ("omega show --version", "unexpected argument '--version'"),
+    ("omega version", "unrecognized subcommand 'version'"),
     ("omega show", "--format <FORMAT>"),
     ("omega check", "--format <FORMAT>"),
     ("omega canon", "--format <FORMAT>"),
@@ -282,13 +285,19 @@ static FAULTS: [(&str, &str); 68] = [
     ),
 ];
 
-/// Requests for help, and what the text says.
-static HELP: [(&str, &str); 46] = [
+/// Requests for help or the version, and what the text says.
+static HELP: [(&str, &str); 52] = [
     ("omega --help", "Usage: omega <COMMAND>"),
     ("omega -h", "3  the budget is used up"),
     ("omega -h", "6  the answer of `omega verify` is no"),
     ("omega --help", "0 1 0 1; 1 2 1 0"),
     ("omega --help", "State: 0 [0] 0 {0} [!0] 0 --END--"),
+    ("omega help", "Usage: omega <COMMAND>"),
+    ("omega help show", "Usage: omega show --format <FORMAT>"),
+    ("omega help empty", "accepting lasso"),
+    ("omega --help", "-V, --version"),
+    ("omega --version", "omega 1.0.0\\nproved by rattle-kit"),
+    ("omega -V", "omega 1.0.0\\nproved by rattle-kit"),
     ("omega show --help", "Usage: omega show --format <FORMAT>"),
     ("omega show --help", "game nodes 2 edges 2 greatest 1"),
     (

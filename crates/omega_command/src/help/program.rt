@@ -6,6 +6,7 @@ use super::game::game_command;
 use super::show::show_command;
 use super::solve::solve_command;
 use super::verify::verify_command;
+use crate::version::VERSION;
 use clap::Command;
 use std::alloc::{AllocError, Global};
 
@@ -53,9 +54,9 @@ pub fn whole_program<'a>(alloc: Global) -> Result<Command<'a>, AllocError> {
         .about(
             "Reads, checks, writes and draws parity games and omega-automata, solves games, verifies their solutions, and says whether an automaton accepts nothing.",
         )
+        .version(VERSION)
         .after_help(DETAILS)
         .subcommand_required(true)
-        .disable_help_subcommand(true)
         .subcommand(show_command(alloc)?)?
         .subcommand(check_command(alloc)?)?
         .subcommand(canon_command(alloc)?)?
