@@ -4,6 +4,7 @@ pub mod PlayerText
 pub mod Verify
 pub mod canon
 pub mod check
+pub mod empty
 pub mod show
 pub mod solve
 pub mod steps

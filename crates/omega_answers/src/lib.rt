@@ -4,6 +4,7 @@
 mod automaton_text;
 mod canon;
 mod check;
+mod empty;
 mod game;
 mod game_text;
 mod player_text;
@@ -15,6 +16,7 @@ pub use canon::hoa::canon_stream;
 pub use canon::pg::canon_game;
 pub use check::hoa::check_stream;
 pub use check::pg::check_game;
+pub use empty::{decide_emptiness, search_emptiness};
 pub use game::write_emptiness_game;
 pub use omega_io::Exit;
 pub use omega_solve::{MeasureTable, PackedTable, Player, Refusal, Schedule, Worklist};
