@@ -7,12 +7,14 @@ mod check;
 mod empty;
 mod game;
 mod game_text;
+mod part;
 mod player_text;
 mod show;
 mod solve;
 mod verify;
 
 pub use canon::hoa::canon_stream;
+pub use canon::part::canon_part;
 pub use canon::pg::canon_game;
 pub use check::hoa::check_stream;
 pub use check::pg::check_game;
