@@ -1,5 +1,6 @@
 -- What each subcommand answers and refuses; in `steps` what private contracts alone cite.
 pub mod Game
+pub mod Laws
 pub mod Part
 pub mod PlayerText
 pub mod Verify
