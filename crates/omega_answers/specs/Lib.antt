@@ -6,6 +6,7 @@ pub mod PlayerText
 pub mod Verify
 pub mod canon
 pub mod check
+pub mod draw
 pub mod empty
 pub mod show
 pub mod solve
