@@ -14,6 +14,7 @@ mod marks;
 mod nodes;
 mod searching;
 mod starting;
+mod turning;
 mod usable;
 mod verdict;
 

@@ -1,5 +1,5 @@
 -- The word of a run: at each index, propositions that make the label of the run's edge true.
-use Rattle.std.proofs.Common.{◌≡◌, ℕ, Bool, true, false, List, Option, None, Some, refl}
+use Rattle.std.proofs.Common.{◌≡◌, ℕ, Bool, true, false, Option, None, Some, refl}
 use Rattle.std.specs.Option.{IfSome}
 use Rattle.omega_acc.specs.Label.{LabelTree, truth}
 use Rattle.omega_acc.specs.Satisfiable.{IsSatisfiable}
