@@ -24,10 +24,15 @@ def difference(kind, came, wanted):
             f"{shown(came[place:])} for {shown(wanted[place:])}")
 
 
+def run_of(words, text):
+    """A run of the program with these words on this text: its status, output and error."""
+    return subprocess.run([OMEGA] + words, input=text, capture_output=True, timeout=SECONDS)
+
+
 def fault_of(words, text, status, output, error=b""):
     """Runs the program with these words on this text. What differs from the status, output and error wanted, or nothing."""
     try:
-        run = subprocess.run([OMEGA] + words, input=text, capture_output=True, timeout=SECONDS)
+        run = run_of(words, text)
     except subprocess.TimeoutExpired:
         return f"not done after {SECONDS} seconds"
     if run.returncode != status:

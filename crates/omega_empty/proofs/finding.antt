@@ -3,3 +3,4 @@ pub mod Starts
 pub mod Turning
 pub mod Passed
 pub mod Verdicts
+pub mod Entering

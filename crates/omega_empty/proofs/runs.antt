@@ -2,3 +2,4 @@
 pub mod Segments
 pub mod Forever
 pub mod Steps
+pub mod Words

@@ -6,6 +6,7 @@ pub mod Counters
 pub mod EmptinessGame
 pub mod Refusing
 pub mod Runs
+pub mod Words
 pub mod Laws
 pub mod GameLaws
 pub mod Verdict

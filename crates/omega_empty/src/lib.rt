@@ -14,13 +14,17 @@ mod marks;
 mod nodes;
 mod searching;
 mod starting;
+mod turning;
 mod usable;
 mod verdict;
 
 pub use deciding::emptiness;
 pub use game_laws::{unwon_is_empty, won_walks_accept};
 pub use games::emptiness_game;
-pub use laws::{accepting_lassos_are_won, accepting_runs_have_lassos, lassos_are_accepting_runs};
+pub use laws::{
+    accepted_words_have_lassos, accepting_lassos_are_won, accepting_runs_have_lassos,
+    accepting_runs_have_words, lassos_are_accepting_runs, lassos_have_accepted_words,
+};
 pub use omega_automaton::{Automaton, Refusal, Seq};
 pub use searching::lasso;
 pub use verdict::Verdict;

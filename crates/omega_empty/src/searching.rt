@@ -9,6 +9,7 @@ ghost use Rattle.omega_empty.specs.layout.Passing.{PassesLasso};
 
 use crate::game_laws::{unwon_is_empty, won_walks_accept};
 use crate::games::emptiness_game;
+use crate::turning::turned;
 use crate::verdict::Verdict;
 use omega_automaton::{Automaton, Refusal, Seq};
 use omega_game::{Game, Lasso, Player, Strategy, counterexample};
@@ -83,8 +84,8 @@ fn add_start(places: &mut Vec<u32>, game: &Game, start: &[u32]) -> Result<(), Re
     Ok(())
 }
 
-/// The accepting lasso whose edges a lasso of places passes: its cycle begins behind the first place of the places' cycle,
-/// since this may be that of an edge, which the stem then passes first. 60 alone.
+/// An accepting lasso of the edges that a lasso of places passes: those up to the first place of its cycle, which may be that
+/// of an edge, and those behind it until it comes again; entered where the stem first comes to the cycle. 60 alone.
 fn passed(
     alloc: Global,
     automaton: &Automaton,
@@ -100,10 +101,7 @@ fn passed(
     let first = cycle[0];
     let stem = edge_numbers(alloc, automaton, game, found.stem.as_slice(), first)?;
     let around = edge_numbers(alloc, automaton, game, &cycle[1..], first)?;
-    Ok(Verdict::Lasso {
-        stem: Seq::from_vec(stem),
-        cycle: Seq::from_vec(around),
-    })
+    turned(alloc, stem.as_slice(), around.as_slice())
 }
 
 /// The numbers of the edges whose nodes stand at places and then at a last one. 60 alone.

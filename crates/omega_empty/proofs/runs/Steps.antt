@@ -29,7 +29,7 @@ stretch_marks a edges i zero = refl
 stretch_marks a edges i (suc n) = ap (λ list. marks_at a (edges i) ∷ list) (stretch_marks a edges (suc i) n)
 
 -- two steps by one edge leave one state
-one_source : (a : Description) (s t n m u v : ℕ) → n ≡ m → IsStep a s n u → IsStep a t m v → s ≡ t
+pub one_source : (a : Description) (s t n m u v : ℕ) → n ≡ m → IsStep a s n u → IsStep a t m v → s ≡ t
 one_source a s t n m u v same first second =
     let edges_same : first.edge ≡ second.edge = some_same first.edge second.edge (sym first.numbered ∙ ap (edge_at a) same ∙ second.numbered) in
     sym first.leaves ∙ ap (λ edge. edge.source.number) edges_same ∙ second.leaves

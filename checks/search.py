@@ -1,0 +1,96 @@
+"""`solve --search`: its winners against a plain solver, and games on which the search gives nothing and lifting answers.
+
+A search that gives an answer makes no lift, so that it keeps a budget of 0; a game with a lift to make is refused 51 then
+where the search gave nothing. So both can be told apart from outside.
+"""
+import random
+
+from program import difference, refusal_fault, run_of
+
+
+def friedmann(levels):
+    """The games on which Zielonka's algorithm takes exponential time (Friedmann 2011): 5 nodes a level."""
+    nodes = {}
+    for i in range(1, levels + 1):
+        nodes["a", i] = (1 - i % 2, 1 - i % 2, [("b", i), ("d", i - 1)])
+        nodes["b", i] = (i % 2, 1 - i % 2, [("a", i)] + [("c", i)] * (i < levels))
+    for i in range(levels):
+        nodes["c", i] = (1 - i % 2, 3 * i + 5, [("b", i + 1), ("d", i)])
+        nodes["d", i] = (i % 2, 3 * i + 4, [("e", i)] + [("d", i - 1)] * (i > 0) + [("d", i + 1)] * (i < levels - 1))
+        nodes["e", i] = (1 - i % 2, 3 * i + 3, [("b", i)] * (i > 0) + [("d", i)])
+    number = {name: place for place, name in enumerate(sorted(nodes))}
+    return [(priority, owner, [number[name] for name in successors])
+            for owner, priority, successors in (nodes[name] for name in sorted(nodes))]
+
+
+def random_game(maker):
+    """A game of a few nodes and priorities."""
+    count, priorities = maker.randint(1, 12), maker.randint(1, 6)
+    return [(maker.randrange(priorities), maker.randrange(2),
+             [maker.randrange(count) for _ in range(maker.randint(1, 3))]) for _ in range(count)]
+
+
+def text_of(game):
+    return "".join(f"{place} {priority} {owner} {','.join(map(str, successors))};\n"
+                   for place, (priority, owner, successors) in enumerate(game)).encode()
+
+
+def attracted(game, left, target, player):
+    """The nodes left from which the player can force a visit of the target."""
+    found = set(target)
+    while True:
+        more = {v for v in left - found
+                if (any if game[v][1] == player else all)(w in found for w in game[v][2] if w in left)}
+        if not more:
+            return found
+        found |= more
+
+
+def winners(game, left):
+    """The regions of both players among the nodes left, by recursion (Zielonka 1998)."""
+    if not left:
+        return set(), set()
+    top = max(game[v][0] for v in left)
+    player = top % 2
+    others = winners(game, left - attracted(game, left, {v for v in left if game[v][0] == top}, player))
+    if not others[1 - player]:
+        return (set(left), set()) if player == 0 else (set(), set(left))
+    lost = attracted(game, left, others[1 - player], 1 - player)
+    rest = list(winners(game, left - lost))
+    rest[1 - player] |= lost
+    return tuple(rest)
+
+
+def said_winners(text):
+    """The nodes given to each player by a solution text."""
+    lines = [line.split() for line in text.decode().split("\n")[1:-1]]
+    return tuple({int(words[0]) for words in lines if int(words[1].rstrip(";")) == player} for player in (0, 1))
+
+
+def winners_fault(words, game):
+    """Where the winners of a solution differ from those of the plain solver, or nothing."""
+    run = run_of(words, text_of(game))
+    if run.returncode:
+        return f"status {run.returncode}: {run.stderr[:80]!r}"
+    said, wanted = said_winners(run.stdout), winners(game, set(range(len(game))))
+    return None if said == wanted else f"nodes of players 0 and 1: {said} for {wanted}"
+
+
+def search_checks():
+    search = ["solve", "--search"]
+    maker = random.Random(20261123)
+    for number in range(300):
+        game = random_game(maker)
+        yield f"random game {number} by a search without a lift", winners_fault(search + ["--budget", "0"], game)
+    for levels in (2, 4, 6):
+        yield f"{levels} levels by a search without a lift", winners_fault(search + ["--budget", "0"], friedmann(levels))
+    # Here the search gives up.
+    game = friedmann(18)
+    yield "18 levels, for which the search gives nothing, without a lift", refusal_fault(
+        search + ["--budget", "0"], text_of(game), "51 Budget", 3)
+    lifted = run_of(["solve"], text_of(friedmann(14)))
+    searched = run_of(search, text_of(friedmann(14)))
+    yield "14 levels by lifting, for which the search gives nothing", refusal_fault(
+        search + ["--budget", "0"], text_of(friedmann(14)), "51 Budget", 3)
+    yield "14 levels: what lifting gives is what is answered", difference("output", searched.stdout, lifted.stdout)
+    yield "14 levels: winners", winners_fault(search, friedmann(14))
