@@ -13,6 +13,7 @@ TWO = b"0 1 0 1; 1 2 1 0;"
 GAPS = b'parity 9; 9 3 1 4; 4 2 0 9,4 "a";'
 CARRY = b"0 1 0 0; 1 0 0 1; 2 3 0 2; 3 1 1 2,0;"
 CHOICE = b"0 0 0 1,2; 1 1 1 0; 2 2 1 0;"
+PARTED = b"0 0 0 1; 1 1 1 1; 2 2 0 0;"
 
 BUCHI = b'HOA: v1 States: 1 Start: 0 AP: 1 "a" acc-name: Buchi Acceptance: 1 Inf(0) --BODY-- State: 0 [0] 0 {0} --END--'
 ABORTED = b"HOA: ( & 7 nonsense --ABORT-- /*a/*b*/c*/ HOA: v1 Acceptance: 0 t --BODY-- --END--"
@@ -20,8 +21,10 @@ ALIASES = (b'HOA: v1 AP: 1 "a" Acceptance: 0 t Alias: @a0 0&0 Alias: @a1 @a0&@a0
            b"State: [@a2] 0 --END--")
 WRITTEN = (b'HOA: v1 States: 1 Start: 0 AP: 1 "a" Alias: @b 0|t Acceptance: 1 Inf(0) acc-name: Buchi --BODY-- State: 0 '
            b"[!@b&0] 0 {0 0} --END--")
+TWO_SETS = (b"HOA: v1 States: 2 Start: 0 acc-name: generalized-Buchi 2 Acceptance: 2 Inf(0)&Inf(1) --BODY-- "
+            b"State: 0 [t] 0 {0} [t] 1 State: 1 [t] 0 {1} --END--")
 
-# Words, the text on standard input, and the text in the file of `--game` where there is one.
+# Words, the text on standard input, and the text in the file that is the last word, where there is one.
 RUNS = [
     *((["solve", *more], text, None)
       for text in (TWO, GAPS, CARRY, CHOICE)
@@ -29,10 +32,20 @@ RUNS = [
     *(([name, "--format", "pg"], text, None) for text in (TWO, GAPS, CHOICE) for name in ("show", "check", "canon")),
     *(([name, "--format", "hoa"], text, None) for text in (BUCHI, ABORTED, ALIASES, WRITTEN, BUCHI * 3)
       for name in ("show", "check", "canon")),
+    *((words, text, None) for text in (BUCHI, TWO_SETS, WRITTEN)
+      for words in (["game"], ["empty"], ["empty", "--search"], ["empty", "--budget", "1"])),
     (["check", "--format", "hoa"], b"HOA: v1 --BODY-- --END--", None),
     (["verify", "--game"], b"paritysol 2; 0 0 2; 1 0; 2 0;", CHOICE),
     (["verify", "--game"], b"paritysol 2; 0 0 1; 1 0; 2 0;", CHOICE),
     (["verify", "--game"], b"paritysol 2; 0 0;", CHOICE),
+    *((["draw", "--format", "pg"], text, None) for text in (GAPS, CHOICE)),
+    (["draw", "--format", "pg", "--solution"], CHOICE, b"paritysol 2; 0 0 1; 1 0; 2 0;"),
+    (["draw", "--format", "pg", "--solution"], CHOICE, b"paritysol 2; 0 0;"),
+    *((["draw", "--format", "hoa", *more], text, None) for text in (BUCHI, TWO_SETS, WRITTEN) for more in ([], ["--lasso"])),
+    (["verify", "--from", "1", "--game"], b"paritysol 1; 1 1 1;", PARTED),
+    (["verify", "--explain", "--from", "1", "--game"], b"paritysol 1; 1 0;", PARTED),
+    (["verify", "--from", "5", "--game"], b"paritysol 1; 1 0;", PARTED),
+    *((["canon", "--format", "pg", "--from", start], PARTED, None) for start in ("0", "1", "5")),
     (["check", "--format", "pg"], b"0 0 0;", None),
     (["check", "--format", "pg"], b"", None),
     (["solve", "--from", "7"], CHOICE, None),
