@@ -3,6 +3,7 @@ use crate::samples::{self, Row, add, assert_row, finish, game_of, is_given, line
 use omega_game::Player::{One, Zero};
 use omega_game::{Game, GameBuilder, Player, Refusal, check_strategy};
 use std::alloc::Global;
+use std::process::Abort;
 
 /// The checker's answer, or Io where a place is not there or the choices do not fit.
 fn answer(
@@ -18,8 +19,29 @@ fn answer(
     }
 }
 
+/// A player, the listed places, the player's choices, and whether they win from each of these places.
+type Asked = (Player, &'static [u32], &'static [Option<u32>], bool);
+
 /// Player 0 can only go from 0 to 1, which bears an odd priority and leads to itself.
 const ODD_BEHIND: [Row; 2] = [(0, 0, Zero, &[1], None), (1, 1, Zero, &[1], None)];
+
+const ODD_BEHIND_ASKED: [Asked; 6] = [
+    (Zero, &[0], &[Some(1), Some(1)], false),
+    (Zero, &[0], &[Some(1), None], false),
+    (Zero, &[1], &[Some(1), None], false),
+    (Zero, &[], &[Some(1), None], true),
+    (One, &[0], &[None, None], true),
+    (One, &[0, 1], &[None, None], true),
+];
+
+const THREE_ASKED: [Asked; 6] = [
+    (Zero, &[0, 1, 2], &[Some(2), None, None], true),
+    (Zero, &[2, 0, 2], &[Some(2), None, None], true),
+    (Zero, &[0], &[Some(1), None, None], false),
+    (Zero, &[2], &[Some(1), None, None], false),
+    (Zero, &[1], &[None, None, None], false),
+    (One, &[1], &[None, Some(0), Some(0)], false),
+];
 
 /// At 4 player 0 may stay, which loses, or go on to 5.
 const FAR: [Row; 6] = [
@@ -31,6 +53,25 @@ const FAR: [Row; 6] = [
     (5, 2, Zero, &[5], None),
 ];
 
+const FAR_ASKED: [Asked; 6] = [
+    (Zero, &[0], &[None, None, None, None, Some(4), None], false),
+    (Zero, &[0], &[None, None, None, None, None, None], false),
+    (
+        Zero,
+        &[5, 3],
+        &[None, None, None, None, Some(4), None],
+        false,
+    ),
+    (Zero, &[5], &[None, None, None, None, Some(4), None], true),
+    (Zero, &[0], &[None, None, None, None, Some(5), None], true),
+    (
+        Zero,
+        &[0, 1, 2, 3, 4, 5],
+        &[None, None, None, None, Some(5), None],
+        true,
+    ),
+];
+
 /// Player 0 may stay at 0, and player 1 at 2; both may go on to 1, which loses for player 0.
 const BRANCHES: [Row; 3] = [
     (0, 0, Zero, &[0, 1], None),
@@ -38,121 +79,72 @@ const BRANCHES: [Row; 3] = [
     (2, 2, One, &[2, 1], None),
 ];
 
+const BRANCHES_ASKED: [Asked; 6] = [
+    (Zero, &[0], &[None, None, None], false),
+    (Zero, &[0], &[Some(0), None, None], true),
+    (Zero, &[0, 1], &[Some(0), None, None], false),
+    (Zero, &[2], &[Some(0), None, None], false),
+    (One, &[2], &[None, None, None], false),
+    (One, &[2], &[None, None, Some(1)], true),
+];
+
 const ODD_ABOVE: [Row; 2] = [(0, 0, Zero, &[1], None), (1, 1, Zero, &[0], None)];
 
 const EVEN_ABOVE: [Row; 2] = [(0, 1, Zero, &[1], None), (1, 2, Zero, &[0], None)];
 
+const ODD_ABOVE_ASKED: [Asked; 2] = [
+    (Zero, &[0], &[None, None], false),
+    (One, &[1], &[None, None], true),
+];
+
+const EVEN_ABOVE_ASKED: [Asked; 2] = [
+    (Zero, &[0], &[None, None], true),
+    (One, &[1], &[None, None], false),
+];
+
 /// Player 0 may stay at 1 inside the closed walk through both nodes, whose greatest priority is even.
 const NESTED: [Row; 2] = [(0, 2, Zero, &[1], None), (1, 1, Zero, &[0, 1], None)];
 
-/// A game, a player, the listed places, the player's choices, and whether they win from each of these places.
-type Asked = (
-    &'static [Row],
-    Player,
-    &'static [u32],
-    &'static [Option<u32>],
-    bool,
-);
-
-/// A losing closed walk apart from the listed place, one choice of two that wins, a wrong choice far from the listed place,
-/// nodes without a choice that keep all edges, the greatest priority above the least and the other way round, and a losing
-/// closed walk inside a winning one.
-const ASKED: [Asked; 32] = [
-    (&ODD_BEHIND, Zero, &[0], &[Some(1), Some(1)], false),
-    (&ODD_BEHIND, Zero, &[0], &[Some(1), None], false),
-    (&ODD_BEHIND, Zero, &[1], &[Some(1), None], false),
-    (&ODD_BEHIND, Zero, &[], &[Some(1), None], true),
-    (&ODD_BEHIND, One, &[0], &[None, None], true),
-    (&ODD_BEHIND, One, &[0, 1], &[None, None], true),
-    (
-        &samples::THREE,
-        Zero,
-        &[0, 1, 2],
-        &[Some(2), None, None],
-        true,
-    ),
-    (
-        &samples::THREE,
-        Zero,
-        &[2, 0, 2],
-        &[Some(2), None, None],
-        true,
-    ),
-    (&samples::THREE, Zero, &[0], &[Some(1), None, None], false),
-    (&samples::THREE, Zero, &[2], &[Some(1), None, None], false),
-    (&samples::THREE, Zero, &[1], &[None, None, None], false),
-    (&samples::THREE, One, &[1], &[None, Some(0), Some(0)], false),
-    (
-        &FAR,
-        Zero,
-        &[0],
-        &[None, None, None, None, Some(4), None],
-        false,
-    ),
-    (
-        &FAR,
-        Zero,
-        &[0],
-        &[None, None, None, None, None, None],
-        false,
-    ),
-    (
-        &FAR,
-        Zero,
-        &[5, 3],
-        &[None, None, None, None, Some(4), None],
-        false,
-    ),
-    (
-        &FAR,
-        Zero,
-        &[5],
-        &[None, None, None, None, Some(4), None],
-        true,
-    ),
-    (
-        &FAR,
-        Zero,
-        &[0],
-        &[None, None, None, None, Some(5), None],
-        true,
-    ),
-    (
-        &FAR,
-        Zero,
-        &[0, 1, 2, 3, 4, 5],
-        &[None, None, None, None, Some(5), None],
-        true,
-    ),
-    (&BRANCHES, Zero, &[0], &[None, None, None], false),
-    (&BRANCHES, Zero, &[0], &[Some(0), None, None], true),
-    (&BRANCHES, Zero, &[0, 1], &[Some(0), None, None], false),
-    (&BRANCHES, Zero, &[2], &[Some(0), None, None], false),
-    (&BRANCHES, One, &[2], &[None, None, None], false),
-    (&BRANCHES, One, &[2], &[None, None, Some(1)], true),
-    (&ODD_ABOVE, Zero, &[0], &[None, None], false),
-    (&ODD_ABOVE, One, &[1], &[None, None], true),
-    (&EVEN_ABOVE, Zero, &[0], &[None, None], true),
-    (&EVEN_ABOVE, One, &[1], &[None, None], false),
-    (&NESTED, Zero, &[0], &[None, None], false),
-    (&NESTED, Zero, &[0], &[None, Some(1)], false),
-    (&NESTED, Zero, &[0, 1], &[None, Some(0)], true),
-    (&NESTED, One, &[1], &[None, None], false),
+const NESTED_ASKED: [Asked; 4] = [
+    (Zero, &[0], &[None, None], false),
+    (Zero, &[0], &[None, Some(1)], false),
+    (Zero, &[0, 1], &[None, Some(0)], true),
+    (One, &[1], &[None, None], false),
 ];
 
-/// Whether the checker answers a row as it should.
-fn is_answered(alloc: Global, asked: &Asked) -> bool {
-    let (rows, player, places, choices, wins) = *asked;
+/// Games with what is asked of them: a losing closed walk apart from the listed place, one choice of two that wins, a
+/// wrong choice far from the listed place, nodes without a choice that keep all edges, the greatest priority above the
+/// least and the other way round, and a losing closed walk inside a winning one.
+const GAMES: [(&'static [Row], &'static [Asked]); 7] = [
+    (&ODD_BEHIND, &ODD_BEHIND_ASKED),
+    (&samples::THREE, &THREE_ASKED),
+    (&FAR, &FAR_ASKED),
+    (&BRANCHES, &BRANCHES_ASKED),
+    (&ODD_ABOVE, &ODD_ABOVE_ASKED),
+    (&EVEN_ABOVE, &EVEN_ABOVE_ASKED),
+    (&NESTED, &NESTED_ASKED),
+];
+
+/// Asserts the checker's answers on a game.
+fn assert_answers(rt: &impl Abort, alloc: Global, game: &Game, asked: &[Asked]) {
+    for (row, (player, places, choices, wins)) in asked.iter().enumerate() {
+        let given = answer(alloc, game, *player, *places, *choices);
+        assert_row(rt, row, is_given(given, *wins));
+    }
+}
+
+/// Asserts the checker's answers on the game of these rows.
+fn assert_game(rt: &impl Abort, alloc: Global, rows: &[Row], asked: &[Asked]) {
     match game_of(alloc, rows) {
-        Ok(game) => is_given(answer(alloc, &game, player, places, choices), wins),
-        Err(_) => false,
+        Ok(game) => assert_answers(rt, alloc, &game, asked),
+        Err(_) => assert!(rt; false, "a game"),
     }
 }
 
 #[test]
 fn small_games(rt: HostRuntime) {
-    for (row, asked) in ASKED.iter().enumerate() {
-        assert_row(&rt, row, is_answered(rt.alloc(), asked));
+    for (rows, asked) in GAMES.iter() {
+        assert_game(&rt, rt.alloc(), *rows, *asked);
     }
 }
 

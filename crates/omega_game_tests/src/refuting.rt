@@ -3,6 +3,7 @@ use crate::samples::{self, Row, assert_row, game_of, line, strategy_for};
 use omega_game::Player::{One, Zero};
 use omega_game::{Game, Lasso, Player, Refusal, counterexample};
 use std::alloc::Global;
+use std::process::Abort;
 
 /// The counterexample, or Io where a place is not there or the choices do not fit.
 fn answer(
@@ -29,8 +30,33 @@ fn is_found(found: Result<Option<Lasso>, Refusal>, stem: &[u32], cycle: &[u32]) 
     }
 }
 
+/// A player, the listed places, the player's choices, and the places of the stem and of the cycle; an empty cycle stands
+/// for none.
+type Asked = (
+    Player,
+    &'static [u32],
+    &'static [Option<u32>],
+    &'static [u32],
+    &'static [u32],
+);
+
 /// Player 0 can only go from 0 to 1, which bears an odd priority and leads to itself.
 const ODD_BEHIND: [Row; 2] = [(0, 0, Zero, &[1], None), (1, 1, Zero, &[1], None)];
+
+const ODD_BEHIND_ASKED: [Asked; 4] = [
+    (Zero, &[0], &[Some(1), Some(1)], &[0], &[1]),
+    (Zero, &[0, 1], &[None, None], &[], &[1]),
+    (Zero, &[], &[None, None], &[], &[]),
+    (One, &[0, 1], &[None, None], &[], &[]),
+];
+
+/// At 1 the odd priority comes back to itself by 0; by 2 an even one would be on the way.
+const THREE_ASKED: [Asked; 4] = [
+    (Zero, &[0], &[Some(1), None, None], &[0], &[1, 0]),
+    (Zero, &[2], &[Some(1), None, None], &[2, 0], &[1, 0]),
+    (Zero, &[1, 2], &[None, None, None], &[], &[1, 0]),
+    (Zero, &[0, 1, 2], &[Some(2), None, None], &[], &[]),
+];
 
 /// Two ways lead from 0 to 5, the only place that loses. It comes back to itself by 0 and, on a shorter way, by 6.
 const WAYS: [Row; 7] = [
@@ -45,73 +71,39 @@ const WAYS: [Row; 7] = [
 
 const NO_CHOICE: [Option<u32>; 7] = [None, None, None, None, None, None, None];
 
-/// A game, a player, the listed places, the player's choices, and the places of the stem and of the cycle.
-type Asked = (
-    &'static [Row],
-    Player,
-    &'static [u32],
-    &'static [Option<u32>],
-    &'static [u32],
-    &'static [u32],
-);
-
-/// A cycle behind the listed place; one through it, at 1, where the odd priority comes back to itself by 0, and by 2 an
-/// even one would be on the way; and the shortest of several ways.
-const ASKED: [Asked; 11] = [
-    (&ODD_BEHIND, Zero, &[0], &[Some(1), Some(1)], &[0], &[1]),
-    (&ODD_BEHIND, Zero, &[0, 1], &[None, None], &[], &[1]),
-    (&ODD_BEHIND, Zero, &[], &[None, None], &[], &[]),
-    (&ODD_BEHIND, One, &[0, 1], &[None, None], &[], &[]),
-    (
-        &samples::THREE,
-        Zero,
-        &[0],
-        &[Some(1), None, None],
-        &[0],
-        &[1, 0],
-    ),
-    (
-        &samples::THREE,
-        Zero,
-        &[2],
-        &[Some(1), None, None],
-        &[2, 0],
-        &[1, 0],
-    ),
-    (
-        &samples::THREE,
-        Zero,
-        &[1, 2],
-        &[None, None, None],
-        &[],
-        &[1, 0],
-    ),
-    (
-        &samples::THREE,
-        Zero,
-        &[0, 1, 2],
-        &[Some(2), None, None],
-        &[],
-        &[],
-    ),
-    (&WAYS, Zero, &[1], &NO_CHOICE, &[1, 2], &[5, 6]),
-    (&WAYS, Zero, &[0], &NO_CHOICE, &[0, 4], &[5, 6]),
-    (&WAYS, Zero, &[0, 3], &NO_CHOICE, &[3], &[5, 6]),
+const WAYS_ASKED: [Asked; 3] = [
+    (Zero, &[1], &NO_CHOICE, &[1, 2], &[5, 6]),
+    (Zero, &[0], &NO_CHOICE, &[0, 4], &[5, 6]),
+    (Zero, &[0, 3], &NO_CHOICE, &[3], &[5, 6]),
 ];
 
-/// Whether the stem and the cycle of a row are found.
-fn is_answered(alloc: Global, asked: &Asked) -> bool {
-    let (rows, player, places, choices, stem, cycle) = *asked;
+/// Games with what is asked of them: a cycle behind the listed place, one through it, and the shortest of several ways.
+const GAMES: [(&'static [Row], &'static [Asked]); 3] = [
+    (&ODD_BEHIND, &ODD_BEHIND_ASKED),
+    (&samples::THREE, &THREE_ASKED),
+    (&WAYS, &WAYS_ASKED),
+];
+
+/// Asserts the counterexamples on a game.
+fn assert_lassos(rt: &impl Abort, alloc: Global, game: &Game, asked: &[Asked]) {
+    for (row, (player, places, choices, stem, cycle)) in asked.iter().enumerate() {
+        let found = answer(alloc, game, *player, *places, *choices);
+        assert_row(rt, row, is_found(found, *stem, *cycle));
+    }
+}
+
+/// Asserts the counterexamples on the game of these rows.
+fn assert_game(rt: &impl Abort, alloc: Global, rows: &[Row], asked: &[Asked]) {
     match game_of(alloc, rows) {
-        Ok(game) => is_found(answer(alloc, &game, player, places, choices), stem, cycle),
-        Err(_) => false,
+        Ok(game) => assert_lassos(rt, alloc, &game, asked),
+        Err(_) => assert!(rt; false, "a game"),
     }
 }
 
 #[test]
 fn small_games(rt: HostRuntime) {
-    for (row, asked) in ASKED.iter().enumerate() {
-        assert_row(&rt, row, is_answered(rt.alloc(), asked));
+    for (rows, asked) in GAMES.iter() {
+        assert_game(&rt, rt.alloc(), *rows, *asked);
     }
 }
 
