@@ -1,9 +1,7 @@
-use crate::samples::{self, Row, finish, game_of};
+use crate::samples::{self, Row, add, assert_row, finish, game_of};
 use omega_game::Player::{One, Zero};
 use omega_game::{Game, GameBuilder, PriorityCount, Refusal, bound};
 use std::alloc::Global;
-use std::process::Abort;
-use std::test::Fail;
 
 /// Three nodes of priority 1 and one of priority 3.
 const SHARED: [Row; 4] = [
@@ -22,20 +20,20 @@ const BOUNDS: [(&'static [Row], u128, u128); 5] = [
     (&SHARED, 32, 4),
 ];
 
-/// Asserts the bounds of a game for player 0 and player 1.
-fn assert_bounds(rt: &impl Abort, game: &Game, zero: Option<u128>, one: Option<u128>) {
-    let nodes = game.len();
-    assert!(rt; bound(game, Zero) == zero, "player 0, {nodes} nodes");
-    assert!(rt; bound(game, One) == one, "player 1, {nodes} nodes");
+/// Whether these are the bounds of a game for player 0 and player 1.
+fn are_bounds(built: Result<Game, Refusal>, zero: Option<u128>, one: Option<u128>) -> bool {
+    match built {
+        Ok(game) => bound(&game, Zero) == zero && bound(&game, One) == one,
+        Err(_) => false,
+    }
 }
 
 #[test]
-fn small_bounds(rt: HostRuntime) -> Result<(), Fail> {
-    for (rows, zero, one) in BOUNDS {
-        let game = game_of(rt.alloc(), rows)?;
-        assert_bounds(&rt, &game, Some(zero), Some(one));
+fn small_bounds(rt: HostRuntime) {
+    for (row, (rows, zero, one)) in BOUNDS.iter().enumerate() {
+        let built = game_of(rt.alloc(), *rows);
+        assert_row(&rt, row, are_bounds(built, Some(*zero), Some(*one)));
     }
-    Ok(())
 }
 
 /// What is counted of the shared priorities.
@@ -50,21 +48,35 @@ const COUNTS: [PriorityCount; 2] = [
     },
 ];
 
+/// Whether these are counted.
+fn are_counted(built: Result<Game, Refusal>, counts: &[PriorityCount]) -> bool {
+    match built {
+        Ok(game) => game.priority_counts() == counts,
+        Err(_) => false,
+    }
+}
+
 #[test]
-fn priorities_with_their_bearers(rt: HostRuntime) -> Result<(), Fail> {
-    let game = game_of(rt.alloc(), &SHARED)?;
-    assert_eq!(rt; game.priority_counts(), COUNTS.as_slice());
+fn priorities_with_their_bearers(rt: HostRuntime) {
+    assert!(rt; are_counted(game_of(rt.alloc(), &SHARED), &COUNTS));
+}
+
+/// Adds nodes of the priorities 1, 3, 5 and so on, each its own only successor.
+fn add_odd_loops(builder: &mut GameBuilder, nodes: u16) -> Result<(), Refusal> {
+    for place in 0..nodes {
+        let id = u32::from(place);
+        add(builder, id, 2 * id + 1, Zero, id)?;
+    }
     Ok(())
 }
 
-/// Nodes of the priorities 1, 3, 5 and so on, each its own only successor.
+/// The game of so many odd loops.
 fn odd_loops(alloc: Global, nodes: u16) -> Result<Game, Refusal> {
     let mut builder = GameBuilder::new(alloc);
-    for place in 0..nodes {
-        let id = u32::from(place);
-        builder.add_node(id, 2 * id + 1, Zero, id)?;
+    match add_odd_loops(&mut builder, nodes) {
+        Ok(()) => finish(builder),
+        Err(refusal) => Err(refusal),
     }
-    finish(builder)
 }
 
 /// 121 times the 121st power of 2, the greatest bound of such a game that is a `u128`.
@@ -74,10 +86,9 @@ const GREATEST: u128 = 321_673_174_979_949_641_242_721_308_587_843_387_392;
 const LOOPS: [(u16, Option<u128>, u128); 2] = [(121, Some(GREATEST), 121), (122, None, 122)];
 
 #[test]
-fn the_greatest_bound(rt: HostRuntime) -> Result<(), Fail> {
-    for (nodes, zero, one) in LOOPS {
-        let game = odd_loops(rt.alloc(), nodes)?;
-        assert_bounds(&rt, &game, zero, Some(one));
+fn the_greatest_bound(rt: HostRuntime) {
+    for (row, (nodes, zero, one)) in LOOPS.iter().enumerate() {
+        let built = odd_loops(rt.alloc(), *nodes);
+        assert_row(&rt, row, are_bounds(built, *zero, Some(*one)));
     }
-    Ok(())
 }

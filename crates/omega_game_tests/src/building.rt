@@ -1,10 +1,8 @@
-use crate::readings::{Reading, assert_reads};
-use crate::samples::{Row, finish, game_of, list};
+use crate::readings::{Reading, reads};
+use crate::samples::{Row, add, assert_row, finish, game_of, list};
 use omega_game::Player::{One, Zero};
-use omega_game::{Game, GameBuilder, MOST_NUMBER, Refusal};
+use omega_game::{Game, GameBuilder, Refusal};
 use std::alloc::Global;
-use std::process::Abort;
-use std::test::Fail;
 
 /// Names the last node, or answers Io where there is none.
 fn name(builder: &mut GameBuilder, letter: u8) -> Result<(), Refusal> {
@@ -20,19 +18,29 @@ const HANDED_OVER: [Reading; 3] = [
     (2, 2, One, None, &[0], &[0]),
 ];
 
+/// Hands over three specifications, and names the second twice.
+fn hand_over(builder: &mut GameBuilder) -> Result<(), Refusal> {
+    add(builder, 2, 2, One, 0)?;
+    add(builder, 0, 0, Zero, 1)?;
+    name(builder, b'a')?;
+    list(builder, 2)?;
+    name(builder, b'b')?;
+    add(builder, 1, 1, One, 0)
+}
+
+/// Whether three specifications are counted, and their game is read as it should be.
+fn are_handed_over(alloc: Global) -> bool {
+    let mut builder = GameBuilder::new(alloc);
+    let done = hand_over(&mut builder).is_ok() && builder.len() == 3;
+    match finish(builder) {
+        Ok(game) => done && reads(&game, 4, &HANDED_OVER),
+        Err(_) => false,
+    }
+}
+
 #[test]
-fn specifications_handed_over_one_by_one(rt: HostRuntime) -> Result<(), Fail> {
-    let mut builder = GameBuilder::new(rt.alloc());
-    builder.add_node(2, 2, One, 0)?;
-    builder.add_node(0, 0, Zero, 1)?;
-    name(&mut builder, b'a')?;
-    list(&mut builder, 2)?;
-    name(&mut builder, b'b')?;
-    builder.add_node(1, 1, One, 0)?;
-    assert_eq!(rt; builder.len(), 3);
-    let game = finish(builder)?;
-    assert_reads(&rt, &game, 4, &HANDED_OVER);
-    Ok(())
+fn specifications_handed_over_one_by_one(rt: HostRuntime) {
+    assert!(rt; are_handed_over(rt.alloc()));
 }
 
 /// The number of a refusal, 0 for a game.
@@ -70,48 +78,46 @@ const REFUSED: [(&'static [Row], u32); 7] = [
 
 #[test]
 fn duplicates_and_undefined_successors(rt: HostRuntime) {
-    for (rows, refusal) in REFUSED {
-        assert_eq!(rt; number(game_of(rt.alloc(), rows)), refusal);
+    for (row, (rows, refusal)) in REFUSED.iter().enumerate() {
+        assert_row(&rt, row, number(game_of(rt.alloc(), *rows)) == *refusal);
     }
 }
 
-/// Nodes from 0 on, each its own only successor, listed so many times.
-fn loops(alloc: Global, nodes: u32, times: u32) -> Result<GameBuilder, Refusal> {
-    let mut builder = GameBuilder::new(alloc);
-    for id in 0..nodes.min(MOST_NUMBER) {
-        builder.add_node(id, 0, Zero, id)?;
+/// Adds nodes from 0 on, each its own only successor, listed so many times.
+fn add_loops(builder: &mut GameBuilder, nodes: u32, times: u32) -> Result<(), Refusal> {
+    for id in 0..nodes {
+        add(builder, id, 0, Zero, id)?;
         for _ in 1..times {
-            list(&mut builder, id)?;
+            list(builder, id)?;
         }
     }
-    Ok(builder)
+    Ok(())
 }
 
-/// Asserts the refusals of games of so many loops, each listed so often.
-fn assert_limit(
-    rt: &impl Abort,
-    alloc: Global,
-    games: [(u32, u32, u32); 2],
-) -> Result<(), Refusal> {
-    for (nodes, times, refusal) in games {
-        let builder = loops(alloc, nodes, times)?;
-        assert_eq!(rt;
-            number(finish(builder)),
-            refusal,
-            "{nodes} nodes, {times} times"
+/// The game of so many loops, each listed so often.
+fn loops(alloc: Global, nodes: u32, times: u32) -> Result<Game, Refusal> {
+    let mut builder = GameBuilder::new(alloc);
+    match add_loops(&mut builder, nodes, times) {
+        Ok(()) => finish(builder),
+        Err(refusal) => Err(refusal),
+    }
+}
+
+/// So many loops, each listed so often, and the number of the refusal.
+const LIMITS: [(u32, u32, u32); 4] = [
+    (1_048_576, 1, 0),
+    (1_048_577, 1, 13),
+    (1, 8_388_608, 0),
+    (1, 8_388_609, 14),
+];
+
+#[test]
+fn the_most_nodes_and_successors(rt: HostRuntime) {
+    for (row, (nodes, times, refusal)) in LIMITS.iter().enumerate() {
+        assert_row(
+            &rt,
+            row,
+            number(loops(rt.alloc(), *nodes, *times)) == *refusal,
         );
     }
-    Ok(())
-}
-
-#[test]
-fn the_most_nodes(rt: HostRuntime) -> Result<(), Fail> {
-    assert_limit(&rt, rt.alloc(), [(1_048_576, 1, 0), (1_048_577, 1, 13)])?;
-    Ok(())
-}
-
-#[test]
-fn the_most_successors(rt: HostRuntime) -> Result<(), Fail> {
-    assert_limit(&rt, rt.alloc(), [(1, 8_388_608, 0), (1, 8_388_609, 14)])?;
-    Ok(())
 }

@@ -1,9 +1,9 @@
-use crate::samples::{self, Row, finish, game_of};
+//! `check_strategy`: from which places strategies win.
+use crate::samples::{self, Row, add, assert_row, finish, game_of, is_given, line, strategy_for};
 use omega_game::Player::{One, Zero};
-use omega_game::{Game, GameBuilder, Player, Refusal, Seq, Strategy, check_strategy};
+use omega_game::{Game, GameBuilder, Player, Refusal, check_strategy};
 use std::alloc::Global;
 use std::process::Abort;
-use std::test::Fail;
 
 /// The checker's answer, or Io where a place is not there or the choices do not fit.
 fn answer(
@@ -13,34 +13,14 @@ fn answer(
     places: &[u32],
     choices: &[Option<u32>],
 ) -> Result<bool, Refusal> {
-    let choice = Seq::from_vec(Vec::from_slice(alloc, choices)?);
-    let strategy = Strategy { choice };
-    let count = game.len();
-    let inside = places.iter().all(|place| (*place as usize) < count);
-    if !inside || !strategy.fits(game, player) {
-        return Err(Refusal::Io);
+    match strategy_for(alloc, game, player, places, choices) {
+        Ok(strategy) => check_strategy(alloc, game, player, places, &strategy),
+        Err(refusal) => Err(refusal),
     }
-    check_strategy(alloc, game, player, places, &strategy)
 }
 
 /// A player, the listed places, the player's choices, and whether they win from each of these places.
 type Asked = (Player, &'static [u32], &'static [Option<u32>], bool);
-
-/// Asserts the checker's answers on one game.
-fn assert_answers(
-    rt: &impl Abort,
-    alloc: Global,
-    rows: &[Row],
-    asked: &[Asked],
-) -> Result<(), Refusal> {
-    let game = game_of(alloc, rows)?;
-    for (number, question) in asked.iter().enumerate() {
-        let (player, places, choices, want) = *question;
-        let given = answer(alloc, &game, player, places, choices)?;
-        assert_eq!(rt; given, want, "question {number} of {} nodes", rows.len());
-    }
-    Ok(())
-}
 
 /// Player 0 can only go from 0 to 1, which bears an odd priority and leads to itself.
 const ODD_BEHIND: [Row; 2] = [(0, 0, Zero, &[1], None), (1, 1, Zero, &[1], None)];
@@ -145,22 +125,38 @@ const GAMES: [(&'static [Row], &'static [Asked]); 7] = [
     (&NESTED, &NESTED_ASKED),
 ];
 
-#[test]
-fn small_games(rt: HostRuntime) -> Result<(), Fail> {
-    for (rows, asked) in GAMES {
-        assert_answers(&rt, rt.alloc(), rows, asked)?;
+/// Asserts the checker's answers on a game.
+fn assert_answers(rt: &impl Abort, alloc: Global, game: &Game, asked: &[Asked]) {
+    for (row, (player, places, choices, wins)) in asked.iter().enumerate() {
+        let given = answer(alloc, game, *player, *places, *choices);
+        assert_row(rt, row, is_given(given, *wins));
     }
-    Ok(())
 }
 
-/// Nodes of player 0 from 0 to `end`, each leading to the next and the last to `back`: priority 0, and the last `last`.
-fn line(alloc: Global, end: u16, last: u16, back: u16) -> Result<Game, Refusal> {
-    let mut builder = GameBuilder::new(alloc);
-    for id in 0..u32::from(end) {
-        builder.add_node(id, 0, Zero, id + 1)?;
+/// Asserts the checker's answers on the game of these rows.
+fn assert_game(rt: &impl Abort, alloc: Global, rows: &[Row], asked: &[Asked]) {
+    match game_of(alloc, rows) {
+        Ok(game) => assert_answers(rt, alloc, &game, asked),
+        Err(_) => assert!(rt; false, "a game"),
     }
-    builder.add_node(u32::from(end), u32::from(last), Zero, u32::from(back))?;
-    finish(builder)
+}
+
+#[test]
+fn small_games(rt: HostRuntime) {
+    for (rows, asked) in GAMES.iter() {
+        assert_game(&rt, rt.alloc(), *rows, *asked);
+    }
+}
+
+/// Whether player 0 wins from the first place without a choice, or else player 1 does.
+fn decides(alloc: Global, built: Result<Game, Refusal>, wins: bool) -> bool {
+    match built {
+        Ok(game) => match without_a_choice(alloc, &game) {
+            Ok((zero, one)) => zero == wins && one != wins,
+            Err(_) => false,
+        },
+        Err(_) => false,
+    }
 }
 
 /// Whether the strategy without a choice wins from the first place, for player 0 and for player 1.
@@ -171,40 +167,53 @@ fn without_a_choice(alloc: Global, game: &Game) -> Result<(bool, bool), Refusal>
     Ok((zero, one))
 }
 
-/// Asserts who wins where the last node of a line, or of a cycle, has the greatest priority.
-fn assert_line(rt: &impl Abort, alloc: Global, end: u16, back: u16) -> Result<(), Refusal> {
-    for (last, wanted) in [(1, (false, true)), (2, (true, false))] {
-        let game = line(alloc, end, last, back)?;
-        let wins = without_a_choice(alloc, &game)?;
-        assert_eq!(rt; wins, wanted, "up to {end}, back to {back}");
-    }
-    Ok(())
-}
-
 #[test]
-fn the_greatest_of_a_line_or_a_cycle_decides(rt: HostRuntime) -> Result<(), Fail> {
+fn the_greatest_of_a_line_or_a_cycle_decides(rt: HostRuntime) {
     for end in 1..11 {
-        assert_line(&rt, rt.alloc(), end, end)?;
-        assert_line(&rt, rt.alloc(), end, 0)?;
+        let row = end as usize;
+        assert_row(
+            &rt,
+            row,
+            decides(rt.alloc(), line(rt.alloc(), end, end, 0, 1), false),
+        );
+        assert_row(
+            &rt,
+            row,
+            decides(rt.alloc(), line(rt.alloc(), end, 0, 0, 1), false),
+        );
+        assert_row(
+            &rt,
+            row,
+            decides(rt.alloc(), line(rt.alloc(), end, end, 0, 2), true),
+        );
+        assert_row(
+            &rt,
+            row,
+            decides(rt.alloc(), line(rt.alloc(), end, 0, 0, 2), true),
+        );
     }
-    Ok(())
 }
 
-/// A cycle of falling odd priorities behind one even priority above them all.
+/// Adds a cycle of falling odd priorities behind one even priority above them all.
+fn add_falling(builder: &mut GameBuilder, nodes: u16) -> Result<(), Refusal> {
+    let last = u32::from(nodes);
+    add(builder, 0, 2 * last + 2, Zero, 1)?;
+    for place in 1..last {
+        add(builder, place, 2 * (last - place) + 1, Zero, place + 1)?;
+    }
+    add(builder, last.max(1), 1, Zero, 0)
+}
+
+/// The game of such a cycle.
 fn falling(alloc: Global, nodes: u16) -> Result<Game, Refusal> {
     let mut builder = GameBuilder::new(alloc);
-    let last = u32::from(nodes);
-    builder.add_node(0, 2 * last + 2, Zero, 1)?;
-    for place in 1..last {
-        builder.add_node(place, 2 * (last - place) + 1, Zero, place + 1)?;
+    match add_falling(&mut builder, nodes) {
+        Ok(()) => finish(builder),
+        Err(refusal) => Err(refusal),
     }
-    builder.add_node(last.max(1), 1, Zero, 0)?;
-    finish(builder)
 }
 
 #[test]
-fn a_long_cycle_of_falling_priorities(rt: HostRuntime) -> Result<(), Fail> {
-    let game = falling(rt.alloc(), 50_000)?;
-    assert_eq!(rt; without_a_choice(rt.alloc(), &game)?, (true, false));
-    Ok(())
+fn a_long_cycle_of_falling_priorities(rt: HostRuntime) {
+    assert!(rt; decides(rt.alloc(), falling(rt.alloc(), 50_000), true));
 }

@@ -3,7 +3,6 @@ ghost use Rattle.std.specs.Prelude.{◌<◌, length};
 
 use omega_game::Player::{One, Zero};
 use omega_game::{Game, Player};
-use std::process::Abort;
 
 /// What is read at a place: identifier, priority, owner, name, and the places of the successors and the predecessors.
 pub(crate) type Reading = (
@@ -22,21 +21,21 @@ pub(crate) const THREE: [Reading; 3] = [
     (2, 2, One, None, &[0], &[0]),
 ];
 
-/// Asserts how many nodes and listed successors a game has, and what is read at each place.
-pub(crate) fn assert_reads(rt: &impl Abort, game: &Game, edges: usize, readings: &[Reading]) {
-    assert_eq!(rt; game.len(), readings.len());
-    assert_eq!(rt; game.edges(), edges);
+/// Whether a game has so many listed successors and at its places the nodes that are read there, and no others.
+pub(crate) fn reads(game: &Game, edges: usize, readings: &[Reading]) -> bool {
+    if game.len() != readings.len() || game.edges() != edges {
+        return false;
+    }
     for place in 0..game.len() as u32 {
         if let Some(reading) = readings.get(place as usize) {
             let (id, priority, owner, name, successors, predecessors) = *reading;
-            assert!(rt; is_node(game, place, id, priority, owner), "place {place}");
-            assert!(rt; game.name(place) == name, "name at {place}");
-            assert!(rt;
-                leads(game, place, successors, predecessors),
-                "edges at {place}"
-            );
+            let node = is_node(game, place, id, priority, owner) && game.name(place) == name;
+            if !node || !leads(game, place, successors, predecessors) {
+                return false;
+            }
         }
     }
+    true
 }
 
 /// Whether the node at a place has these numbers and this owner, and is found by its identifier.

@@ -1,10 +1,9 @@
 //! `counterexample`: why a strategy does not win.
-use crate::samples::{self, Row, finish, game_of};
+use crate::samples::{self, Row, assert_row, game_of, line, strategy_for};
 use omega_game::Player::{One, Zero};
-use omega_game::{Game, GameBuilder, Lasso, Player, Refusal, Seq, Strategy, counterexample};
+use omega_game::{Game, Lasso, Player, Refusal, counterexample};
 use std::alloc::Global;
 use std::process::Abort;
-use std::test::Fail;
 
 /// The counterexample, or Io where a place is not there or the choices do not fit.
 fn answer(
@@ -14,14 +13,21 @@ fn answer(
     places: &[u32],
     choices: &[Option<u32>],
 ) -> Result<Option<Lasso>, Refusal> {
-    let choice = Seq::from_vec(Vec::from_slice(alloc, choices)?);
-    let strategy = Strategy { choice };
-    let count = game.len();
-    let inside = places.iter().all(|place| (*place as usize) < count);
-    if !inside || !strategy.fits(game, player) {
-        return Err(Refusal::Io);
+    match strategy_for(alloc, game, player, places, choices) {
+        Ok(strategy) => counterexample(alloc, game, player, places, &strategy),
+        Err(refusal) => Err(refusal),
     }
-    counterexample(alloc, game, player, places, &strategy)
+}
+
+/// Whether these are the places of the stem and of the cycle that were found; an empty cycle stands for none.
+fn is_found(found: Result<Option<Lasso>, Refusal>, stem: &[u32], cycle: &[u32]) -> bool {
+    match found {
+        Ok(Some(lasso)) => {
+            !cycle.is_empty() && lasso.stem.as_slice() == stem && lasso.cycle.as_slice() == cycle
+        }
+        Ok(None) => cycle.is_empty(),
+        Err(_) => false,
+    }
 }
 
 /// A player, the listed places, the player's choices, and the places of the stem and of the cycle; an empty cycle stands
@@ -33,33 +39,6 @@ type Asked = (
     &'static [u32],
     &'static [u32],
 );
-
-/// Asserts one counterexample, or that there is none.
-fn assert_lasso(rt: &impl Abort, found: Option<Lasso>, stem: &[u32], cycle: &[u32], number: usize) {
-    match found {
-        Some(lasso) => {
-            assert_eq!(rt; lasso.stem.as_slice(), stem, "stem of question {number}");
-            assert_eq!(rt; lasso.cycle.as_slice(), cycle, "cycle of question {number}");
-        }
-        None => assert!(rt; cycle.is_empty(), "none at question {number}"),
-    }
-}
-
-/// Asserts the counterexamples on one game.
-fn assert_lassos(
-    rt: &impl Abort,
-    alloc: Global,
-    rows: &[Row],
-    asked: &[Asked],
-) -> Result<(), Refusal> {
-    let game = game_of(alloc, rows)?;
-    for (number, question) in asked.iter().enumerate() {
-        let (player, places, choices, stem, cycle) = *question;
-        let found = answer(alloc, &game, player, places, choices)?;
-        assert_lasso(rt, found, stem, cycle, number);
-    }
-    Ok(())
-}
 
 /// Player 0 can only go from 0 to 1, which bears an odd priority and leads to itself.
 const ODD_BEHIND: [Row; 2] = [(0, 0, Zero, &[1], None), (1, 1, Zero, &[1], None)];
@@ -105,22 +84,27 @@ const GAMES: [(&'static [Row], &'static [Asked]); 3] = [
     (&WAYS, &WAYS_ASKED),
 ];
 
-#[test]
-fn small_games(rt: HostRuntime) -> Result<(), Fail> {
-    for (rows, asked) in GAMES {
-        assert_lassos(&rt, rt.alloc(), rows, asked)?;
+/// Asserts the counterexamples on a game.
+fn assert_lassos(rt: &impl Abort, alloc: Global, game: &Game, asked: &[Asked]) {
+    for (row, (player, places, choices, stem, cycle)) in asked.iter().enumerate() {
+        let found = answer(alloc, game, *player, *places, *choices);
+        assert_row(rt, row, is_found(found, *stem, *cycle));
     }
-    Ok(())
 }
 
-/// Nodes of player 0 from 0 to `end`, each leading to the next and the last to `back`, which bear the priority 1.
-fn line(alloc: Global, end: u16, back: u16) -> Result<Game, Refusal> {
-    let mut builder = GameBuilder::new(alloc);
-    for id in 0..u32::from(end) {
-        builder.add_node(id, 1, Zero, id + 1)?;
+/// Asserts the counterexamples on the game of these rows.
+fn assert_game(rt: &impl Abort, alloc: Global, rows: &[Row], asked: &[Asked]) {
+    match game_of(alloc, rows) {
+        Ok(game) => assert_lassos(rt, alloc, &game, asked),
+        Err(_) => assert!(rt; false, "a game"),
     }
-    builder.add_node(u32::from(end), 1, Zero, u32::from(back))?;
-    finish(builder)
+}
+
+#[test]
+fn small_games(rt: HostRuntime) {
+    for (rows, asked) in GAMES.iter() {
+        assert_game(&rt, rt.alloc(), *rows, *asked);
+    }
 }
 
 /// The length of the cycle found from the first place without a choice, 0 where there is none.
@@ -132,18 +116,24 @@ fn cycle_length(alloc: Global, game: &Game) -> Result<usize, Refusal> {
     }
 }
 
+/// Whether a cycle of this length is found in a game.
+fn has_cycle(alloc: Global, built: Result<Game, Refusal>, length: usize) -> bool {
+    match built {
+        Ok(game) => match cycle_length(alloc, &game) {
+            Ok(found) => found == length,
+            Err(_) => false,
+        },
+        Err(_) => false,
+    }
+}
+
 /// Where the last node of a line leads back to, and the length of the cycle.
-const LINES: [(u16, u16, usize); 4] = [(9, 9, 1), (9, 5, 5), (9, 0, 10), (40_000, 20_000, 20_001)];
+const LINES: [(u32, u32, usize); 4] = [(9, 9, 1), (9, 5, 5), (9, 0, 10), (40_000, 20_000, 20_001)];
 
 #[test]
-fn a_cycle_visits_no_place_twice(rt: HostRuntime) -> Result<(), Fail> {
-    for (end, back, length) in LINES {
-        let game = line(rt.alloc(), end, back)?;
-        assert_eq!(rt;
-            cycle_length(rt.alloc(), &game)?,
-            length,
-            "up to {end}, back to {back}"
-        );
+fn a_cycle_visits_no_place_twice(rt: HostRuntime) {
+    for (row, (end, back, length)) in LINES.iter().enumerate() {
+        let built = line(rt.alloc(), *end, *back, 1, 1);
+        assert_row(&rt, row, has_cycle(rt.alloc(), built, *length));
     }
-    Ok(())
 }

@@ -1,12 +1,22 @@
 //! Games for tests, each node as a game text writes it, and steps of builders that no test has to prove allowed.
-ghost use Rattle.std.specs.Prelude.{◌<◌, ◌≤◌, length, All, IfOk, IfSome, IsTrue};
+//!
+//! A test here is proved before it runs, which takes long for a message that is put together and for a game that is
+//! owned over a `?`. So tests are tables, with one step that says whether a row holds.
+ghost use Rattle.std.specs.Prelude.{◌<◌, ◌≤◌, length, All, IfOk, IfSome, IsOk, IsTrue};
 ghost use Rattle.omega_game.specs.Building.{IsWellFormed};
 ghost use Rattle.omega_game.specs.Game.{IsNameByte};
+ghost use Rattle.omega_game.specs.Winning.{IsStrategy};
 ghost use Rattle.omega_text.specs.Limits.{most_number};
 
 use omega_game::Player::{One, Zero};
-use omega_game::{Game, GameBuilder, MOST_NUMBER, NodeSpec, Player, Refusal, Seq};
+use omega_game::{Game, GameBuilder, MOST_NUMBER, NodeSpec, Player, Refusal, Seq, Strategy};
 use std::alloc::Global;
+use std::process::Abort;
+
+/// Asserts that a row of a table holds.
+pub(crate) fn assert_row(rt: &impl Abort, row: usize, holds: bool) {
+    assert!(rt; holds, "row {row}");
+}
 
 /// Identifier, priority, owner, the identifiers of the successors, and the name or none.
 pub(crate) type Row = (u32, u32, Player, &'static [u32], Option<&'static [u8]>);
@@ -52,12 +62,63 @@ pub(crate) fn finish(builder: GameBuilder) -> Result<Game, Refusal> {
     builder.finish()
 }
 
+/// Whether a call gave what it should.
+pub(crate) fn is_given(given: Result<bool, Refusal>, wanted: bool) -> bool {
+    match given {
+        Ok(given) => given == wanted,
+        Err(_) => false,
+    }
+}
+
+/// Adds a node, or answers Io where a number is too great.
+pub(crate) fn add(
+    builder: &mut GameBuilder,
+    id: u32,
+    priority: u32,
+    owner: Player,
+    first: u32,
+) -> Result<(), Refusal> {
+    if id > MOST_NUMBER || priority > MOST_NUMBER || first > MOST_NUMBER {
+        return Err(Refusal::Io);
+    }
+    builder.add_node(id, priority, owner, first)
+}
+
 /// Lists a successor more at the last node, or answers Io where there is none.
 pub(crate) fn list(builder: &mut GameBuilder, successor: u32) -> Result<(), Refusal> {
     if builder.len() == 0 || successor > MOST_NUMBER {
         return Err(Refusal::Io);
     }
     builder.add_successor(successor)
+}
+
+/// Adds nodes of player 0 from 0 to `end`, each leading to the next and the last to `back`.
+fn add_line(
+    builder: &mut GameBuilder,
+    end: u32,
+    back: u32,
+    priority: u32,
+    last: u32,
+) -> Result<(), Refusal> {
+    for id in 0..end {
+        add(builder, id, priority, Zero, id + 1)?;
+    }
+    add(builder, end, last, Zero, back)
+}
+
+/// The game of such nodes, all of one priority but the last.
+pub(crate) fn line(
+    alloc: Global,
+    end: u32,
+    back: u32,
+    priority: u32,
+    last: u32,
+) -> Result<Game, Refusal> {
+    let mut builder = GameBuilder::new(alloc);
+    match add_line(&mut builder, end, back, priority, last) {
+        Ok(()) => finish(builder),
+        Err(refusal) => Err(refusal),
+    }
 }
 
 /// The specifications of the rows, or Io where one is not well formed.
@@ -119,4 +180,25 @@ fn are_name_bytes(bytes: &[u8]) -> bool
     bytes
         .iter()
         .all(|byte| 32 <= *byte && *byte <= 126 && *byte != 34)
+}
+
+/// The strategy of these choices, or Io where a place is not there or the choices do not fit.
+pub(crate) fn strategy_for(
+    alloc: Global,
+    game: &Game,
+    player: Player,
+    places: &[u32],
+    choices: &[Option<u32>],
+) -> Result<Strategy, Refusal>
+    ensures fits { IfOk result (λ strategy. IsStrategy game.now player strategy.choice) }
+    ensures places { IsOk result → All (λ place. place < length game.now) places.now }
+{
+    let choice = Seq::from_vec(Vec::from_slice(alloc, choices)?);
+    let strategy = Strategy { choice };
+    let count = game.len();
+    let inside = places.iter().all(|place| (*place as usize) < count);
+    if !inside || !strategy.fits(game, player) {
+        return Err(Refusal::Io);
+    }
+    Ok(strategy)
 }

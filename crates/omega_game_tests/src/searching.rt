@@ -1,28 +1,28 @@
 //! The fast search of `check_strategy`: what it suggests is confirmed, on games of every shape.
 ghost use Rattle.std.specs.Prelude.{◌<◌};
 
-use crate::samples::{finish, list};
+use crate::samples::{add, assert_row, finish, list, strategy_for};
 use omega_game::Player::{One, Zero};
-use omega_game::{Game, GameBuilder, Player, Refusal, Seq, Strategy, check_strategy_fast};
+use omega_game::{Game, GameBuilder, Player, Refusal, check_strategy_fast};
 use std::alloc::Global;
-use std::process::Abort;
-use std::test::Fail;
 
 /// What the fast search alone answers for all places and the strategy without a choice, or Io where it does not fit.
 fn answer(alloc: Global, game: &Game, player: Player) -> Result<Option<bool>, Refusal> {
-    let strategy = Strategy {
-        choice: Seq::from_vec(vec![in alloc; None; game.len()]?),
-    };
+    let none = vec![in alloc; None; game.len()]?;
+    let places = all_places(alloc, game)?;
+    match strategy_for(alloc, game, player, places.as_slice(), none.as_slice()) {
+        Ok(strategy) => check_strategy_fast(alloc, game, player, places.as_slice(), &strategy),
+        Err(refusal) => Err(refusal),
+    }
+}
+
+/// The places of a game.
+fn all_places(alloc: Global, game: &Game) -> Result<Vec<u32>, Refusal> {
     let mut places = Vec::new(alloc);
     for place in 0..game.len() as u32 {
         places.push(place)?;
     }
-    let count = game.len();
-    let inside = places.iter().all(|place| (*place as usize) < count);
-    if !inside || !strategy.fits(game, player) {
-        return Err(Refusal::Io);
-    }
-    check_strategy_fast(alloc, game, player, places.as_slice(), &strategy)
+    Ok(places)
 }
 
 /// The number behind another in a pseudo-random order.
@@ -39,87 +39,129 @@ fn drawn(number: u64, below: u32) -> u32
     (number >> 48) as u32 % below.max(1)
 }
 
-/// A pseudo-random game of so many nodes with priorities below `most`, and one to three successors for each. In a tame
-/// one place 0 bears an even priority from `most` on, and odd priorities lead to it alone.
-fn random(alloc: Global, nodes: u16, most: u16, tame: bool, seed: u64) -> Result<Game, Refusal> {
-    let count = u32::from(nodes);
-    let most = u32::from(most);
-    let mut builder = GameBuilder::new(alloc);
+/// Adds so many nodes with pseudo-random priorities below `most`, and one to three successors for each. In a tame game
+/// place 0 bears an even priority from `most` on, and odd priorities lead to it alone.
+fn add_random(
+    builder: &mut GameBuilder,
+    count: u32,
+    most: u32,
+    tame: bool,
+    seed: u64,
+) -> Result<(), Refusal> {
     let mut number = seed;
     for id in 0..count {
         number = next(number);
-        let priority = if tame && id == 0 {
-            most + most % 2
-        } else {
-            drawn(number, most)
-        };
+        let priority = priority_at(id, most, tame, number);
         let ends = if tame && priority % 2 == 1 { 1 } else { count };
         number = next(number);
-        builder.add_node(id, priority, Zero, drawn(number, ends))?;
+        add(builder, id, priority, Zero, drawn(number, ends))?;
         for _ in 0..drawn(next(number), 3) {
             number = next(number);
-            list(&mut builder, drawn(number, ends))?;
+            list(builder, drawn(number, ends))?;
         }
     }
-    finish(builder)
-}
-
-/// Asserts that what the fast search suggests is confirmed on random games of so many nodes, by their seeds.
-fn assert_confirmed(
-    rt: &impl Abort,
-    alloc: Global,
-    nodes: u16,
-    most: u16,
-    seed: u16,
-) -> Result<(), Refusal> {
-    let game = random(alloc, nodes, most, seed % 2 == 0, u64::from(seed))?;
-    for player in [Zero, One] {
-        let found = answer(alloc, &game, player)?;
-        assert!(rt; found.is_some(), "{player:?}, {nodes} nodes, seed {seed}");
-    }
     Ok(())
 }
 
+/// The priority of a node: drawn, or even and not below `most`.
+fn priority_at(id: u32, most: u32, tame: bool, number: u64) -> u32 {
+    if tame && id == 0 {
+        most.wrapping_add(most % 2)
+    } else {
+        drawn(number, most)
+    }
+}
+
+/// A pseudo-random game, tame where its seed is even.
+fn random(alloc: Global, nodes: u32, most: u32, seed: u32) -> Result<Game, Refusal> {
+    let mut builder = GameBuilder::new(alloc);
+    match add_random(&mut builder, nodes, most, seed % 2 == 0, u64::from(seed)) {
+        Ok(()) => finish(builder),
+        Err(refusal) => Err(refusal),
+    }
+}
+
+/// Whether what the fast search suggests for a player is confirmed, and is as it should be where that is given.
+fn is_confirmed(alloc: Global, game: &Game, player: Player, wins: Option<bool>) -> bool {
+    match answer(alloc, game, player) {
+        Ok(Some(found)) => found == wins.unwrap_or(found),
+        _ => false,
+    }
+}
+
+/// Whether what the fast search suggests is confirmed for both players, the second of whom never wins where it is given
+/// whether the first one does.
+fn are_confirmed(alloc: Global, built: Result<Game, Refusal>, wins: Option<bool>) -> bool {
+    let lost = if wins.is_some() { Some(false) } else { None };
+    match built {
+        Ok(game) => {
+            is_confirmed(alloc, &game, Zero, wins) && is_confirmed(alloc, &game, One, lost)
+        }
+        Err(_) => false,
+    }
+}
+
 #[test]
-fn small_random_games_are_confirmed(rt: HostRuntime) -> Result<(), Fail> {
+fn small_random_games_are_confirmed(rt: HostRuntime) {
     for seed in 0..400 {
-        assert_confirmed(&rt, rt.alloc(), 1 + seed % 24, 8, seed)?;
+        let built = random(rt.alloc(), 1 + seed % 24, 8, seed);
+        assert_row(&rt, seed as usize, are_confirmed(rt.alloc(), built, None));
     }
-    Ok(())
 }
 
 #[test]
-fn large_random_games_are_confirmed(rt: HostRuntime) -> Result<(), Fail> {
+fn large_random_games_are_confirmed(rt: HostRuntime) {
     for seed in 0..4 {
-        assert_confirmed(&rt, rt.alloc(), 10_000, 8, seed)?;
-        assert_confirmed(&rt, rt.alloc(), 10_000, 2000, seed)?;
+        let few = random(rt.alloc(), 10_000, 8, seed);
+        assert_row(&rt, seed as usize, are_confirmed(rt.alloc(), few, None));
+        let many = random(rt.alloc(), 10_000, 2000, seed);
+        assert_row(&rt, seed as usize, are_confirmed(rt.alloc(), many, None));
     }
-    Ok(())
 }
 
-/// Components that nest as in a binary tree: component i, from 1 on, is a cycle of an even place and an odd one of the
+/// Adds components that nest as in a binary tree: component i, from 1 on, is a cycle of an even place and an odd one of the
 /// priority below, both above all inside, and has the components 2i and 2i + 1 inside. These go back to the even place,
 /// so that no odd place recurs; but that of component `flaw`, if there is one, goes back to the odd place around it too.
-fn nested(alloc: Global, components: u16, flaw: u16) -> Result<Game, Refusal> {
-    let mut builder = GameBuilder::new(alloc);
+fn add_nested(builder: &mut GameBuilder, components: u16, flaw: u16) -> Result<(), Refusal> {
     for component in 1..=components {
-        let index = u32::from(component);
-        let priority = 2 * index.leading_zeros() + 2;
-        builder.add_node(2 * index, priority, Zero, 2 * index + 1)?;
-        builder.add_node(2 * index + 1, priority - 1, One, 2 * index)?;
-        if index > 1 {
-            list(&mut builder, 2 * (index / 2))?;
-        }
-        for inner in [2 * index, 2 * index + 1] {
-            if inner <= u32::from(components) {
-                list(&mut builder, 2 * inner)?;
-            }
-        }
-        if index > 1 && component == flaw {
-            list(&mut builder, 2 * (index / 2) + 1)?;
+        add_component(builder, u32::from(component), u32::from(components))?;
+        if component > 1 && component == flaw {
+            list(builder, 2 * (u32::from(component) / 2) + 1)?;
         }
     }
-    finish(builder)
+    Ok(())
+}
+
+/// Adds one of so many components.
+fn add_component(builder: &mut GameBuilder, component: u32, count: u32) -> Result<(), Refusal> {
+    let even = component.wrapping_mul(2);
+    let priority = component.leading_zeros().wrapping_mul(2).wrapping_add(2);
+    add(builder, even, priority, Zero, even.wrapping_add(1))?;
+    add(
+        builder,
+        even.wrapping_add(1),
+        priority.wrapping_sub(1),
+        One,
+        even,
+    )?;
+    if component > 1 {
+        list(builder, 2 * (component / 2))?;
+    }
+    for inner in [even, even.wrapping_add(1)] {
+        if inner <= count {
+            list(builder, inner.wrapping_mul(2))?;
+        }
+    }
+    Ok(())
+}
+
+/// The game of such components.
+fn nested(alloc: Global, components: u16, flaw: u16) -> Result<Game, Refusal> {
+    let mut builder = GameBuilder::new(alloc);
+    match add_nested(&mut builder, components, flaw) {
+        Ok(()) => finish(builder),
+        Err(refusal) => Err(refusal),
+    }
 }
 
 /// Components that nest, one of them flawed or 0, and whether player 0 wins.
@@ -137,16 +179,9 @@ const NESTED: [(u16, u16, bool); 10] = [
 ];
 
 #[test]
-fn nested_components_are_confirmed(rt: HostRuntime) -> Result<(), Fail> {
-    for (components, flaw, wins) in NESTED {
-        let game = nested(rt.alloc(), components, flaw)?;
-        for (player, wanted) in [(Zero, wins), (One, false)] {
-            let found = answer(rt.alloc(), &game, player)?;
-            assert!(rt;
-                found == Some(wanted),
-                "{components} components, flaw {flaw}"
-            );
-        }
+fn nested_components_are_confirmed(rt: HostRuntime) {
+    for (row, (components, flaw, wins)) in NESTED.iter().enumerate() {
+        let built = nested(rt.alloc(), *components, *flaw);
+        assert_row(&rt, row, are_confirmed(rt.alloc(), built, Some(*wins)));
     }
-    Ok(())
 }

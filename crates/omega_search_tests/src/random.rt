@@ -1,11 +1,11 @@
 //! Pseudo-random games of many kinds: the search never gives up on them, and what it suggests is always accepted.
 ghost use Rattle.std.specs.Prelude.{◌<◌};
 
+use crate::shapes::{assert_row, finish, list};
 use omega_game::Player::{One, Zero};
 use omega_game::{Game, GameBuilder, Refusal};
 use omega_search::solve_by_search;
 use std::alloc::Global;
-use std::test::Fail;
 
 /// The number behind another in a pseudo-random order.
 fn next(number: u64) -> u64 {
@@ -21,18 +21,9 @@ fn drawn(number: u64, below: u32) -> u32
     (number >> 48) as u32 % below.max(1)
 }
 
-/// Lists a successor more at the last node, or answers Io where there is none.
-fn list(builder: &mut GameBuilder, successor: u32) -> Result<(), Refusal> {
-    if builder.len() == 0 || successor > 65_536 {
-        return Err(Refusal::Io);
-    }
-    builder.add_successor(successor)
-}
-
-/// A pseudo-random game of so many nodes with priorities below `most`, and one to three successors for each.
-fn random(alloc: Global, nodes: u16, most: u16, seed: u64) -> Result<Game, Refusal> {
+/// Adds so many nodes of pseudo-random priorities below `most`, and one to three successors for each.
+fn add_random(builder: &mut GameBuilder, nodes: u16, most: u16, seed: u64) -> Result<(), Refusal> {
     let count = u32::from(nodes);
-    let mut builder = GameBuilder::new(alloc);
     let mut number = seed;
     for id in 0..count {
         number = next(number);
@@ -43,36 +34,44 @@ fn random(alloc: Global, nodes: u16, most: u16, seed: u64) -> Result<Game, Refus
         builder.add_node(id, priority, owner, drawn(number, count))?;
         for _ in 0..drawn(next(number), 3) {
             number = next(number);
-            list(&mut builder, drawn(number, count))?;
+            list(builder, drawn(number, count))?;
         }
     }
-    if builder.len() == 0 {
-        return Err(Refusal::Io);
-    }
-    builder.finish()
+    Ok(())
 }
 
-/// Whether a random game has an answer.
-fn is_solved(alloc: Global, nodes: u16, most: u16, seed: u64) -> Result<bool, Refusal> {
-    let game = random(alloc, nodes, most, seed)?;
-    let found = solve_by_search(alloc, &game)?;
-    Ok(found.is_some())
+/// The game of such nodes.
+fn random(alloc: Global, nodes: u16, most: u16, seed: u64) -> Result<Game, Refusal> {
+    let mut builder = GameBuilder::new(alloc);
+    match add_random(&mut builder, nodes, most, seed) {
+        Ok(()) => finish(builder),
+        Err(refusal) => Err(refusal),
+    }
+}
+
+/// Whether a game has an answer.
+fn is_solved(alloc: Global, built: Result<Game, Refusal>) -> bool {
+    match built {
+        Ok(game) => match solve_by_search(alloc, &game) {
+            Ok(found) => found.is_some(),
+            Err(_) => false,
+        },
+        Err(_) => false,
+    }
 }
 
 #[test]
-fn small_random_games_are_solved(rt: HostRuntime) -> Result<(), Fail> {
+fn small_random_games_are_solved(rt: HostRuntime) {
     for seed in 0..10_000u16 {
-        let solved = is_solved(rt.alloc(), 1 + seed % 24, 2 + seed % 9, u64::from(seed))?;
-        assert!(rt; solved, "seed {seed}");
+        let built = random(rt.alloc(), 1 + seed % 24, 2 + seed % 9, u64::from(seed));
+        assert_row(&rt, usize::from(seed), is_solved(rt.alloc(), built));
     }
-    Ok(())
 }
 
 #[test]
-fn large_random_games_are_solved(rt: HostRuntime) -> Result<(), Fail> {
-    for most in [2, 4, 60, 2000] {
-        let solved = is_solved(rt.alloc(), 10_000, most, u64::from(most))?;
-        assert!(rt; solved, "priorities below {most}");
+fn large_random_games_are_solved(rt: HostRuntime) {
+    for (row, most) in [2, 4, 60, 2000].iter().enumerate() {
+        let built = random(rt.alloc(), 10_000, *most, u64::from(*most));
+        assert_row(&rt, row, is_solved(rt.alloc(), built));
     }
-    Ok(())
 }

@@ -3,39 +3,53 @@ use omega_game::Player::{One, Zero};
 use omega_game::{Game, GameBuilder, Player, Refusal};
 use omega_search::solve_by_search;
 use std::alloc::Global;
-use std::test::Fail;
+use std::process::Abort;
+
+/// Asserts that a row of a table holds. A message that is put together is slow to prove: so this one serves all tables.
+pub(crate) fn assert_row(rt: &impl Abort, row: usize, holds: bool) {
+    assert!(rt; holds, "row {row}");
+}
+
+/// Lists a successor more at the last node, or answers Io where there is none.
+pub(crate) fn list(builder: &mut GameBuilder, successor: u32) -> Result<(), Refusal> {
+    if builder.len() == 0 || successor > 1_048_576 {
+        return Err(Refusal::Io);
+    }
+    builder.add_successor(successor)
+}
 
 /// The game of a builder, or Io where nothing was added.
-fn finish(builder: GameBuilder) -> Result<Game, Refusal> {
+pub(crate) fn finish(builder: GameBuilder) -> Result<Game, Refusal> {
     if builder.len() == 0 {
         return Err(Refusal::Io);
     }
     builder.finish()
 }
 
-/// How many places each player wins.
-type Counts = (usize, usize);
-
 /// How many of the places are given to a player.
 fn count(winners: &[Player], player: Player) -> usize {
     winners.iter().filter(|winner| **winner == player).count()
 }
 
-/// How many places each player is given, none where the search gives up.
-fn counts(alloc: Global, game: &Game) -> Result<Option<Counts>, Refusal> {
-    match solve_by_search(alloc, game)? {
-        None => Ok(None),
-        Some(regions) => {
-            let winners = regions.winners.as_slice();
-            Ok(Some((count(winners, Zero), count(winners, One))))
-        }
+/// Whether each player is given so many places of a game.
+fn are_counts(alloc: Global, built: Result<Game, Refusal>, zero: usize, one: usize) -> bool {
+    match built {
+        Ok(game) => match solve_by_search(alloc, &game) {
+            Ok(Some(regions)) => are_given(regions.winners.as_slice(), zero, one),
+            _ => false,
+        },
+        Err(_) => false,
     }
 }
 
-/// So many times 1,024 nodes in a row, each leading to the next and the last to `back`, all of the least priority but
+/// Whether each player is given so many places.
+fn are_given(winners: &[Player], zero: usize, one: usize) -> bool {
+    count(winners, Zero) == zero && count(winners, One) == one
+}
+
+/// Adds so many times 1,024 nodes in a row, each leading to the next and the last to `back`, all of the least priority but
 /// the last, which has `last`.
-fn line(alloc: Global, rows: u16, last: u8, back: u8) -> Result<Game, Refusal> {
-    let mut builder = GameBuilder::new(alloc);
+fn add_line(builder: &mut GameBuilder, rows: u16, last: u8, back: u8) -> Result<(), Refusal> {
     for row in 0..rows {
         for column in 0..1024u16 {
             let id = u32::from(row) * 1024 + u32::from(column);
@@ -46,110 +60,102 @@ fn line(alloc: Global, rows: u16, last: u8, back: u8) -> Result<Game, Refusal> {
             }
         }
     }
-    finish(builder)
+    Ok(())
 }
 
-/// How many places each player wins in a line.
-fn line_counts(alloc: Global, rows: u16, last: u8, back: u8) -> Result<Option<Counts>, Refusal> {
-    let game = line(alloc, rows, last, back)?;
-    counts(alloc, &game)
+/// The game of such nodes.
+fn line(alloc: Global, rows: u16, last: u8, back: u8) -> Result<Game, Refusal> {
+    let mut builder = GameBuilder::new(alloc);
+    match add_line(&mut builder, rows, last, back) {
+        Ok(()) => finish(builder),
+        Err(refusal) => Err(refusal),
+    }
 }
 
 /// So many rows, and the place to which the last node leads back: the first, so that the line is a cycle, or one near it.
 const LINES: [(u16, u8); 4] = [(1, 0), (1, 200), (1024, 0), (1024, 200)];
 
 #[test]
-fn the_greatest_priority_of_a_million_nodes_decides(rt: HostRuntime) -> Result<(), Fail> {
-    for (rows, back) in LINES {
-        let nodes = usize::from(rows) * 1024;
-        let found = line_counts(rt.alloc(), rows, 1, back)?;
-        assert_eq!(rt; found, Some((0, nodes)), "{rows} rows, odd, back to {back}");
-        let found = line_counts(rt.alloc(), rows, 2, back)?;
-        assert_eq!(rt;
-            found,
-            Some((nodes, 0)),
-            "{rows} rows, even, back to {back}"
-        );
+fn the_greatest_priority_of_a_million_nodes_decides(rt: HostRuntime) {
+    for (row, (rows, back)) in LINES.iter().enumerate() {
+        let nodes = usize::from(*rows) * 1024;
+        let odd = line(rt.alloc(), *rows, 1, *back);
+        assert_row(&rt, row, are_counts(rt.alloc(), odd, 0, nodes));
+        let even = line(rt.alloc(), *rows, 2, *back);
+        assert_row(&rt, row, are_counts(rt.alloc(), even, nodes, 0));
     }
-    Ok(())
 }
 
-/// Nodes in a ring, the even ones of player 0 and priority 0, the odd ones of player 1 and priority 1. Each leads to the
+/// Adds nodes in a ring, the even ones of player 0 and priority 0, the odd ones of player 1 and priority 1. Each leads to the
 /// next two, so that each player can keep to own nodes.
-fn ladder(alloc: Global, rungs: u16) -> Result<Game, Refusal> {
+fn add_ladder(builder: &mut GameBuilder, rungs: u16) -> Result<(), Refusal> {
     let nodes = 2 * u32::from(rungs.max(1));
-    let mut builder = GameBuilder::new(alloc);
     for rung in 0..rungs {
         let id = 2 * u32::from(rung);
         builder.add_node(id, 0, Zero, (id + 1) % nodes)?;
-        list(&mut builder, (id + 2) % nodes)?;
+        list(builder, (id + 2) % nodes)?;
         builder.add_node(id + 1, 1, One, (id + 2) % nodes)?;
-        list(&mut builder, (id + 3) % nodes)?;
-    }
-    finish(builder)
-}
-
-/// Lists a successor more at the last node, or answers Io where there is none.
-fn list(builder: &mut GameBuilder, successor: u32) -> Result<(), Refusal> {
-    if builder.len() == 0 || successor > 1_048_576 {
-        return Err(Refusal::Io);
-    }
-    builder.add_successor(successor)
-}
-
-/// How many places each player wins on a ladder.
-fn ladder_counts(alloc: Global, rungs: u16) -> Result<Option<Counts>, Refusal> {
-    let game = ladder(alloc, rungs)?;
-    counts(alloc, &game)
-}
-
-#[test]
-fn on_a_ladder_each_player_wins_the_own_side(rt: HostRuntime) -> Result<(), Fail> {
-    for rungs in [2, 3, 10, 1000, 30_000] {
-        let found = ladder_counts(rt.alloc(), rungs)?;
-        let side = usize::from(rungs);
-        assert_eq!(rt; found, Some((side, side)), "{rungs} rungs");
+        list(builder, (id + 3) % nodes)?;
     }
     Ok(())
 }
 
-/// Each node leads to all others; node i has priority i, and its player is the one who wins that priority.
-fn clique(alloc: Global, nodes: u8) -> Result<Game, Refusal> {
+/// The game of such a ring.
+fn ladder(alloc: Global, rungs: u16) -> Result<Game, Refusal> {
     let mut builder = GameBuilder::new(alloc);
+    match add_ladder(&mut builder, rungs) {
+        Ok(()) => finish(builder),
+        Err(refusal) => Err(refusal),
+    }
+}
+
+#[test]
+fn on_a_ladder_each_player_wins_the_own_side(rt: HostRuntime) {
+    for (row, rungs) in [2, 3, 10, 1000, 30_000].iter().enumerate() {
+        let side = usize::from(*rungs);
+        let built = ladder(rt.alloc(), *rungs);
+        assert_row(&rt, row, are_counts(rt.alloc(), built, side, side));
+    }
+}
+
+/// Adds nodes each of which leads to all others; node i has priority i, and its player is the one who wins that priority.
+fn add_clique(builder: &mut GameBuilder, nodes: u8) -> Result<(), Refusal> {
     for id in 0..nodes {
         let owner = if id % 2 == 0 { Zero } else { One };
         let first = if id == 0 { 1 } else { 0 };
         builder.add_node(u32::from(id), u32::from(id), owner, first)?;
         for other in first..u32::from(nodes) {
             if other != u32::from(id) {
-                list(&mut builder, other)?;
+                list(builder, other)?;
             }
         }
     }
-    finish(builder)
+    Ok(())
 }
 
-/// How many places each player wins in a clique.
-fn clique_counts(alloc: Global, nodes: u8) -> Result<Option<Counts>, Refusal> {
-    let game = clique(alloc, nodes)?;
-    counts(alloc, &game)
+/// The game of such nodes.
+fn clique(alloc: Global, nodes: u8) -> Result<Game, Refusal> {
+    let mut builder = GameBuilder::new(alloc);
+    match add_clique(&mut builder, nodes) {
+        Ok(()) => finish(builder),
+        Err(refusal) => Err(refusal),
+    }
 }
 
 /// A player with two nodes can move between these for ever, and the greatest priority of the player's own wins.
-const CLIQUES: [(u8, Counts); 6] = [
-    (2, (0, 2)),
-    (3, (3, 0)),
-    (4, (2, 2)),
-    (10, (5, 5)),
-    (101, (51, 50)),
-    (200, (100, 100)),
+const CLIQUES: [(u8, usize, usize); 6] = [
+    (2, 0, 2),
+    (3, 3, 0),
+    (4, 2, 2),
+    (10, 5, 5),
+    (101, 51, 50),
+    (200, 100, 100),
 ];
 
 #[test]
-fn in_a_clique_each_player_with_two_nodes_wins_these(rt: HostRuntime) -> Result<(), Fail> {
-    for (nodes, wanted) in CLIQUES {
-        let found = clique_counts(rt.alloc(), nodes)?;
-        assert_eq!(rt; found, Some(wanted), "{nodes} nodes");
+fn in_a_clique_each_player_with_two_nodes_wins_these(rt: HostRuntime) {
+    for (row, (nodes, zero, one)) in CLIQUES.iter().enumerate() {
+        let built = clique(rt.alloc(), *nodes);
+        assert_row(&rt, row, are_counts(rt.alloc(), built, *zero, *one));
     }
-    Ok(())
 }

@@ -2,10 +2,9 @@
 ghost use Rattle.std.specs.Prelude.{◌<◌, ◌≤◌, ◌^◌, IfSome};
 
 use omega_game::{Game, GameBuilder, Player, Refusal, bound};
-use omega_solve::{MOST_LIFTS, Nested, Outcome, PackedTable, Solver};
+use omega_solve::{Nested, Outcome, PackedTable, Solver};
 use std::alloc::Global;
 use std::process::Abort;
-use std::test::Fail;
 
 #[derive(Clone, Copy, Debug)]
 enum Family {
@@ -59,10 +58,10 @@ fn second_successor(family: Family, nodes: u32, place: u32) -> Option<u32>
     }
 }
 
-fn game_of<R: Abort>(rt: &R, alloc: Global, family: Family, nodes: u32) -> Result<Game, Refusal>
+/// Adds so many nodes of a family.
+fn add_family(builder: &mut GameBuilder, family: Family, nodes: u32) -> Result<(), Refusal>
     requires { nodes ≤ 2 ^ 20 }
 {
-    let mut builder = GameBuilder::new(alloc);
     for place in 0..nodes {
         let priority = priority_of(family, nodes, place);
         let first = first_successor(family, nodes, place);
@@ -71,8 +70,44 @@ fn game_of<R: Abort>(rt: &R, alloc: Global, family: Family, nodes: u32) -> Resul
             builder.add_successor(second)?;
         }
     }
-    assert!(rt; builder.len() > 0);
+    Ok(())
+}
+
+/// The game of so many nodes of a family.
+fn game_of(alloc: Global, family: Family, nodes: u32) -> Result<Game, Refusal>
+    requires { nodes ≤ 2 ^ 20 }
+{
+    let mut builder = GameBuilder::new(alloc);
+    match add_family(&mut builder, family, nodes) {
+        Ok(()) => finish(builder),
+        Err(refusal) => Err(refusal),
+    }
+}
+
+/// The game of a builder, or Io where nothing was added.
+pub(crate) fn finish(builder: GameBuilder) -> Result<Game, Refusal> {
+    if builder.len() == 0 {
+        return Err(Refusal::Io);
+    }
     builder.finish()
+}
+
+/// Runs a new solver within so many lifts. How many nodes are won.
+fn run<R: Abort>(
+    rt: &R,
+    solver: &mut Solver<'_, PackedTable, Nested>,
+    game: &Game,
+    player: Player,
+    most: u64,
+) -> usize {
+    assert!(rt; most <= solver.room());
+    let outcome = solver.run(most);
+    assert!(rt; outcome == Outcome::Done);
+    assert_counts(rt, game, player, solver.lifts(), solver.attempts());
+    match solver.answer() {
+        Some(answer) => answer.won.iter().filter(|won| **won).count(),
+        None => 0,
+    }
 }
 
 /// Solves a game within so many lifts. How many nodes are won.
@@ -83,12 +118,10 @@ fn solve<R: Abort>(
     player: Player,
     most: u64,
 ) -> Result<usize, Refusal> {
-    let mut solver: Solver<'_, PackedTable, Nested> = Solver::prepare(alloc, game, player)?;
-    assert!(rt; most <= MOST_LIFTS);
-    assert_eq!(rt; solver.run(most), Outcome::Done);
-    assert_counts(rt, game, player, solver.lifts(), solver.attempts());
-    let answer = solver.answer().expect(rt, "a solver that is done");
-    Ok(answer.won.iter().filter(|won| **won).count())
+    match Solver::<'_, PackedTable, Nested>::prepare(alloc, game, player) {
+        Ok(mut solver) => Ok(run(rt, &mut solver, game, player, most)),
+        Err(refusal) => Err(refusal),
+    }
 }
 
 /// Each node is tried, once at first and at most once more for each edge into a node with each lift of that.
@@ -116,18 +149,33 @@ const ROWS: [Row; 8] = [
     (Family::Sink, 100_000, Player::One, 400_000, 0),
 ];
 
-fn solves_row<R: Abort>(rt: &R, alloc: Global, row: &Row) -> Result<(), Refusal> {
+/// Asserts how many nodes of a game are won.
+fn assert_won<R: Abort>(
+    rt: &R,
+    alloc: Global,
+    built: Result<Game, Refusal>,
+    player: Player,
+    most: u64,
+    won: usize,
+) {
+    match built {
+        Ok(game) => match solve(rt, alloc, &game, player, most) {
+            Ok(found) => assert!(rt; found == won),
+            Err(_) => assert!(rt; false, "a solver"),
+        },
+        Err(_) => assert!(rt; false, "a game"),
+    }
+}
+
+fn assert_row<R: Abort>(rt: &R, alloc: Global, row: &Row) {
     let (family, nodes, player, most, won) = *row;
     assert!(rt; nodes <= 1_048_576);
-    let game = game_of(rt, alloc, family, nodes)?;
-    assert_eq!(rt; solve(rt, alloc, &game, player, most)?, won);
-    Ok(())
+    assert_won(rt, alloc, game_of(alloc, family, nodes), player, most, won);
 }
 
 #[test]
-fn the_nested_order_makes_few_lifts(rt: HostRuntime) -> Result<(), Fail> {
+fn the_nested_order_makes_few_lifts(rt: HostRuntime) {
     for row in &ROWS {
-        solves_row(&rt, rt.alloc(), row)?;
+        assert_row(&rt, rt.alloc(), row);
     }
-    Ok(())
 }

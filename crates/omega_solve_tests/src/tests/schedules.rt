@@ -2,8 +2,8 @@ ghost use Rattle.std.specs.Prelude.{◌≡◌, length};
 ghost use Rattle.omega_solve.specs.Schedule.{all_pending};
 
 use omega_solve::{Nested, Schedule, Sweep, Worklist};
+use std::alloc::Global;
 use std::process::Abort;
-use std::test::Fail;
 
 /// Takes a schedule of so many places through steps, after which none is pending. A digit is the place to look at, which
 /// is taken out; one behind a `+` is made pending.
@@ -23,13 +23,12 @@ fn follow<S: Schedule, R: Abort>(rt: &R, schedule: &mut S, places: u32, steps: &
             schedule.add(place);
         } else {
             let front = schedule.look().expect(rt, "a pending place");
-            assert_eq!(rt; front, place);
-            assert!(rt; schedule.takes() < 100);
+            assert!(rt; front == place && schedule.takes() < 100);
             schedule.take(front);
         }
         adds = false;
     }
-    assert_eq!(rt; schedule.look(), None);
+    assert!(rt; schedule.look().is_none());
 }
 
 /// Takes out a place that is not the one to look at, and then the others in turn.
@@ -37,9 +36,25 @@ fn take_behind<S: Schedule, R: Abort>(rt: &R, schedule: &mut S, others: &[u8])
     requires { S.waiting schedule.old ≡ all_pending 4 }
 {
     schedule.take(2);
-    assert_eq!(rt; schedule.takes(), 1);
+    assert!(rt; schedule.takes() == 1);
     follow(rt, schedule, 4, others);
-    assert_eq!(rt; schedule.takes(), 4);
+    assert!(rt; schedule.takes() == 4);
+}
+
+/// Takes a new schedule of so many places through steps.
+fn follows<S: Schedule, R: Abort>(rt: &R, alloc: Global, places: u32, steps: &[u8]) {
+    match S::prepare(alloc, places) {
+        Ok(mut schedule) => follow(rt, &mut schedule, places, steps),
+        Err(_) => assert!(rt; false, "a schedule"),
+    }
+}
+
+/// Takes a place out of a new schedule that is not the one to look at, and then the others in turn.
+fn takes_behind<S: Schedule, R: Abort>(rt: &R, alloc: Global, others: &[u8]) {
+    match S::prepare(alloc, 4) {
+        Ok(mut schedule) => take_behind(rt, &mut schedule, others),
+        Err(_) => assert!(rt; false, "a schedule"),
+    }
 }
 
 /// The first round of a sweep over ten places, and steps that follow it.
@@ -53,21 +68,16 @@ const SWEEPS: [&[u8]; 3] = [
 ];
 
 #[test]
-fn a_sweep_goes_round_and_round(rt: HostRuntime) -> Result<(), Fail> {
-    let mut sweep = Sweep::prepare(rt.alloc(), 4)?;
-    follow(&rt, &mut sweep, 4, b"01+1+0+22301+3+223");
+fn a_sweep_goes_round_and_round(rt: HostRuntime) {
+    follows::<Sweep, HostRuntime>(&rt, rt.alloc(), 4, b"01+1+0+22301+3+223");
     for steps in &SWEEPS {
-        let mut sweep = Sweep::prepare(rt.alloc(), 10)?;
-        follow(&rt, &mut sweep, 10, *steps);
+        follows::<Sweep, HostRuntime>(&rt, rt.alloc(), 10, *steps);
     }
-    Ok(())
 }
 
 #[test]
-fn a_worklist_is_first_in_first_out(rt: HostRuntime) -> Result<(), Fail> {
-    let mut worklist = Worklist::prepare(rt.alloc(), 4)?;
-    follow(&rt, &mut worklist, 4, b"01+1+0+22310+3+2+332");
-    Ok(())
+fn a_worklist_is_first_in_first_out(rt: HostRuntime) {
+    follows::<Worklist, HostRuntime>(&rt, rt.alloc(), 4, b"01+1+0+22310+3+2+332");
 }
 
 /// A sweep, in which an added place waits, costs four takes; then focus has fuel for sixteen, in which an added place is the
@@ -75,19 +85,13 @@ fn a_worklist_is_first_in_first_out(rt: HostRuntime) -> Result<(), Fail> {
 const NESTED: &[u8] = b"01+0+1230+21+002+00+00+00+00+00+00+00+00+00+00+00+00+3+00+030";
 
 #[test]
-fn a_nested_schedule_sweeps_and_stays_with_the_least(rt: HostRuntime) -> Result<(), Fail> {
-    let mut nested = Nested::prepare(rt.alloc(), 4)?;
-    follow(&rt, &mut nested, 4, NESTED);
-    Ok(())
+fn a_nested_schedule_sweeps_and_stays_with_the_least(rt: HostRuntime) {
+    follows::<Nested, HostRuntime>(&rt, rt.alloc(), 4, NESTED);
 }
 
 #[test]
-fn a_place_behind_the_front_is_taken(rt: HostRuntime) -> Result<(), Fail> {
-    let mut sweep = Sweep::prepare(rt.alloc(), 4)?;
-    take_behind(&rt, &mut sweep, b"013");
-    let mut worklist = Worklist::prepare(rt.alloc(), 4)?;
-    take_behind(&rt, &mut worklist, b"013");
-    let mut nested = Nested::prepare(rt.alloc(), 4)?;
-    take_behind(&rt, &mut nested, b"301");
-    Ok(())
+fn a_place_behind_the_front_is_taken(rt: HostRuntime) {
+    takes_behind::<Sweep, HostRuntime>(&rt, rt.alloc(), b"013");
+    takes_behind::<Worklist, HostRuntime>(&rt, rt.alloc(), b"013");
+    takes_behind::<Nested, HostRuntime>(&rt, rt.alloc(), b"301");
 }

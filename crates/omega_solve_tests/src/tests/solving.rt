@@ -1,3 +1,8 @@
+//! The rows of small games, over each table and each schedule.
+//!
+//! A test is proved before it runs, and what owns a game or a solver over a `?` is slow to prove: so one function prepares,
+//! and the next one is lent what was prepared.
+use crate::tests::families::finish;
 use omega_game::{Game, GameBuilder, Player, Refusal, TaskFault, bound};
 use omega_solve::{
     Found, MOST_LIFTS, MeasureTable, Nested, Outcome, PackedTable, PlainTable, Schedule, Solver,
@@ -5,7 +10,6 @@ use omega_solve::{
 };
 use std::alloc::Global;
 use std::process::Abort;
-use std::test::Fail;
 
 /// The identifier of a node, its priority and owner, and its one or two successors.
 type Node = (u8, u8, Player, u8, Option<u8>);
@@ -65,8 +69,8 @@ const ROWS: [Row<'static>; 14] = [
     (EQUAL_ALLOWANCES, Player::One, 9, None, 15, b"---"),
 ];
 
-fn game_of<R: Abort>(rt: &R, alloc: Global, nodes: &[Node]) -> Result<Game, Refusal> {
-    let mut builder = GameBuilder::new(alloc);
+/// Adds these nodes.
+fn add_nodes(builder: &mut GameBuilder, nodes: &[Node]) -> Result<(), Refusal> {
     for (identifier, priority, owner, first, second) in nodes {
         let (identifier, priority) = (u32::from(*identifier), u32::from(*priority));
         builder.add_node(identifier, priority, *owner, u32::from(*first))?;
@@ -74,8 +78,16 @@ fn game_of<R: Abort>(rt: &R, alloc: Global, nodes: &[Node]) -> Result<Game, Refu
             builder.add_successor(u32::from(*second))?;
         }
     }
-    assert!(rt; builder.len() > 0);
-    builder.finish()
+    Ok(())
+}
+
+/// The game of these nodes, or Io where there are none.
+fn game_of(alloc: Global, nodes: &[Node]) -> Result<Game, Refusal> {
+    let mut builder = GameBuilder::new(alloc);
+    match add_nodes(&mut builder, nodes) {
+        Ok(()) => finish(builder),
+        Err(refusal) => Err(refusal),
+    }
 }
 
 /// The byte that stands for an answer at a place.
@@ -102,28 +114,71 @@ fn is_answer(won: &[bool], choice: &[Option<u32>], wanted: &[u8]) -> bool {
     true
 }
 
+/// Asserts that the answer of a solver that is done is the wanted one.
+fn assert_answer<T: MeasureTable, S: Schedule, R: Abort>(
+    rt: &R,
+    solver: &Solver<'_, T, S>,
+    wanted: &[u8],
+) {
+    match solver.answer() {
+        Some(answer) => assert!(rt; is_answer(answer.won, answer.choice, wanted)),
+        None => assert!(rt; false, "a solver that is done"),
+    }
+}
+
 /// Runs a new solver to its end. The number of lifts.
+fn run_whole<T: MeasureTable, S: Schedule, R: Abort>(
+    rt: &R,
+    solver: &mut Solver<'_, T, S>,
+    row: &Row<'_>,
+) -> u64 {
+    let (_, _, most, lifts, most_attempts, wanted) = *row;
+    assert!(rt; solver.answer().is_none());
+    let outcome = solver.run(solver.room());
+    assert!(rt; outcome == Outcome::Done);
+    let made = solver.lifts();
+    assert!(rt; made == lifts.unwrap_or(made));
+    assert!(rt; u128::from(made) <= most);
+    let attempts = solver.attempts();
+    assert!(rt; made <= attempts && attempts <= most_attempts);
+    assert_answer(rt, solver, wanted);
+    made
+}
+
+/// Runs a solver of a game to its end. The number of lifts.
 fn whole<T: MeasureTable, S: Schedule, R: Abort>(
     rt: &R,
     alloc: Global,
     game: &Game,
     row: &Row<'_>,
 ) -> Result<u64, Refusal> {
-    let (_, player, most, lifts, most_attempts, wanted) = *row;
-    let mut solver: Solver<'_, T, S> = Solver::prepare(alloc, game, player)?;
-    assert!(rt; solver.answer().is_none());
-    assert_eq!(rt; solver.run(MOST_LIFTS), Outcome::Done);
-    let made = solver.lifts();
-    assert_eq!(rt; made, lifts.unwrap_or(made));
-    assert!(rt; u128::from(made) <= most);
-    assert!(rt; made <= solver.attempts());
-    assert!(rt; solver.attempts() <= most_attempts);
-    let answer = solver.answer().expect(rt, "a solver that is done");
-    assert!(rt; is_answer(answer.won, answer.choice, wanted));
-    Ok(made)
+    match Solver::<'_, T, S>::prepare(alloc, game, row.1) {
+        Ok(mut solver) => Ok(run_whole(rt, &mut solver, row)),
+        Err(refusal) => Err(refusal),
+    }
 }
 
 /// Deals budgets out to the runs of a new solver, which is done once they reach the lifts that it needs.
+fn run_dealt<T: MeasureTable, S: Schedule, R: Abort>(
+    rt: &R,
+    solver: &mut Solver<'_, T, S>,
+    needed: u64,
+    budgets: &[u64],
+) {
+    let mut left = needed;
+    for budget in budgets {
+        assert!(rt; *budget <= solver.room());
+        let outcome = solver.run(*budget);
+        let done = outcome == Outcome::Done;
+        assert!(rt; done == (left <= *budget));
+        left = left.saturating_sub(*budget);
+        assert!(rt; solver.lifts() == needed.saturating_sub(left));
+        assert!(rt; solver.answer().is_some() == done);
+    }
+    assert!(rt; left == 0);
+}
+
+/// Deals budgets out to the runs of a solver of a game, and asserts its answer.
 fn dealt<T: MeasureTable, S: Schedule, R: Abort>(
     rt: &R,
     alloc: Global,
@@ -132,112 +187,122 @@ fn dealt<T: MeasureTable, S: Schedule, R: Abort>(
     needed: u64,
     budgets: &[u64],
 ) -> Result<(), Refusal> {
-    let (_, player, _, _, _, wanted) = *row;
-    let mut solver: Solver<'_, T, S> = Solver::prepare(alloc, game, player)?;
-    let mut left = needed;
-    for budget in budgets {
-        assert!(rt; *budget <= solver.room());
-        let outcome = solver.run(*budget);
-        assert_eq!(rt; outcome == Outcome::Done, left <= *budget);
-        left = left.saturating_sub(*budget);
-        assert_eq!(rt; solver.lifts(), needed.saturating_sub(left));
-        assert_eq!(rt; solver.answer().is_some(), outcome == Outcome::Done);
+    match Solver::<'_, T, S>::prepare(alloc, game, row.1) {
+        Ok(mut solver) => {
+            run_dealt(rt, &mut solver, needed, budgets);
+            assert_answer(rt, &solver, row.5);
+            Ok(())
+        }
+        Err(refusal) => Err(refusal),
     }
-    assert_eq!(rt; left, 0);
-    let answer = solver.answer().expect(rt, "a solver that is done");
-    assert!(rt; is_answer(answer.won, answer.choice, wanted));
-    Ok(())
 }
 
-/// Solves within a budget, which is refused if it is less than the lifts that are needed.
-fn within<T: MeasureTable, S: Schedule, R: Abort>(
+/// What is found within a budget, or Io where it is above each that a solver takes.
+fn found<T: MeasureTable, S: Schedule>(
+    alloc: Global,
+    game: &Game,
+    player: Player,
+    budget: u64,
+) -> Result<Found, Refusal> {
+    if budget > MOST_LIFTS {
+        return Err(Refusal::Io);
+    }
+    match Solver::<'_, T, S>::prepare(alloc, game, player) {
+        Ok(solver) => Found::by(alloc, solver, budget),
+        Err(refusal) => Err(refusal),
+    }
+}
+
+/// Whether a game is solved as it should be within a budget, which is refused if it is less than the lifts that are needed.
+fn is_within(found: Result<Found, Refusal>, needed: u64, budget: u64, wanted: &[u8]) -> bool {
+    match found {
+        Ok(found) => {
+            needed <= budget
+                && found.lifts == needed
+                && is_answer(found.won.as_slice(), found.choice.as_slice(), wanted)
+        }
+        Err(refusal) => budget < needed && refusal == Refusal::Task(TaskFault::Budget),
+    }
+}
+
+/// Asserts what is found within each budget up to the lifts that are needed.
+fn assert_within<T: MeasureTable, S: Schedule, R: Abort>(
     rt: &R,
     alloc: Global,
     game: &Game,
     row: &Row<'_>,
     needed: u64,
-    budget: u64,
+) {
+    for budget in 0..=needed {
+        let found = found::<T, S>(alloc, game, row.1, budget);
+        assert!(rt; is_within(found, needed, budget, row.5));
+    }
+}
+
+/// Deals each budget out to two runs, and single lifts to as many runs as the greatest bound of a row.
+fn deal_each<T: MeasureTable, S: Schedule, R: Abort>(
+    rt: &R,
+    alloc: Global,
+    game: &Game,
+    row: &Row<'_>,
+    needed: u64,
 ) -> Result<(), Refusal> {
-    let (_, player, _, _, _, wanted) = *row;
-    let solver: Solver<'_, T, S> = Solver::prepare(alloc, game, player)?;
-    assert!(rt; budget <= MOST_LIFTS);
-    match Found::by(alloc, solver, budget) {
-        Ok(found) => {
-            assert!(rt; needed <= budget);
-            assert_eq!(rt; found.lifts, needed);
-            assert!(rt; is_answer(found.won.as_slice(), found.choice.as_slice(), wanted));
-        }
-        Err(refusal) => {
-            assert!(rt; budget < needed);
-            assert_eq!(rt; refusal, Refusal::Task(TaskFault::Budget));
-        }
+    for budget in 0..=needed {
+        let rest = MOST_LIFTS.saturating_sub(budget);
+        dealt::<T, S, R>(rt, alloc, game, row, needed, &[budget, rest])?;
+    }
+    let ones = [0, 1, 1, 1, 1, 1, 1, 1, 1, 1, 1, 1, 1];
+    dealt::<T, S, R>(rt, alloc, game, row, needed, &ones)
+}
+
+/// Solves the game of a row over one table and one schedule, with each budget up to the lifts that it needs, and, where
+/// that does not change how many lifts are needed, with each budget dealt out to two runs or more.
+fn solves<T: MeasureTable, S: Schedule, R: Abort>(
+    rt: &R,
+    alloc: Global,
+    game: &Game,
+    row: &Row<'_>,
+    deals: bool,
+) -> Result<(), Refusal> {
+    let needed = whole::<T, S, R>(rt, alloc, game, row)?;
+    assert_within::<T, S, R>(rt, alloc, game, row, needed);
+    if deals {
+        deal_each::<T, S, R>(rt, alloc, game, row, needed)?;
     }
     Ok(())
 }
 
-/// Solves the game of a row over one table and one schedule, with each budget up to the lifts that it needs.
-fn solves<T: MeasureTable, S: Schedule, R: Abort>(
+/// The same over each table and each schedule. In the nested order a run that ends while it lifts one place again and again
+/// may change the number of lifts, where that is not the same in each order.
+fn solves_by_all<R: Abort>(
     rt: &R,
     alloc: Global,
-    row: &Row<'_>,
-) -> Result<u64, Refusal> {
-    let (nodes, player, most, ..) = *row;
-    let game = game_of(rt, alloc, nodes)?;
-    assert_eq!(rt; bound(&game, player), Some(most));
-    let needed = whole::<T, S, R>(rt, alloc, &game, row)?;
-    for budget in 0..=needed {
-        within::<T, S, R>(rt, alloc, &game, row, needed, budget)?;
-    }
-    Ok(needed)
-}
-
-/// The same, and with each budget dealt out to two runs or more, where that does not change how many lifts are needed.
-fn solves_dealt<T: MeasureTable, S: Schedule, R: Abort>(
-    rt: &R,
-    alloc: Global,
+    game: &Game,
     row: &Row<'_>,
 ) -> Result<(), Refusal> {
-    let needed = solves::<T, S, R>(rt, alloc, row)?;
-    let game = game_of(rt, alloc, row.0)?;
-    for budget in 0..=needed {
-        let rest = MOST_LIFTS.saturating_sub(budget);
-        dealt::<T, S, R>(rt, alloc, &game, row, needed, &[budget, rest])?;
-    }
-    // As many ones as the greatest bound of a row.
-    dealt::<T, S, R>(
-        rt,
-        alloc,
-        &game,
-        row,
-        needed,
-        &[0, 1, 1, 1, 1, 1, 1, 1, 1, 1, 1, 1, 1],
-    )
+    let alike = row.3.is_some();
+    solves::<PlainTable, Sweep, R>(rt, alloc, game, row, true)?;
+    solves::<PlainTable, Worklist, R>(rt, alloc, game, row, true)?;
+    solves::<PlainTable, Nested, R>(rt, alloc, game, row, alike)?;
+    solves::<PackedTable, Sweep, R>(rt, alloc, game, row, true)?;
+    solves::<PackedTable, Worklist, R>(rt, alloc, game, row, true)?;
+    solves::<PackedTable, Nested, R>(rt, alloc, game, row, alike)
 }
 
-/// The same with the nested order, in which a run that ends while it lifts one place again and again may change the number
-/// of lifts, where that is not the same in each order.
-fn solves_nested<T: MeasureTable, R: Abort>(
-    rt: &R,
-    alloc: Global,
-    row: &Row<'_>,
-) -> Result<(), Refusal> {
-    if row.3.is_some() {
-        solves_dealt::<T, Nested, R>(rt, alloc, row)
-    } else {
-        let _needed = solves::<T, Nested, R>(rt, alloc, row)?;
-        Ok(())
+/// Asserts the bound of a row's game, and that it is solved.
+fn assert_solved<R: Abort>(rt: &R, alloc: Global, row: &Row<'_>) {
+    match game_of(alloc, row.0) {
+        Ok(game) => {
+            assert!(rt; bound(&game, row.1) == Some(row.2));
+            assert!(rt; solves_by_all(rt, alloc, &game, row).is_ok());
+        }
+        Err(_) => assert!(rt; false, "a game"),
     }
 }
 
 #[test]
-fn each_game_is_solved_with_each_budget(rt: HostRuntime) -> Result<(), Fail> {
+fn each_game_is_solved_with_each_budget(rt: HostRuntime) {
     for row in &ROWS {
-        solves_dealt::<PlainTable, Sweep, HostRuntime>(&rt, rt.alloc(), row)?;
-        solves_dealt::<PlainTable, Worklist, HostRuntime>(&rt, rt.alloc(), row)?;
-        solves_dealt::<PackedTable, Sweep, HostRuntime>(&rt, rt.alloc(), row)?;
-        solves_dealt::<PackedTable, Worklist, HostRuntime>(&rt, rt.alloc(), row)?;
-        solves_nested::<PlainTable, HostRuntime>(&rt, rt.alloc(), row)?;
-        solves_nested::<PackedTable, HostRuntime>(&rt, rt.alloc(), row)?;
+        assert_solved(&rt, rt.alloc(), row);
     }
-    Ok(())
 }
