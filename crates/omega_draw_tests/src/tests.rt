@@ -1,0 +1,139 @@
+use omega_automaton::{Automaton, automaton_of};
+use omega_draw::{draw_automaton, draw_game, draw_lasso, draw_solution};
+use omega_pg::{read_game, read_solution};
+use omega_raw::read_raw;
+use omega_text::{Cursor, Refusal, hoa_tokens};
+use std::alloc::Global;
+use std::test::Fail;
+
+// The drawing of the game of a text.
+fn game_drawn(alloc: Global, text: &str) -> Result<Vec<u8>, Refusal> {
+    let game = read_game(alloc, text.as_bytes())?;
+    draw_game(alloc, &game)
+}
+
+// The drawing of the game of a text with the solution of another.
+fn solution_drawn(alloc: Global, text: &str, solution: &str) -> Result<Vec<u8>, Refusal> {
+    let game = read_game(alloc, text.as_bytes())?;
+    let solution = read_solution(alloc, &game, solution.as_bytes())?;
+    draw_solution(alloc, &game, &solution)
+}
+
+// The automaton that a text means.
+fn automaton_in(alloc: Global, text: &str) -> Result<Automaton, Refusal> {
+    let tokens = hoa_tokens(alloc, text.as_bytes())?;
+    let mut cursor = Cursor::new(tokens.as_slice(), text.len());
+    let raw = read_raw(alloc, &mut cursor)?;
+    automaton_of(alloc, raw)
+}
+
+// The drawing of the automaton of a text.
+fn automaton_drawn(alloc: Global, text: &str) -> Result<Vec<u8>, Refusal> {
+    let automaton = automaton_in(alloc, text)?;
+    draw_automaton(alloc, &automaton)
+}
+
+// The drawing of the automaton of a text with a lasso.
+fn lasso_drawn(alloc: Global, text: &str, stem: &[u32], cycle: &[u32]) -> Result<Vec<u8>, Refusal> {
+    let automaton = automaton_in(alloc, text)?;
+    draw_lasso(alloc, &automaton, stem, cycle)
+}
+
+// A name with each sign that is escaped, and a node without a name.
+#[test]
+fn a_game_is_drawn(rt: HostRuntime) -> Result<(), Fail> {
+    let wanted = r#"digraph game {
+  0 [shape=diamond, label="0\na\\b &amp;amp; c\npriority 1\n"];
+  0 -> 0;
+  0 -> 1;
+  1 [shape=box, label="1\npriority 2\n"];
+  1 -> 0;
+}
+"#;
+    let drawn = game_drawn(rt.alloc(), "0 1 0 0,1 \"a\\b &amp; c\"; 1 2 1 0;")?;
+    assert!(rt; drawn.as_slice() == wanted.as_bytes());
+    Ok(())
+}
+
+// Both players win nodes, and choose.
+#[test]
+fn a_solution_is_drawn(rt: HostRuntime) -> Result<(), Fail> {
+    let wanted = r#"digraph game {
+  0 [shape=diamond, label="0\npriority 1\n", style=filled, fillcolor=lightblue];
+  0 -> 0;
+  0 -> 1 [style=bold];
+  1 [shape=box, label="1\npriority 2\n", style=filled, fillcolor=lightblue];
+  1 -> 0;
+  2 [shape=box, label="2\npriority 1\n", style=filled, fillcolor=orange];
+  2 -> 2 [style=bold];
+  2 -> 0;
+}
+"#;
+    let drawn = solution_drawn(
+        rt.alloc(),
+        "0 1 0 0,1; 1 2 1 0; 2 1 1 2,0;",
+        "paritysol 2; 0 0 1; 1 0; 2 1 2;",
+    )?;
+    assert!(rt; drawn.as_slice() == wanted.as_bytes());
+    Ok(())
+}
+
+// Names with quotes and backslashes, starts of one state and of two, a state's own label, a branch, states that are
+// entered and not defined, and one that is only counted.
+#[test]
+fn an_automaton_is_drawn(rt: HostRuntime) -> Result<(), Fail> {
+    let text =
+        r#"HOA: v1 name: "a\"b" States: 5 Start: 0 Start: 1&2 AP: 2 "p\\q" "r" Acceptance: 2 Inf(0)&Fin(!1)
+--BODY-- State: [0&!1|t] 0 "zero" {1} 1 0&3 {0} State: 1 [!(0|1)&0] 3 {0 1} [1] 1 --END--"#;
+    let wanted = r#"digraph automaton {
+  rankdir=LR;
+  labelloc=t;
+  label="a\\\"b\nInf(0)&Fin(!1)\n";
+  start0 [shape=point, style=invis];
+  start0 -> 0;
+  start1 [shape=point];
+  start1 -> 1;
+  start1 -> 2;
+  0 [label="0\nzero\n[p\\\\q & !r | t]\n{1}\n"];
+  1 [label="1\n"];
+  0 -> 1 [label=""];
+  0 -> branch1 [label="{0}\n", arrowhead=none];
+  branch1 [shape=point];
+  branch1 -> 0 [label=""];
+  branch1 -> 3 [label=""];
+  1 -> 3 [label="!(p\\\\q | r) & p\\\\q\n{0 1}\n"];
+  1 -> 1 [label="r\n"];
+}
+"#;
+    let drawn = automaton_drawn(rt.alloc(), text)?;
+    assert!(rt; drawn.as_slice() == wanted.as_bytes());
+    Ok(())
+}
+
+// An edge of both parts is the cycle's, one of neither is plain, and 9 is no edge's number.
+#[test]
+fn a_lasso_is_drawn(rt: HostRuntime) -> Result<(), Fail> {
+    let text = r#"HOA: v1 States: 2 Start: 0 AP: 1 "a" Acceptance: 1 Inf(0)
+--BODY-- State: 0 [0] 1 [!0] 0 State: 1 [t] 1 {0} [0] 0 [!0] 0&1 --END--"#;
+    let wanted = r#"digraph automaton {
+  rankdir=LR;
+  labelloc=t;
+  label="Inf(0)\n";
+  start0 [shape=point, style=invis];
+  start0 -> 0;
+  0 [label="0\n"];
+  1 [label="1\n"];
+  0 -> 1 [label="a\n", style=bold, color=blue];
+  0 -> 0 [label="!a\n"];
+  1 -> 1 [label="t\n{0}\n", style=bold, color=red];
+  1 -> 0 [label="a\n"];
+  1 -> branch4 [label="!a\n", style=bold, color=red, arrowhead=none];
+  branch4 [shape=point];
+  branch4 -> 0 [label="", style=bold, color=red];
+  branch4 -> 1 [label="", style=bold, color=red];
+}
+"#;
+    let drawn = lasso_drawn(rt.alloc(), text, &[0, 2, 9], &[2, 4])?;
+    assert!(rt; drawn.as_slice() == wanted.as_bytes());
+    Ok(())
+}
