@@ -11,9 +11,8 @@ use Rattle.omega_game.specs.Winning.{Wins}
 use Rattle.omega_pg.specs.solution.Solution.{choices_of}
 use Rattle.omega_pg.specs.declared.solution.Solution.{Solution}
 use Rattle.omega_answers.specs.solve.Solution.{WinsAsGiven, WinsGiven}
-use Rattle.omega_pg.specs.solution.Text.{IsSolutionText}
 use Rattle.omega_io.specs.declared.exit.Exit.{Exit}
-use Rattle.omega_answers.specs.Verify.{IsJudged, IsVerdict, IsVerifyAnswer}
+use Rattle.omega_answers.specs.Verify.{IsVerdict}
 use Rattle.omega_answers.specs.steps.Verdict.{given_to, is_given, verdict_exit, verdict_text}
 use Rattle.omega_answers.proofs.Places.{slice_get-true}
 use Rattle.omega_answers.proofs.Solving.{Contains-won, won-Contains}
@@ -96,13 +95,7 @@ verdict_by : (nodes : List Node) (solution : Solution) (is_right : Bool) → IsT
 verdict_by nodes solution true wins = (wins.0 refl, refl)
 verdict_by nodes solution false wins = (λ all. let t : false ≡ true = wins.1 all in cc, refl)
 
-pub verdict-answers : (game_text : List ℕ) (from : Option ℕ) (text : List ℕ) (exit : Exit) (output : List ℕ) (nodes : List Node) (solution : Solution) (is_right : Bool)
-    → IsJudged game_text from nodes → IsSolutionText nodes text solution → IsTrue is_right ↔ WinsAsGiven nodes solution
-    → exit ≡ verdict_exit is_right → output ≡ verdict_text is_right → IsVerifyAnswer game_text from text false exit output
-verdict-answers game_text from text exit output nodes solution is_right judged read wins ends written = record {
-  game = nodes;
-  judged = judged;
-  solution = solution;
-  read = read;
-  verdict = rw (ends, written) (verdict_by nodes solution is_right wins);
-}
+pub verdict-made : (nodes : List Node) (solution : Solution) (is_right : Bool) (exit : Exit) (output : List ℕ)
+    → IsTrue is_right ↔ WinsAsGiven nodes solution → exit ≡ verdict_exit is_right → output ≡ verdict_text is_right
+    → IsVerdict nodes solution false exit output
+verdict-made nodes solution is_right exit output wins ends written = rw (ends, written) (verdict_by nodes solution is_right wins)

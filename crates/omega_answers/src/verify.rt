@@ -6,7 +6,7 @@ ghost use Rattle.omega_pg.specs.solution.Solution.{IsSolution, choices_of};
 ghost use Rattle.omega_pg.specs.solution.Refusing.{IsReadSolutionRefusal};
 ghost use Rattle.omega_pg.specs.solution.Text.{IsSolutionText};
 ghost use Rattle.omega_answers.specs.Part.{IsPartText, IsPartTextRefusal};
-ghost use Rattle.omega_answers.specs.Verify.{IsJudged, IsJudgedRefusal, IsVerifyAnswer, IsVerifyRefusal};
+ghost use Rattle.omega_answers.specs.Verify.{IsJudged, IsJudgedRefusal, IsVerdict, IsVerifyAnswer, IsVerifyRefusal};
 ghost use Rattle.omega_answers.specs.solve.Solution.{WinsAsGiven, WinsGiven};
 ghost use Rattle.omega_answers.specs.steps.Verdict.{given_to, is_given, verdict_exit, verdict_text};
 
@@ -35,11 +35,7 @@ pub fn verify_solution(
 {
     let game = judged_game(alloc, game, from)?;
     let solution = solution_in(alloc, &game, text)?;
-    if explain {
-        return explained(alloc, &game, &solution);
-    }
-    let is_right = wins_as_given(alloc, &game, &solution)?;
-    verdict(alloc, is_right)
+    verdict_on(alloc, &game, &solution, explain)
 }
 
 /// The game that a text stands for, or where an identifier is given, the part of it that its node reaches. 1 to 4, 10 to
@@ -61,6 +57,24 @@ fn judged_part(alloc: Global, text: &[u8], identifier: u32) -> Result<Game, Refu
 {
     let game = read_game(alloc, text)?;
     part_from(alloc, game, identifier)
+}
+
+/// The verdict on a solution, with why it is `no`, if that is asked for. 60 alone.
+fn verdict_on(
+    alloc: Global,
+    game: &Game,
+    solution: &Solution,
+    explain: bool,
+) -> Result<(Exit, Vec<u8>), Refusal>
+    requires { IsSolution game.now solution.now }
+    ensures verdict { IfOk result (λ made. IsVerdict game.now solution.now explain made.0 made.1.items) }
+    ensures memory { IsOkUnless result Memory }
+{
+    if explain {
+        return explained(alloc, game, solution);
+    }
+    let is_right = wins_as_given(alloc, game, solution)?;
+    verdict(alloc, is_right)
 }
 
 /// How the command ends for a solution that is right or not, and what it writes. 60 alone.
