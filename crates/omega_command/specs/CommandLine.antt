@@ -70,6 +70,8 @@ text_of name.Budget options = option_map (λ text. text.now) options.budget
 text_of name.Search options = option_map (λ text. text.now) options.search
 text_of name.Game options = option_map (λ text. text.now) options.game
 text_of name.Explain options = option_map (λ text. text.now) options.explain
+text_of name.Solution options = option_map (λ text. text.now) options.solution
+text_of name.Lasso options = option_map (λ text. text.now) options.lasso
 
 -- how `clap` knows an option
 abbrev pub id_of : OptionName → List ℕ
@@ -80,6 +82,8 @@ id_of name.Budget = codes "budget"
 id_of name.Search = codes "search"
 id_of name.Game = codes "game"
 id_of name.Explain = codes "explain"
+id_of name.Solution = codes "solution"
+id_of name.Lasso = codes "lasso"
 
 -- ---- what a subcommand asks for
 
@@ -90,18 +94,36 @@ Asks subcommand options (line.Run (command.Show format) budget) =
 Asks subcommand options (line.Run (command.Check format) budget) =
     (subcommand ≡ codes "check") × Gives IsFormatText (text_of name.Format options) (Some format) × (budget ≡ most_lifts)
 Asks subcommand options (line.Run (command.Canon format) budget) =
-    (subcommand ≡ codes "canon") × Gives IsFormatText (text_of name.Format options) (Some format) × (budget ≡ most_lifts)
+    (subcommand ≡ codes "canon") × Gives IsFormatText (text_of name.Format options) (Some format)
+    × (text_of name.From options ≡ None) × (budget ≡ most_lifts)
+Asks subcommand options (line.Run (command.CanonPart from) budget) =
+    (subcommand ≡ codes "canon") × Gives IsFormatText (text_of name.Format options) (Some Pg)
+    × Gives (IsNumberText most_number) (text_of name.From options) (Some from) × (budget ≡ most_lifts)
 Asks subcommand options (line.Run (command.Solve player from) budget) =
     (subcommand ≡ codes "solve") × GivesFlag (text_of name.Search options) false × Gives IsPlayerText (text_of name.Player options) player
     × Gives (IsNumberText most_number) (text_of name.From options) from × GivesBudget (text_of name.Budget options) budget
 Asks subcommand options (line.Run (command.Search from) budget) =
     (subcommand ≡ codes "solve") × GivesFlag (text_of name.Search options) true × (text_of name.Player options ≡ None)
     × Gives (IsNumberText most_number) (text_of name.From options) from × GivesBudget (text_of name.Budget options) budget
-Asks subcommand options (line.Run (command.Verify game explain) budget) = ⊥
-Asks subcommand options (line.Run command.Empty budget) = ⊥
+Asks subcommand options (line.Run (command.Verify game from explain) budget) = ⊥
+Asks subcommand options (line.Run command.Empty budget) =
+    (subcommand ≡ codes "empty") × GivesFlag (text_of name.Search options) false × GivesBudget (text_of name.Budget options) budget
+Asks subcommand options (line.Run command.EmptySearch budget) =
+    (subcommand ≡ codes "empty") × GivesFlag (text_of name.Search options) true × (text_of name.Budget options ≡ None) × (budget ≡ most_lifts)
 Asks subcommand options (line.Run command.Game budget) = (subcommand ≡ codes "game") × (budget ≡ most_lifts)
-Asks subcommand options (line.Verify file explain) =
-    (subcommand ≡ codes "verify") × (text_of name.Game options ≡ Some (string_bytes file)) × GivesFlag (text_of name.Explain options) explain
+Asks subcommand options (line.Run (command.Draw format) budget) =
+    (subcommand ≡ codes "draw") × Gives IsFormatText (text_of name.Format options) (Some format)
+    × (text_of name.Solution options ≡ None) × GivesFlag (text_of name.Lasso options) false × (budget ≡ most_lifts)
+Asks subcommand options (line.Run (command.DrawSolution solution) budget) = ⊥
+Asks subcommand options (line.Run command.DrawLasso budget) =
+    (subcommand ≡ codes "draw") × Gives IsFormatText (text_of name.Format options) (Some Hoa)
+    × (text_of name.Solution options ≡ None) × GivesFlag (text_of name.Lasso options) true × (budget ≡ most_lifts)
+Asks subcommand options (line.Verify file from explain) =
+    (subcommand ≡ codes "verify") × (text_of name.Game options ≡ Some (string_bytes file))
+    × Gives (IsNumberText most_number) (text_of name.From options) from × GivesFlag (text_of name.Explain options) explain
+Asks subcommand options (line.DrawSolution file) =
+    (subcommand ≡ codes "draw") × Gives IsFormatText (text_of name.Format options) (Some Pg)
+    × (text_of name.Solution options ≡ Some (string_bytes file)) × GivesFlag (text_of name.Lasso options) false
 Asks subcommand options (line.Help text) = ⊥
 Asks subcommand options (line.Fault text) = ⊥
 
@@ -109,13 +131,16 @@ Asks subcommand options (line.Fault text) = ⊥
 
 -- the subcommand takes the option
 abbrev pub HasOption : List ℕ → OptionName → Type 0
-HasOption subcommand name.Format = (subcommand ≡ codes "show") ⊎ (subcommand ≡ codes "check") ⊎ (subcommand ≡ codes "canon")
+HasOption subcommand name.Format =
+    (subcommand ≡ codes "show") ⊎ (subcommand ≡ codes "check") ⊎ (subcommand ≡ codes "canon") ⊎ (subcommand ≡ codes "draw")
 HasOption subcommand name.Player = subcommand ≡ codes "solve"
-HasOption subcommand name.From = subcommand ≡ codes "solve"
-HasOption subcommand name.Budget = subcommand ≡ codes "solve"
-HasOption subcommand name.Search = subcommand ≡ codes "solve"
+HasOption subcommand name.From = (subcommand ≡ codes "solve") ⊎ (subcommand ≡ codes "canon") ⊎ (subcommand ≡ codes "verify")
+HasOption subcommand name.Budget = (subcommand ≡ codes "solve") ⊎ (subcommand ≡ codes "empty")
+HasOption subcommand name.Search = (subcommand ≡ codes "solve") ⊎ (subcommand ≡ codes "empty")
 HasOption subcommand name.Game = subcommand ≡ codes "verify"
 HasOption subcommand name.Explain = subcommand ≡ codes "verify"
+HasOption subcommand name.Solution = subcommand ≡ codes "draw"
+HasOption subcommand name.Lasso = subcommand ≡ codes "draw"
 
 -- the option has to be given
 abbrev pub IsRequired : OptionName → Type 0
@@ -126,6 +151,8 @@ IsRequired name.Budget = ⊥
 IsRequired name.Search = ⊥
 IsRequired name.Game = Unit {0}
 IsRequired name.Explain = ⊥
+IsRequired name.Solution = ⊥
+IsRequired name.Lasso = ⊥
 
 -- the text stands for no value of the option
 abbrev pub StandsForNothing : OptionName → List ℕ → Type 0
@@ -136,6 +163,8 @@ StandsForNothing name.Budget text = (number : ℕ) → IsNumberText most_lifts t
 StandsForNothing name.Search text = (flag : Bool) → IsTruthText text flag → ⊥
 StandsForNothing name.Game text = ⊥
 StandsForNothing name.Explain text = (flag : Bool) → IsTruthText text flag → ⊥
+StandsForNothing name.Solution text = ⊥
+StandsForNothing name.Lasso text = (flag : Bool) → IsTruthText text flag → ⊥
 
 -- the mistake is that the option is missing, or that its text stands for nothing
 abbrev pub IsFaulty : OptionName → Options → Mistake → Type 0
@@ -144,6 +173,7 @@ IsFaulty option options (mistake.Value other text reason) =
     (other ≡ option) × (text_of option options ≡ Some text.now) × StandsForNothing option text.now
 IsFaulty option options mistake.Unknown = ⊥
 IsFaulty option options (mistake.Conflict one other) = ⊥
+IsFaulty option options (mistake.OnlyWith other format) = ⊥
 IsFaulty option options mistake.Memory = ⊥
 
 -- no subcommand has this name
@@ -153,21 +183,54 @@ pub record IsUnknown (subcommand : List ℕ) : Type 0 where
   pub canon : subcommand ≢ codes "canon"
   pub solve : subcommand ≢ codes "solve"
   pub verify : subcommand ≢ codes "verify"
+  pub empty : subcommand ≢ codes "empty"
   pub game : subcommand ≢ codes "game"
+  pub draw : subcommand ≢ codes "draw"
 
--- two options of `solve` that are not given together: the search is for both players
+-- the option is given; a flag is set
+abbrev pub IsUsed : OptionName → Options → Type 0
+IsUsed name.Format options = text_of name.Format options ≢ None
+IsUsed name.Player options = text_of name.Player options ≢ None
+IsUsed name.From options = text_of name.From options ≢ None
+IsUsed name.Budget options = text_of name.Budget options ≢ None
+IsUsed name.Search options = GivesFlag (text_of name.Search options) true
+IsUsed name.Game options = text_of name.Game options ≢ None
+IsUsed name.Explain options = GivesFlag (text_of name.Explain options) true
+IsUsed name.Solution options = text_of name.Solution options ≢ None
+IsUsed name.Lasso options = GivesFlag (text_of name.Lasso options) true
+
+-- the option that is not given beside the search of the subcommand: that of `solve` is for both players, that of `empty` makes no lifts
+abbrev pub IsApartFromSearch : List ℕ → OptionName → Type 0
+IsApartFromSearch subcommand option =
+    ((subcommand ≡ codes "solve") × (option ≡ name.Player)) ⊎ ((subcommand ≡ codes "empty") × (option ≡ name.Budget))
+
+-- two options that are not given together: the search, and the option that is apart from it
 pub record IsConflict (subcommand : List ℕ) (options : Options) (one other : OptionName) : Type 0 where
-  pub solve : subcommand ≡ codes "solve"
   pub one_is : one ≡ name.Search
-  pub other_is : other ≡ name.Player
-  pub flagged : GivesFlag (text_of name.Search options) true
-  pub player : text_of name.Player options ≢ None
+  pub apart : IsApartFromSearch subcommand other
+  pub one_used : IsUsed one options
+  pub other_used : IsUsed other options
 
--- what is wrong: no subcommand has the name, or an option that it takes is faulty, or two are not given together; or memory is wanting
+-- the option of the subcommand goes with this format only
+abbrev pub IsForFormat : List ℕ → OptionName → Format → Type 0
+IsForFormat subcommand option Pg =
+    ((subcommand ≡ codes "canon") × (option ≡ name.From)) ⊎ ((subcommand ≡ codes "draw") × (option ≡ name.Solution))
+IsForFormat subcommand option Hoa = (subcommand ≡ codes "draw") × (option ≡ name.Lasso)
+
+-- the option goes with this format only, and is given with another
+pub record IsOfOtherFormat (subcommand : List ℕ) (options : Options) (option : OptionName) (format : Format) : Type 0 where
+  pub only_with : IsForFormat subcommand option format
+  pub other : Format
+  pub other_given : Gives IsFormatText (text_of name.Format options) (Some other)
+  pub is_other : other ≢ format
+  pub used : IsUsed option options
+
+-- what is wrong: no subcommand has the name, or an option that it takes is faulty, or two are not given together, or one is for another format; or memory is wanting
 abbrev pub IsMistake : List ℕ → Options → Mistake → Type 0
 IsMistake subcommand options mistake.Unknown = IsUnknown subcommand
 IsMistake subcommand options mistake.Memory = Unit {0}
 IsMistake subcommand options (mistake.Conflict one other) = IsConflict subcommand options one other
+IsMistake subcommand options (mistake.OnlyWith option format) = IsOfOtherFormat subcommand options option format
 IsMistake subcommand options (mistake.Missing option) = HasOption subcommand option × IsFaulty option options (mistake.Missing option)
 IsMistake subcommand options (mistake.Value option text reason) =
     HasOption subcommand option × IsFaulty option options (mistake.Value option text reason)
@@ -198,4 +261,5 @@ abbrev pub IsPrinted : ErrorKind → Line → Type 0
 IsPrinted kind (line.Help text) = (kind ≡ DisplayHelp) ⊎ (kind ≡ DisplayVersion)
 IsPrinted kind (line.Fault text) = (kind ≢ DisplayHelp) × (kind ≢ DisplayVersion)
 IsPrinted kind (line.Run command budget) = ⊥
-IsPrinted kind (line.Verify file explain) = ⊥
+IsPrinted kind (line.Verify file from explain) = ⊥
+IsPrinted kind (line.DrawSolution file) = ⊥

@@ -1,5 +1,6 @@
 use omega_game::Player;
 use omega_text::Seq;
+use std::fmt;
 
 /// What the program does with the text on its input.
 #[derive(Debug, Drop)]
@@ -10,6 +11,11 @@ pub enum Command {
     Check(Format),
     /// Writes the text in the one form that its value has.
     Canon(Format),
+    /// Writes the part of a game that one node reaches, in the same form.
+    CanonPart {
+        /// The identifier of the node.
+        from: u32,
+    },
     /// Solves a game: for both players, or for one alone; whole, or the part that one node reaches.
     Solve {
         player: Option<Player>,
@@ -21,16 +27,28 @@ pub enum Command {
         /// The identifier of the node whose part is solved.
         from: Option<u32>,
     },
-    /// Checks the solution of a game whose text is kept here.
+    /// Checks the solution of a game whose text is kept here, or of the part of it that one node reaches.
     Verify {
         game: Seq<u8>,
+        /// The identifier of the node whose part is meant.
+        from: Option<u32>,
         /// Whether it is explained where the solution is not right.
         explain: bool,
     },
-    /// Says whether an automaton accepts nothing, and shows a lasso where it does not.
+    /// Says whether an automaton accepts nothing, and shows a lasso where it does not. Decided by lifting.
     Empty,
+    /// The same, decided by a search.
+    EmptySearch,
     /// Writes the emptiness game of an automaton.
     Game,
+    /// Draws the one game or automaton that the text stands for.
+    Draw(Format),
+    /// Draws a game with a solution of it, whose text is kept here.
+    DrawSolution {
+        solution: Seq<u8>,
+    },
+    /// Draws an automaton with an accepting lasso, if it has one.
+    DrawLasso,
 }
 
 /// What kind of text is read.
@@ -40,4 +58,14 @@ pub enum Format {
     Pg,
     /// A stream of automata in the Hanoi Omega-Automata Format, version 1.
     Hoa,
+}
+
+/// The name of the format on a command line.
+impl fmt::Display for Format {
+    fn fmt<W: fmt::Write>(&self, f: &mut fmt::Formatter<W>) -> fmt::Result {
+        f.write_str(match self {
+            Format::Pg => "pg",
+            Format::Hoa => "hoa",
+        })
+    }
 }

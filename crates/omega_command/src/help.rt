@@ -1,5 +1,7 @@
 mod canon;
 mod check;
+mod draw;
+mod empty;
 mod game;
 mod options;
 pub mod program;

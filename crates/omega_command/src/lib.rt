@@ -4,6 +4,7 @@
 mod command;
 mod help;
 mod line;
+mod version;
 mod words;
 
 pub use command::{Command, Format};

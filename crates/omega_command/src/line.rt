@@ -5,9 +5,19 @@ use crate::command::Command;
 pub enum Line {
     /// A command, and the most lifts of each of its runs.
     Run(Command, u64),
-    /// To verify a solution of the game in a file, and to explain a `no` where that is asked for.
-    Verify { file: String, explain: bool },
-    /// A text of help, which goes to standard output.
+    /// To verify a solution of the game in a file, or of the part that one node reaches, and to explain a `no` where
+    /// that is asked for.
+    Verify {
+        file: String,
+        /// The identifier of the node whose part is meant.
+        from: Option<u32>,
+        explain: bool,
+    },
+    /// To draw a game with the solution of it in a file.
+    DrawSolution {
+        file: String,
+    },
+    /// A text of help, or the version, which goes to standard output.
     Help(String),
     /// What is wrong with the command line, which goes to standard error.
     Fault(String),

@@ -18,6 +18,7 @@ pub mod line_for;
 pub mod mistake;
 pub mod number;
 pub mod options;
+mod values;
 
 /// What the words of a command line ask for, of which the first is the program's name. 60 alone.
 pub fn read_words<'a>(alloc: Global, words: &'a [String]) -> Result<Line, Refusal>

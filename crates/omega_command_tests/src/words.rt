@@ -1,291 +1,386 @@
-use omega_command::{Command, Format, Line, Refusal, read_words};
+use omega_command::read_words;
 use std::alloc::Global;
 use std::test::Fail;
 
-/// Command lines that are at fault, and what the text says of each.
-static FAULTS: [(&str, &str); 43] = [
-    ("", "requires a subcommand"),
-    ("frobnicate", "unrecognized subcommand 'frobnicate'"),
-    ("help", "unrecognized subcommand 'help'"),
-    ("empty", "unrecognized subcommand 'empty'"),
-    ("games", "unrecognized subcommand 'games'"),
-    ("--version", "unexpected argument '--version'"),
-    ("-V", "unexpected argument '-V'"),
-    ("show", "--format <FORMAT>"),
-    ("check", "--format <FORMAT>"),
-    ("canon", "--format <FORMAT>"),
+/// Command lines, and what each asks for, as it shows itself to a programmer. A budget that is not given is 2^40.
+static ASKED: [(&str, &str); 30] = [
+    ("omega show --format pg", "Run(Show(Pg), 1099511627776)"),
+    ("omega show --format hoa", "Run(Show(Hoa), 1099511627776)"),
+    ("omega check --format pg", "Run(Check(Pg), 1099511627776)"),
+    ("omega check --format=hoa", "Run(Check(Hoa), 1099511627776)"),
+    ("omega canon --format pg", "Run(Canon(Pg), 1099511627776)"),
+    ("omega canon --format hoa", "Run(Canon(Hoa), 1099511627776)"),
     (
-        "show --format",
+        "omega canon --format pg --from 4",
+        "Run(CanonPart { from: 4 }, 1099511627776)",
+    ),
+    (
+        "omega canon --from 0 --format pg",
+        "Run(CanonPart { from: 0 }, 1099511627776)",
+    ),
+    (
+        "omega solve",
+        "Run(Solve { player: None, from: None }, 1099511627776)",
+    ),
+    (
+        "omega solve --budget 0 --player 0",
+        "Run(Solve { player: Some(Zero), from: None }, 0)",
+    ),
+    (
+        "omega solve --from 2147483647 --player=1 --budget 7",
+        "Run(Solve { player: Some(One), from: Some(2147483647) }, 7)",
+    ),
+    (
+        "omega solve --search",
+        "Run(Search { from: None }, 1099511627776)",
+    ),
+    (
+        "omega solve --from 3 --search --budget 5",
+        "Run(Search { from: Some(3) }, 5)",
+    ),
+    (
+        "omega verify --game g",
+        "Verify { file: \"g\", from: None, explain: false }",
+    ),
+    (
+        "omega verify --game my\tgame.pg",
+        "Verify { file: \"my\\tgame.pg\", from: None, explain: false }",
+    ),
+    (
+        "omega verify --game g --explain",
+        "Verify { file: \"g\", from: None, explain: true }",
+    ),
+    (
+        "omega verify --explain --game g",
+        "Verify { file: \"g\", from: None, explain: true }",
+    ),
+    (
+        "omega verify --from 0 --game g",
+        "Verify { file: \"g\", from: Some(0), explain: false }",
+    ),
+    (
+        "omega verify --explain --game g --from=2147483647",
+        "Verify { file: \"g\", from: Some(2147483647), explain: true }",
+    ),
+    ("omega empty", "Run(Empty, 1099511627776)"),
+    ("omega empty --budget 0", "Run(Empty, 0)"),
+    (
+        "omega empty --budget=1099511627776",
+        "Run(Empty, 1099511627776)",
+    ),
+    ("omega empty --search", "Run(EmptySearch, 1099511627776)"),
+    ("omega game", "Run(Game, 1099511627776)"),
+    ("omega draw --format pg", "Run(Draw(Pg), 1099511627776)"),
+    ("omega draw --format hoa", "Run(Draw(Hoa), 1099511627776)"),
+    (
+        "omega draw --format hoa --lasso",
+        "Run(DrawLasso, 1099511627776)",
+    ),
+    (
+        "omega draw --solution s --format pg",
+        "DrawSolution { file: \"s\" }",
+    ),
+    ("--help show --format pg", "Run(Show(Pg), 1099511627776)"),
+    ("./o game", "Run(Game, 1099511627776)"),
+];
+
+/// Command lines that are at fault, and what is said of each.
+static FAULTS: [(&str, &str); 68] = [
+    ("omega", "requires a subcommand"),
+    ("omega frobnicate", "unrecognized subcommand 'frobnicate'"),
+    (
+        "omega help frobnicate",
+        "unrecognized subcommand 'frobnicate'",
+    ),
+    ("omega emptiness", "unrecognized subcommand 'emptiness'"),
+    ("omega games", "unrecognized subcommand 'games'"),
+    ("omega show --version", "unexpected argument '--version'"),
+    ("omega version", "unrecognized subcommand 'version'"),
+    ("omega show", "--format <FORMAT>"),
+    ("omega check", "--format <FORMAT>"),
+    ("omega canon", "--format <FORMAT>"),
+    (
+        "omega show --format",
         "a value is required for '--format <FORMAT>'",
     ),
     (
-        "show --format xyz",
+        "omega show --format xyz",
         "invalid value 'xyz' for '--format <FORMAT>'",
     ),
     (
-        "canon --format pg --format hoa",
+        "omega canon --format pg --format hoa",
         "cannot be used multiple times",
     ),
     (
-        "check --format HOA",
+        "omega check --format HOA",
         "invalid value 'HOA' for '--format <FORMAT>'",
     ),
     (
-        "show --format pg --format pg",
+        "omega show --format pg --format pg",
         "cannot be used multiple times",
     ),
     (
-        "show --format pg --budget 1",
+        "omega show --format pg --budget 1",
         "unexpected argument '--budget'",
     ),
-    ("show --format pg more", "unexpected argument 'more'"),
-    ("solve --player 2", "invalid value '2' for '--player <P>'"),
+    ("omega show --format pg more", "unexpected argument 'more'"),
     (
-        "solve --player +1",
+        "omega solve --player 2",
+        "invalid value '2' for '--player <P>'",
+    ),
+    (
+        "omega solve --player +1",
         "invalid value '+1' for '--player <P>': a number is written in digits, without a sign",
     ),
     (
-        "solve --player=-1",
+        "omega solve --player=-1",
         "invalid value '-1' for '--player <P>': a number is written in digits, without a sign",
     ),
     (
-        "solve --player 0 --player 0",
+        "omega solve --player 0 --player 0",
         "cannot be used multiple times",
     ),
     (
-        "solve --player 0 --budget 1099511627777",
+        "omega solve --player 0 --budget 1099511627777",
         "is not in 0..=1099511627776",
     ),
     (
-        "solve --player 0 --budget 99999999999999999999",
+        "omega solve --player 0 --budget 99999999999999999999",
         "invalid value '99999999999999999999' for '--budget <N>': the number is too large",
     ),
     (
-        "solve --player 0 --budget 1e3",
+        "omega solve --player 0 --budget 1e3",
         "invalid value '1e3' for '--budget <N>'",
     ),
     (
-        "solve --player 0 --budget +3",
+        "omega solve --player 0 --budget +3",
         "invalid value '+3' for '--budget <N>': a number is written in digits, without a sign",
     ),
     (
-        "solve --player 0 --from 2147483648",
+        "omega solve --player 0 --from 2147483648",
         "is not in 0..=2147483647",
     ),
     (
-        "solve --player 0 --from=+0",
+        "omega solve --player 0 --from=+0",
         "invalid value '+0' for '--from <ID>': a number is written in digits, without a sign",
     ),
     (
-        "solve --player 0 --from x",
+        "omega solve --player 0 --from x",
         "invalid value 'x' for '--from <ID>'",
     ),
-    ("solve --player 0 file", "unexpected argument 'file'"),
-    ("solve --budget", "a value is required for '--budget <N>'"),
-    ("solve --from 1 --from 1", "cannot be used multiple times"),
-    ("solve --format pg", "unexpected argument '--format'"),
+    ("omega solve --player 0 file", "unexpected argument 'file'"),
     (
-        "solve --search --player 0",
+        "omega solve --budget",
+        "a value is required for '--budget <N>'",
+    ),
+    (
+        "omega solve --from 1 --from 1",
+        "cannot be used multiple times",
+    ),
+    ("omega solve --format pg", "unexpected argument '--format'"),
+    ("omega solve --explain", "unexpected argument '--explain'"),
+    (
+        "omega solve --search --player 0",
         "'--search' and '--player <P>' are not given together",
     ),
-    ("solve --search --search", "cannot be used multiple times"),
-    ("verify --game a --search", "unexpected argument '--search'"),
-    ("game --format hoa", "unexpected argument '--format'"),
-    ("game --budget 1", "unexpected argument '--budget'"),
-    ("game a.hoa", "unexpected argument 'a.hoa'"),
-    ("verify", "--game <FILE>"),
-    ("verify --game", "a value is required for '--game <FILE>'"),
-    ("verify --game a --game b", "cannot be used multiple times"),
-    ("verify --game a b", "unexpected argument 'b'"),
     (
-        "verify --game a --budget 1",
+        "omega solve --search --search",
+        "cannot be used multiple times",
+    ),
+    (
+        "omega verify --game a --search",
+        "unexpected argument '--search'",
+    ),
+    ("omega verify --explain", "--game <FILE>"),
+    (
+        "omega canon --format hoa --from 4",
+        "'--from <ID>' goes with '--format pg' only",
+    ),
+    (
+        "omega canon --format hoa --from x",
+        "invalid value 'x' for '--from <ID>'",
+    ),
+    ("omega canon --from 4", "--format <FORMAT>"),
+    (
+        "omega canon --format pg --from 2147483648",
+        "is not in 0..=2147483647",
+    ),
+    (
+        "omega show --format pg --from 4",
+        "unexpected argument '--from'",
+    ),
+    ("omega verify --from 4", "--game <FILE>"),
+    (
+        "omega verify --game a --from",
+        "a value is required for '--from <ID>'",
+    ),
+    (
+        "omega verify --game a --from +4",
+        "invalid value '+4' for '--from <ID>': a number is written in digits, without a sign",
+    ),
+    (
+        "omega verify --game a --from 2147483648",
+        "is not in 0..=2147483647",
+    ),
+    ("omega empty --format hoa", "unexpected argument '--format'"),
+    ("omega empty --player 0", "unexpected argument '--player'"),
+    (
+        "omega empty --budget 1099511627777",
+        "is not in 0..=1099511627776",
+    ),
+    (
+        "omega empty --budget x",
+        "invalid value 'x' for '--budget <N>'",
+    ),
+    (
+        "omega empty --search --budget 1",
+        "'--search' and '--budget <N>' are not given together",
+    ),
+    (
+        "omega empty --budget 1099511627776 --search",
+        "'--search' and '--budget <N>' are not given together",
+    ),
+    ("omega draw", "--format <FORMAT>"),
+    (
+        "omega draw --format dot",
+        "invalid value 'dot' for '--format <FORMAT>'",
+    ),
+    (
+        "omega draw --format pg --lasso",
+        "'--lasso' goes with '--format hoa' only",
+    ),
+    (
+        "omega draw --format hoa --solution s",
+        "'--solution <FILE>' goes with '--format pg' only",
+    ),
+    (
+        "omega draw --lasso --solution s --format hoa",
+        "'--solution <FILE>' goes with '--format pg' only",
+    ),
+    (
+        "omega draw --format pg --solution",
+        "a value is required for '--solution <FILE>'",
+    ),
+    (
+        "omega draw --format pg --solution a --solution b",
+        "cannot be used multiple times",
+    ),
+    ("omega draw --format pg g", "unexpected argument 'g'"),
+    ("omega game --format hoa", "unexpected argument '--format'"),
+    ("omega game --budget 1", "unexpected argument '--budget'"),
+    ("omega game a.hoa", "unexpected argument 'a.hoa'"),
+    ("omega verify", "--game <FILE>"),
+    (
+        "omega verify --game",
+        "a value is required for '--game <FILE>'",
+    ),
+    (
+        "omega verify --game a --game b",
+        "cannot be used multiple times",
+    ),
+    ("omega verify --game a b", "unexpected argument 'b'"),
+    (
+        "omega verify --game a --budget 1",
         "unexpected argument '--budget'",
     ),
 ];
 
-/// Requests for help, and what the text says.
-static HELP: [(&str, &str); 32] = [
-    ("--help", "Usage: omega <COMMAND>"),
-    ("-h", "3  the budget is used up"),
-    ("--help", "0 1 0 1; 1 2 1 0"),
-    ("--help", "State: 0 [0] 0 {0} [!0] 0 --END--"),
-    ("show --help", "Usage: omega show --format <FORMAT>"),
-    ("show --help", "game nodes 2 edges 2 greatest 1"),
-    ("show --help", "hoa, omega-automata in the Hanoi format"),
+/// Requests for help or the version, and what the text says.
+static HELP: [(&str, &str); 52] = [
+    ("omega --help", "Usage: omega <COMMAND>"),
+    ("omega -h", "3  the budget is used up"),
+    ("omega -h", "6  the answer of `omega verify` is no"),
+    ("omega --help", "0 1 0 1; 1 2 1 0"),
+    ("omega --help", "State: 0 [0] 0 {0} [!0] 0 --END--"),
+    ("omega help", "Usage: omega <COMMAND>"),
+    ("omega help show", "Usage: omega show --format <FORMAT>"),
+    ("omega help empty", "accepting lasso"),
+    ("omega --help", "-V, --version"),
+    ("omega --version", "omega 1.0.0\\nproved by rattle-kit"),
+    ("omega -V", "omega 1.0.0\\nproved by rattle-kit"),
+    ("omega show --help", "Usage: omega show --format <FORMAT>"),
+    ("omega show --help", "game nodes 2 edges 2 greatest 1"),
     (
-        "show --help",
+        "omega show --help",
+        "hoa, omega-automata in the Hanoi format",
+    ),
+    (
+        "omega show --help",
         "1 automaton states 1 edges 1 propositions 0 sets 1 acceptance Inf(0)",
     ),
-    ("check --help", "Usage: omega check --format <FORMAT>"),
-    ("check -h", "omega: 3 Syntax at 17"),
-    ("check -h", "omega: 3 Syntax at 42"),
-    ("check -h", "14 TooManyEdges"),
-    ("check -h", "33 Expansion"),
-    ("canon --help", "Usage: omega canon --format <FORMAT>"),
-    ("canon --help", "4 2 0 9,4 \"a\";"),
-    ("canon --help", "[(0|t)&0] 0"),
-    ("canon -h", "--ABORT-- is left out"),
-    ("solve --help", "Usage: omega solve [OPTIONS]"),
-    ("solve --help", "paritysol 2;"),
-    ("solve --help", "--budget <N>"),
-    ("solve --help", "--search"),
-    ("solve --player 0 -h", "player 0 lifts 1"),
-    ("-h", "6  the answer of `omega verify` is no"),
+    ("omega check --help", "Usage: omega check --format <FORMAT>"),
+    ("omega check -h", "omega: 3 Syntax at 17"),
+    ("omega check -h", "omega: 3 Syntax at 42"),
+    ("omega check -h", "14 TooManyEdges"),
+    ("omega check -h", "33 Expansion"),
     (
-        "verify --help",
+        "omega canon --help",
+        "Usage: omega canon [OPTIONS] --format <FORMAT>",
+    ),
+    (
+        "omega canon -h",
+        "echo '0 0 0 1; 1 1 1 1; 2 2 0 0;' | omega canon --format pg --from 0",
+    ),
+    ("omega canon --help", "9 3 1 4;"),
+    ("omega canon --help", "[(0|t)&0] 0"),
+    ("omega canon -h", "--ABORT-- is left out"),
+    ("omega solve --help", "Usage: omega solve [OPTIONS]"),
+    ("omega solve --help", "paritysol 2;"),
+    ("omega solve --help", "--budget <N>"),
+    ("omega solve --help", "--search"),
+    ("omega solve --player 0 -h", "player 0 lifts 1"),
+    (
+        "omega verify --help",
         "Usage: omega verify [OPTIONS] --game <FILE>",
     ),
-    ("verify -h", "53 BadSolution"),
-    ("game -h", "accepting lasso"),
-    ("game -h", "generalized-Buchi K"),
-    ("game -h", "40 NotParity"),
-    ("game -h", "omega game | omega show --format pg"),
-    ("game --help", "Usage: omega game"),
-    ("game --help", "0 0 0 2,3;"),
-    ("game -h", "the sink"),
+    ("omega verify -h", "53 BadSolution"),
+    ("omega verify -h", "omega verify --game game.pg --from 0"),
+    ("omega verify -h", "54 UnknownNode"),
+    ("omega empty --help", "Usage: omega empty [OPTIONS]"),
+    ("omega empty --help", "--budget <N>"),
+    ("omega empty --help", "stem 1"),
+    ("omega empty -h", "accepting lasso"),
+    ("omega empty -h", "generalized-Buchi K"),
+    ("omega empty -h", "40 NotParity"),
+    ("omega empty -h", "omega game | omega show --format pg"),
+    ("omega empty -h", "near-linear in the automaton"),
+    ("omega game -h", "accepting lasso"),
+    ("omega game -h", "generalized-Buchi K"),
+    ("omega game -h", "40 NotParity"),
+    ("omega game -h", "omega game | omega show --format pg"),
+    ("omega game --help", "Usage: omega game"),
+    (
+        "omega draw --help",
+        "Usage: omega draw [OPTIONS] --format <FORMAT>",
+    ),
+    ("omega draw -h", "| dot -Tsvg > game.svg"),
+    ("omega draw -h", "omega draw --format hoa --lasso"),
+    ("omega game --help", "0 0 0 2,3;"),
+    ("omega game -h", "the sink"),
 ];
 
-/// The words of a command line, the program's name first.
-fn words_of(alloc: Global, line: &str) -> Result<Vec<String>, Fail> {
+/// What a command line, whose words have a blank between them, is read as.
+fn read(alloc: Global, typed: &str) -> Result<String, Fail> {
     let mut words = Vec::new(alloc);
-    words.push(String::from_str(alloc, "omega")?)?;
-    for word in line.split_whitespace() {
+    for word in typed.split(' ') {
         words.push(String::from_str(alloc, word)?)?;
     }
-    Ok(words)
-}
-
-/// The text of the fault that a command line has, or Io where it has none.
-fn fault_of(alloc: Global, line: &str) -> Result<String, Fail> {
-    let words = words_of(alloc, line)?;
-    match read_words(alloc, words.as_slice())? {
-        Line::Fault(text) => Ok(text),
-        _ => Err(Fail::from(Refusal::Io)),
-    }
-}
-
-/// The text of help that a command line asks for, or Io where it asks for none.
-fn help_of(alloc: Global, line: &str) -> Result<String, Fail> {
-    let words = words_of(alloc, line)?;
-    match read_words(alloc, words.as_slice())? {
-        Line::Help(text) => Ok(text),
-        _ => Err(Fail::from(Refusal::Io)),
-    }
+    let line = read_words(alloc, words.as_slice())?;
+    Ok(format!(in alloc; "{line:?}")?)
 }
 
 #[test]
-fn faults_of_the_command_line(rt: HostRuntime) -> Result<(), Fail> {
-    for (words, says) in FAULTS.as_slice() {
-        let text = fault_of(rt.alloc(), words)?;
-        assert!(rt; text.as_str().starts_with("error: "), "{words}: {text}");
-        assert!(rt; text.as_str().contains(*says), "{words}: {text}");
-    }
-    Ok(())
-}
-
-#[test]
-fn help_that_was_asked_for(rt: HostRuntime) -> Result<(), Fail> {
-    for (words, says) in HELP.as_slice() {
-        let text = help_of(rt.alloc(), words)?;
-        assert!(rt; text.as_str().contains(*says), "{words}: {text}");
-    }
-    Ok(())
-}
-
-#[test]
-fn names_the_file_of_the_game(rt: HostRuntime) -> Result<(), Fail> {
-    let mut words = Vec::new(rt.alloc());
-    for word in ["omega", "verify", "--game", "my game.pg"] {
-        words.push(String::from_str(rt.alloc(), word)?)?;
-    }
-    let is_named = match read_words(rt.alloc(), words.as_slice())? {
-        Line::Verify { file, explain } => file.as_str() == "my game.pg" && !explain,
-        _ => false,
-    };
-    assert!(rt; is_named);
-    Ok(())
-}
-
-/// Whether a command line asks for a `no` to be explained, none where it does not ask to verify.
-fn explains(alloc: Global, line: &str) -> Result<Option<bool>, Fail> {
-    let words = words_of(alloc, line)?;
-    match read_words(alloc, words.as_slice())? {
-        Line::Verify { explain, .. } => Ok(Some(explain)),
-        _ => Ok(None),
-    }
-}
-
-#[test]
-fn asks_for_an_explanation(rt: HostRuntime) -> Result<(), Fail> {
-    assert_eq!(rt;
-        explains(rt.alloc(), "verify --game g --explain")?,
-        Some(true)
-    );
-    assert_eq!(rt;
-        explains(rt.alloc(), "verify --explain --game g")?,
-        Some(true)
-    );
-    assert_eq!(rt; explains(rt.alloc(), "verify --game g")?, Some(false));
-    assert_eq!(rt; explains(rt.alloc(), "verify --explain")?, None);
-    assert_eq!(rt; explains(rt.alloc(), "solve --explain")?, None);
-    Ok(())
-}
-
-/// Whether a command line asks for the search, and from which node.
-fn search_of(alloc: Global, line: &str) -> Result<Option<Option<u32>>, Fail> {
-    let words = words_of(alloc, line)?;
-    match read_words(alloc, words.as_slice())? {
-        Line::Run(Command::Search { from }, _) => Ok(Some(from)),
-        _ => Ok(None),
-    }
-}
-
-#[test]
-fn asks_for_the_search(rt: HostRuntime) -> Result<(), Fail> {
-    for (words, asked) in [
-        ("solve", None),
-        ("solve --player 0", None),
-        ("solve --search", Some(None)),
-        ("solve --from 3 --search --budget 5", Some(Some(3))),
+fn reads_command_lines(rt: HostRuntime) -> Result<(), Fail> {
+    for (begins, table) in [
+        ("", ASKED.as_slice()),
+        ("Fault(\"error: ", FAULTS.as_slice()),
+        ("Help(\"", HELP.as_slice()),
     ] {
-        assert_eq!(rt; search_of(rt.alloc(), words)?, asked, "{words}");
-    }
-    Ok(())
-}
-
-#[test]
-fn asks_for_the_game(rt: HostRuntime) -> Result<(), Fail> {
-    let words = words_of(rt.alloc(), "game")?;
-    let is_asked = match read_words(rt.alloc(), words.as_slice())? {
-        Line::Run(Command::Game, _) => true,
-        _ => false,
-    };
-    assert!(rt; is_asked);
-    Ok(())
-}
-
-/// Whether a command line asks what a text of this format stands for, to be shown, judged or written.
-fn is_for_format(alloc: Global, line: &str, wanted: Format) -> Result<bool, Fail> {
-    let words = words_of(alloc, line)?;
-    match read_words(alloc, words.as_slice())? {
-        Line::Run(Command::Show(format), _) => Ok(format == wanted),
-        Line::Run(Command::Check(format), _) => Ok(format == wanted),
-        Line::Run(Command::Canon(format), _) => Ok(format == wanted),
-        _ => Ok(false),
-    }
-}
-
-#[test]
-fn asks_for_a_format(rt: HostRuntime) -> Result<(), Fail> {
-    for (words, format) in [
-        ("show --format pg", Format::Pg),
-        ("show --format hoa", Format::Hoa),
-        ("check --format pg", Format::Pg),
-        ("check --format=hoa", Format::Hoa),
-        ("canon --format pg", Format::Pg),
-        ("canon --format hoa", Format::Hoa),
-    ] {
-        assert!(rt; is_for_format(rt.alloc(), words, format)?, "{words}");
+        for (typed, says) in table {
+            let line = read(rt.alloc(), typed)?;
+            assert!(rt; line.as_str().starts_with(begins), "{typed}: {line}");
+            assert!(rt; line.as_str().contains(*says), "{typed}: {line}");
+        }
     }
     Ok(())
 }

@@ -1,4 +1,4 @@
-use super::options::format_option;
+use super::options::{format_option, from_option};
 use clap::Command;
 use std::alloc::{AllocError, Global};
 
@@ -13,6 +13,15 @@ order of identifiers.
   parity 9;
   4 2 0 9,4 \"a\";
   9 3 1 4;
+
+--from ID writes the part of the game that is reached from the node with that identifier, in the same
+form: a game of its own, whose nodes keep their identifiers. It is the game that `omega solve --from ID`
+solves. Where no node has the identifier, 54 UnknownNode is told. It goes with --format pg only.
+
+  $ echo '0 0 0 1; 1 1 1 1; 2 2 0 0;' | omega canon --format pg --from 0
+  parity 1;
+  0 0 0 1;
+  1 1 1 1;
 
 --format hoa writes automata, one behind the other: the header of each in a fixed order, then its
 states and edges in the order given, with aliases replaced, only the parentheses that are needed, and
@@ -33,13 +42,17 @@ is written.
 A text that is refused writes nothing but one line on standard error. `omega check --help` lists the
 refusals of both formats.
 
-Exit status: 0 done, 1 the text is refused, 2 the command line is wrong, 4 out of memory, 5 a read or
-a write failed.";
+Exit status: 0 done, 1 the text or the task is refused, 2 the command line is wrong, 4 out of memory, 5
+a read or a write failed.";
 
 /// The subcommand that writes the one text of a value.
 pub fn canon_command<'a>(alloc: Global) -> Result<Command<'a>, AllocError> {
     Command::new(alloc, "canon")
         .about("Write a game, or automata, in canonical form")
         .after_help(DETAILS)
-        .arg(format_option(alloc))
+        .arg(format_option(alloc))?
+        .arg(from_option(
+            alloc,
+            "Write only the part of a game that the node with this identifier reaches",
+        ))
 }

@@ -32,6 +32,7 @@ sink, K * (S + E), stands behind all rows. Starts are those of row 0.
 
 `omega game | omega solve` solves the game, and `omega game | omega show --format pg` writes the bounds
 on lifts: where several priorities lose, solving can take as many lifts as the bound says.
+`omega empty` writes a lasso itself.
 
 There is a game for these names in `acc-name:`, with the formula that the Hanoi format gives to each:
 all, none, Buchi, co-Buchi, parity max even K, parity max odd K, parity min even K, parity min odd K,

@@ -34,19 +34,20 @@ pub fn player_option<'a>(alloc: Global) -> Arg<'a> {
         .help("Solve for this player alone, 0 or 1")
 }
 
-/// The option that names the node whose part is solved.
-pub fn from_option<'a>(alloc: Global) -> Arg<'a> {
-    Arg::new(alloc, "from").long("from").value_name("ID").help(
-        "Solve only the part that the node with this identifier reaches",
-    )
+/// The option that names the node whose part is meant, with what is done with the part.
+pub fn from_option<'a>(alloc: Global, help: &'a str) -> Arg<'a> {
+    Arg::new(alloc, "from")
+        .long("from")
+        .value_name("ID")
+        .help(help)
 }
 
-/// The flag that takes the search in place of lifting.
-pub fn search_option<'a>(alloc: Global) -> Arg<'a> {
+/// The flag that takes a search in place of lifting, with what it does for its subcommand.
+pub fn search_option<'a>(alloc: Global, help: &'a str) -> Arg<'a> {
     Arg::new(alloc, "search")
         .long("search")
         .action(ArgAction::SetTrue)
-        .help("Solve by a search whose answer is judged, which is far quicker on large games")
+        .help(help)
 }
 
 /// The flag that asks why a solution is not right.
@@ -63,4 +64,20 @@ pub fn budget_option<'a>(alloc: Global) -> Arg<'a> {
         .long("budget")
         .value_name("N")
         .help("Give up after N lifts, 0 to 1099511627776, which is also the default")
+}
+
+/// The option that names the file of a solution.
+pub fn solution_option<'a>(alloc: Global) -> Arg<'a> {
+    Arg::new(alloc, "solution")
+        .long("solution")
+        .value_name("FILE")
+        .help("Draw the solution of the game in this file too")
+}
+
+/// The flag that asks for a lasso to be drawn.
+pub fn lasso_option<'a>(alloc: Global) -> Arg<'a> {
+    Arg::new(alloc, "lasso")
+        .long("lasso")
+        .action(ArgAction::SetTrue)
+        .help("Draw an accepting lasso of the automaton too")
 }

@@ -1,9 +1,12 @@
 use super::canon::canon_command;
 use super::check::check_command;
+use super::draw::draw_command;
+use super::empty::empty_command;
 use super::game::game_command;
 use super::show::show_command;
 use super::solve::solve_command;
 use super::verify::verify_command;
+use crate::version::VERSION;
 use clap::Command;
 use std::alloc::{AllocError, Global};
 
@@ -26,7 +29,8 @@ A text of the Hanoi format, version 1, holds omega-automata, one behind the othe
 
 Here one state has two edges to itself: one where a holds, which is in set 0, and one where it does
 not; what takes the first again and again is accepted. `omega show`, `check` and `canon` read both
-formats, and --format says which. `omega game` reads one automaton.
+formats, and --format says which. `omega empty` and `omega game` read one automaton, and `omega draw`
+draws one automaton or a game.
 
 What is read comes from standard input, and the answer goes to standard output. Where a text or the
 task is refused, one line on standard error says why, as `omega: 3 Syntax at 0` for a text that
@@ -48,15 +52,17 @@ pub fn whole_program<'a>(alloc: Global) -> Result<Command<'a>, AllocError> {
     Command::new(alloc, "omega")
         .bin_name("omega")?
         .about(
-            "Reads, checks and writes parity games and omega-automata, solves games, verifies their solutions, and makes the emptiness games of automata.",
+            "Reads, checks, writes and draws parity games and omega-automata, solves games, verifies their solutions, and says whether an automaton accepts nothing.",
         )
+        .version(VERSION)
         .after_help(DETAILS)
         .subcommand_required(true)
-        .disable_help_subcommand(true)
         .subcommand(show_command(alloc)?)?
         .subcommand(check_command(alloc)?)?
         .subcommand(canon_command(alloc)?)?
         .subcommand(solve_command(alloc)?)?
         .subcommand(verify_command(alloc)?)?
-        .subcommand(game_command(alloc)?)
+        .subcommand(empty_command(alloc)?)?
+        .subcommand(game_command(alloc)?)?
+        .subcommand(draw_command(alloc)?)
 }

@@ -42,8 +42,9 @@ by lifting, within the budget. It is for both players: --player is not given bes
 
 --from ID solves the part of the game that is reached from the node with that identifier, and writes
 of those nodes alone. Nothing else of the game has a say in who wins them. Where no node has the
-identifier, 54 UnknownNode is told. 50 TooWide is told of games for which nodes times priorities that
-lose for a player are over 67108864.
+identifier, 54 UnknownNode is told. `omega canon --format pg --from ID` writes the part as a game of its
+own, and `omega verify --from ID` checks a solution of it. 50 TooWide is told of games for which nodes
+times priorities that lose for a player are over 67108864.
 
 Exit status: 0 done, 1 the text or the task is refused, 2 the command line is wrong, 3 the budget is
 used up, 4 out of memory, 5 a read or a write failed.";
@@ -54,7 +55,13 @@ pub fn solve_command<'a>(alloc: Global) -> Result<Command<'a>, AllocError> {
         .about("Find who wins each node of a game, and how")
         .after_help(DETAILS)
         .arg(player_option(alloc))?
-        .arg(from_option(alloc))?
-        .arg(search_option(alloc))?
+        .arg(from_option(
+            alloc,
+            "Solve only the part that the node with this identifier reaches",
+        ))?
+        .arg(search_option(
+            alloc,
+            "Solve by a search whose answer is judged, which is far quicker on large games",
+        ))?
         .arg(budget_option(alloc))
 }

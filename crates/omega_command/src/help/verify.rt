@@ -1,4 +1,4 @@
-use super::options::{explain_option, game_option};
+use super::options::{explain_option, from_option, game_option};
 use clap::Command;
 use std::alloc::{AllocError, Global};
 
@@ -23,14 +23,22 @@ With --explain three lines follow `no`: the first player whose choices do not wi
 walk that they leave possible from a node given to that player. From the last node of the cycle the
 walk goes back to the first; the greatest priority on the cycle loses for the player.
 
-A solution text is what `omega solve` writes: a header with the greatest identifier of the game, then
+--from ID judges a solution of the part of the game that is reached from the node with that identifier,
+as `omega solve --from ID` writes it; the file has the whole game. Where no node has the identifier,
+54 UnknownNode is told.
+
+  $ echo '0 0 0 1; 1 1 1 1; 2 2 0 0;' > game.pg
+  $ omega solve --from 0 < game.pg | omega verify --game game.pg --from 0
+  yes
+
+A solution text is what `omega solve` writes: a header with the greatest identifier of the game or part, then
 a line for each node in rising order of identifiers, with the player who wins from it and, exactly
 where that player owns the node, one of its successors. Any other text of this kind is refused as
 53 BadSolution. What is wrong with the game is told before what is wrong with the solution. A file
 that can't be read is told as 61 Io.
 
-Exit status: 0 yes, 1 a text is refused, 2 the command line is wrong, 4 out of memory, 5 a read or a
-write failed, 6 no.";
+Exit status: 0 yes, 1 a text or the task is refused, 2 the command line is wrong, 4 out of memory, 5 a
+read or a write failed, 6 no.";
 
 /// The subcommand that checks a solution of a game.
 pub fn verify_command<'a>(alloc: Global) -> Result<Command<'a>, AllocError> {
@@ -38,5 +46,9 @@ pub fn verify_command<'a>(alloc: Global) -> Result<Command<'a>, AllocError> {
         .about("Say whether a solution of a game is right")
         .after_help(DETAILS)
         .arg(game_option(alloc))?
+        .arg(from_option(
+            alloc,
+            "Judge a solution of only the part that the node with this identifier reaches",
+        ))?
         .arg(explain_option(alloc))
 }

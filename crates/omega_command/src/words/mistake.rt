@@ -2,6 +2,7 @@ ghost use Rattle.std.specs.Prelude.{◌≢◌, IfOk};
 ghost use Rattle.omega_command.specs.declared.words.mistake.Mistake.TheVariants as mistake;
 
 use super::options::OptionName;
+use crate::command::Format;
 use std::alloc::{AllocError, AllocFailed, Global};
 use std::fmt;
 
@@ -16,6 +17,8 @@ pub enum Mistake<'a> {
     Value(OptionName, &'a str, Reason),
     /// The two options are not given together.
     Conflict(OptionName, OptionName),
+    /// The option goes with this format only, and another is given.
+    OnlyWith(OptionName, Format),
     /// There is no memory for what is asked for.
     Memory,
 }
@@ -67,6 +70,9 @@ impl Mistake<'_> {
             }
             Mistake::Conflict(one, other) => {
                 format!(in alloc; "error: '{one}' and '{other}' are not given together{end}")
+            }
+            Mistake::OnlyWith(name, format) => {
+                format!(in alloc; "error: '{name}' goes with '--format {format}' only{end}")
             }
             Mistake::Memory => Err(AllocError),
         }

@@ -15,6 +15,8 @@ pub enum OptionName {
     Search,
     Game,
     Explain,
+    Solution,
+    Lasso,
 }
 
 impl fmt::Display for OptionName {
@@ -27,6 +29,8 @@ impl fmt::Display for OptionName {
             OptionName::Search => "--search",
             OptionName::Game => "--game <FILE>",
             OptionName::Explain => "--explain",
+            OptionName::Solution => "--solution <FILE>",
+            OptionName::Lasso => "--lasso",
         })
     }
 }
@@ -43,6 +47,9 @@ pub struct Options<'a> {
     pub game: Option<&'a str>,
     /// As `search`.
     pub explain: Option<&'a str>,
+    pub solution: Option<&'a str>,
+    /// As `search`.
+    pub lasso: Option<&'a str>,
 }
 
 impl<'a> Options<'a> {
@@ -58,6 +65,8 @@ impl<'a> Options<'a> {
             search: found.get_str("search"),
             game: found.get_str("game"),
             explain: found.get_str("explain"),
+            solution: found.get_str("solution"),
+            lasso: found.get_str("lasso"),
         }
     }
 }

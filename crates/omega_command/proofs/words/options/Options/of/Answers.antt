@@ -3,7 +3,7 @@ use Rattle.std.proofs.Common.{◌∙◌}
 use Rattle.clap.proofs.WalkLemmas.{first_value-rows}
 use Rattle.clap.specs.Words.{found_of}
 use Rattle.omega_command.specs.CommandLine.{id_of}
-use Rattle.omega_command.specs.declared.words.options.OptionName.TheVariants.{Format, Player, From, Budget, Search, Game, Explain}
+use Rattle.omega_command.specs.declared.words.options.OptionName.TheVariants.{Format, Player, From, Budget, Search, Game, Explain, Solution, Lasso}
 use Rattle.omega_command.proofs.words.options.Options.of.Goals as goal
 
 pub returns : goal.returns
@@ -14,3 +14,5 @@ returns c Budget = c.get_str-4.ensures ∙ first_value-rows (found_of c.args.fou
 returns c Search = c.get_str-5.ensures ∙ first_value-rows (found_of c.args.found.now) (id_of Search)
 returns c Game = c.get_str-6.ensures ∙ first_value-rows (found_of c.args.found.now) (id_of Game)
 returns c Explain = c.get_str-7.ensures ∙ first_value-rows (found_of c.args.found.now) (id_of Explain)
+returns c Solution = c.get_str-8.ensures ∙ first_value-rows (found_of c.args.found.now) (id_of Solution)
+returns c Lasso = c.get_str-9.ensures ∙ first_value-rows (found_of c.args.found.now) (id_of Lasso)
