@@ -1,4 +1,4 @@
--- The place that an identifier names, and the regions of the part that it reaches.
+-- The place that an identifier names.
 use Rattle.std.proofs.Common.{◌≡◌, ℕ, ◌<◌, ◌==◌, Bool, true, false, List, Some, None, cond, length, get_or, refl, sym, ◌∙◌, arith}
 use Rattle.std.specs.List.{position, position_or_len}
 use Rattle.std.proofs.lemmas.Bool.{eqb-false, eqb-true, ltb-false}
@@ -6,7 +6,7 @@ use Rattle.std.proofs.lemmas.List.{get_or-map, length-map}
 use Rattle.std.proofs.lemmas.List.Quantifiers.{position-Some}
 use Rattle.std.proofs.lemmas.List.Sums.{fails_before_first}
 use Rattle.omega_game.specs.Game.{Node, identifiers, no_node, node_at}
-use Rattle.omega_answers.specs.solve.Solving.{HasIdentifier}
+use Rattle.omega_answers.specs.Part.{HasIdentifier, IsUnknown}
 
 identifier-at : (nodes : List Node) (v : ℕ) → v < length nodes → get_or (identifiers nodes) v 0 ≡ (node_at nodes v).identifier
 identifier-at nodes v h = get_or-map (λ (node : Node). node.identifier) nodes v no_node 0 h
@@ -25,7 +25,7 @@ none_before false n e = refl
 
 -- no place has an identifier that stands nowhere
 pub identified-nowhere : (nodes : List Node) (identifier : ℕ) → position (λ x. x == identifier) (identifiers nodes) ≡ None
-    → (place : ℕ) → HasIdentifier nodes identifier place → ⊥
+    → IsUnknown nodes identifier
 identified-nowhere nodes identifier e place identified =
     let first = position_or_len (λ x. x == identifier) (identifiers nodes) in
     let past = ltb-false first (length (identifiers nodes)) (none_before _ first e) in

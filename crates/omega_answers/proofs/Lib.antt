@@ -1,7 +1,10 @@
 -- Lemmas by theme.
+pub mod Accepting
 pub mod Explaining
 pub mod Identifiers
+pub mod Parts
 pub mod Places
 pub mod Solutions
+pub mod Solved
 pub mod Solving
 pub mod Verifying

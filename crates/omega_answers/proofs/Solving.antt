@@ -7,16 +7,16 @@ use Rattle.omega_text.specs.declared.refusal.Refusal.TheVariants.{Automaton, Gam
 use Rattle.omega_text.specs.declared.refusal.task.TaskFault.TheVariants.{BadSolution, Budget, NotParity, TooManyPropositions, TooWide, UniversalBranch, UnknownNode}
 use Rattle.omega_game.specs.declared.player.Player.{Player}
 use Rattle.omega_game.specs.Game.{Node, priorities}
-use Rattle.omega_game.specs.Part.{IsPart}
 use Rattle.omega_measure.specs.Table.{is_too_wide}
 use Rattle.omega_solve.specs.Headline.{IsExact}
 use Rattle.omega_solve.specs.Within.{IsBudgetRefusal, IsFound}
 use Rattle.omega_solve.specs.declared.found.Found.{Found}
+use Rattle.omega_answers.specs.Part.{IsPartFrom}
 use Rattle.omega_answers.specs.solve.AnswerText.{IsAnswerOf, WinsExactly, answer_text}
 use Rattle.omega_answers.specs.declared.solve.asked.Asked.{Asked}
 use Rattle.omega_answers.specs.solve.Refusing.{IsSolvedFor}
-use Rattle.omega_answers.specs.solve.Solving.{HasIdentifier}
 use Rattle.omega_answers.specs.steps.GameRefusal.{IsGameRefusal}
+use Rattle.omega_answers.specs.steps.PartRefusal.{IsPartRefusal}
 use Rattle.omega_answers.specs.steps.Places.{places_from}
 use Rattle.omega_answers.proofs.Places.{Contains-places_from, IsStrictlyIncreasing-places_from, places_from-true}
 
@@ -80,21 +80,29 @@ refused-budget nodes asked player budget (Game fault) narrow solved_for h = h
 refused-budget nodes asked player budget (Automaton fault) narrow solved_for h = h
 refused-budget nodes asked player budget Io narrow solved_for h = h
 
+-- what refuses taking the part of a node refuses the solving from it
+pub refused-unknown : (game : List Node) (asked : Asked) (identifier budget : ℕ) (refusal : Refusal)
+    → IsPartRefusal game identifier refusal → IsGameRefusal game asked (Some identifier) budget refusal
+refused-unknown game asked identifier budget (Task fault) (e, unknown) = rw e unknown
+refused-unknown game asked identifier budget Memory h = tt
+refused-unknown game asked identifier budget (Text fault) h = h
+refused-unknown game asked identifier budget (Game fault) h = h
+refused-unknown game asked identifier budget (Automaton fault) h = h
+refused-unknown game asked identifier budget Io h = h
+
 -- what refuses the part of a node refuses the solving from it
-pub refused-part : (game : List Node) (asked : Asked) (identifier budget place : ℕ) (part : List Node) (refusal : Refusal)
-    → HasIdentifier game identifier place → IsPart game place part → IsGameRefusal part asked None budget refusal
+pub refused-part : (game : List Node) (asked : Asked) (identifier budget : ℕ) (part : List Node) (refusal : Refusal)
+    → IsPartFrom game identifier part → IsGameRefusal part asked None budget refusal
     → IsGameRefusal game asked (Some identifier) budget refusal
-refused-part game asked identifier budget place part (Task UnknownNode) identified reached h = absurd h
-refused-part game asked identifier budget place part (Task TooWide) identified reached h =
-    record { place = place; identified = identified; part = part; reached = reached; fault_there = h }
-refused-part game asked identifier budget place part (Task Budget) identified reached h =
-    record { place = place; identified = identified; part = part; reached = reached; fault_there = h }
-refused-part game asked identifier budget place part (Task BadSolution) identified reached h = absurd h
-refused-part game asked identifier budget place part (Task NotParity) identified reached h = absurd h
-refused-part game asked identifier budget place part (Task UniversalBranch) identified reached h = absurd h
-refused-part game asked identifier budget place part (Task TooManyPropositions) identified reached h = absurd h
-refused-part game asked identifier budget place part Memory identified reached h = tt
-refused-part game asked identifier budget place part (Text fault) identified reached h = h
-refused-part game asked identifier budget place part (Game fault) identified reached h = h
-refused-part game asked identifier budget place part (Automaton fault) identified reached h = h
-refused-part game asked identifier budget place part Io identified reached h = h
+refused-part game asked identifier budget part (Task UnknownNode) part_of h = absurd h
+refused-part game asked identifier budget part (Task TooWide) part_of h = record { part = part; part_of = part_of; fault_there = h }
+refused-part game asked identifier budget part (Task Budget) part_of h = record { part = part; part_of = part_of; fault_there = h }
+refused-part game asked identifier budget part (Task BadSolution) part_of h = absurd h
+refused-part game asked identifier budget part (Task NotParity) part_of h = absurd h
+refused-part game asked identifier budget part (Task UniversalBranch) part_of h = absurd h
+refused-part game asked identifier budget part (Task TooManyPropositions) part_of h = absurd h
+refused-part game asked identifier budget part Memory part_of h = tt
+refused-part game asked identifier budget part (Text fault) part_of h = h
+refused-part game asked identifier budget part (Game fault) part_of h = h
+refused-part game asked identifier budget part (Automaton fault) part_of h = h
+refused-part game asked identifier budget part Io part_of h = h

@@ -12,9 +12,8 @@ use Rattle.omega_pg.specs.solution.Solution.{choices_of}
 use Rattle.omega_pg.specs.declared.solution.Solution.{Solution}
 use Rattle.omega_answers.specs.solve.Solution.{WinsAsGiven, WinsGiven}
 use Rattle.omega_pg.specs.solution.Text.{IsSolutionText}
-use Rattle.omega_pg.specs.game.Text.{IsGameText}
 use Rattle.omega_io.specs.declared.exit.Exit.{Exit}
-use Rattle.omega_answers.specs.Verify.{IsVerdict, IsVerifyAnswer}
+use Rattle.omega_answers.specs.Verify.{IsJudged, IsVerdict, IsVerifyAnswer}
 use Rattle.omega_answers.specs.steps.Verdict.{given_to, is_given, verdict_exit, verdict_text}
 use Rattle.omega_answers.proofs.Places.{slice_get-true}
 use Rattle.omega_answers.proofs.Solving.{Contains-won, won-Contains}
@@ -97,12 +96,12 @@ verdict_by : (nodes : List Node) (solution : Solution) (is_right : Bool) → IsT
 verdict_by nodes solution true wins = (wins.0 refl, refl)
 verdict_by nodes solution false wins = (λ all. let t : false ≡ true = wins.1 all in cc, refl)
 
-pub verdict-answers : (game_text text : List ℕ) (exit : Exit) (output : List ℕ) (nodes : List Node) (solution : Solution) (is_right : Bool)
-    → IsGameText game_text nodes → IsSolutionText nodes text solution → IsTrue is_right ↔ WinsAsGiven nodes solution
-    → exit ≡ verdict_exit is_right → output ≡ verdict_text is_right → IsVerifyAnswer game_text false text exit output
-verdict-answers game_text text exit output nodes solution is_right game read wins ends written = record {
+pub verdict-answers : (game_text : List ℕ) (from : Option ℕ) (text : List ℕ) (exit : Exit) (output : List ℕ) (nodes : List Node) (solution : Solution) (is_right : Bool)
+    → IsJudged game_text from nodes → IsSolutionText nodes text solution → IsTrue is_right ↔ WinsAsGiven nodes solution
+    → exit ≡ verdict_exit is_right → output ≡ verdict_text is_right → IsVerifyAnswer game_text from text false exit output
+verdict-answers game_text from text exit output nodes solution is_right judged read wins ends written = record {
   game = nodes;
-  game_read = game;
+  judged = judged;
   solution = solution;
   read = read;
   verdict = rw (ends, written) (verdict_by nodes solution is_right wins);

@@ -1,5 +1,5 @@
--- What `verify` answers for a game text and a solution text.
-use Rattle.std.specs.Prelude.{◌≡◌, ◌⊎◌, ◌<◌, ◌++◌, ◌∷◌, [], Bool, true, false, List, ℕ, codes, decimal, length}
+-- What `verify` answers for a game text, or a part of its game, and a solution text.
+use Rattle.std.specs.Prelude.{◌≡◌, ◌⊎◌, ◌<◌, ◌++◌, ◌∷◌, [], Bool, true, false, List, Option, Some, None, ℕ, codes, decimal, length}
 use Rattle.std.specs.List.{flat_map}
 use Rattle.omega_text.specs.declared.refusal.Refusal.{Refusal}
 use Rattle.omega_game.specs.declared.lasso.Lasso.{Lasso}
@@ -15,6 +15,7 @@ use Rattle.omega_pg.specs.game.Text.{IsGameText}
 use Rattle.omega_pg.specs.declared.solution.Solution.{Solution}
 use Rattle.omega_io.specs.declared.exit.Exit.{Exit}
 use Rattle.omega_io.specs.declared.exit.Exit.TheVariants.{Done, No}
+use Rattle.omega_answers.specs.Part.{IsPartText, IsPartTextRefusal}
 use Rattle.omega_answers.specs.solve.Solution.{WinsAsGiven, WinsGiven}
 
 -- the identifiers of the nodes at the places, a space before each
@@ -48,20 +49,30 @@ IsVerdict nodes solution explain Done output = WinsAsGiven nodes solution × (ou
 IsVerdict nodes solution false No output = (¬ WinsAsGiven nodes solution) × (output ≡ codes "no\n")
 IsVerdict nodes solution true No output = IsExplained nodes solution output
 
--- what `verify` answers: the texts stand for a game and for a solution of it, and the verdict is written
-pub record IsVerifyAnswer (game_text : List ℕ) (explain : Bool) (text : List ℕ) (exit : Exit) (output : List ℕ) : Type 0 where
+-- the game that is judged: that of the text, or where an identifier is given, the part of it that its node reaches
+abbrev pub IsJudged : List ℕ → Option ℕ → List Node → Type 0
+IsJudged game_text None game = IsGameText game_text game
+IsJudged game_text (Some identifier) game = IsPartText game_text identifier game
+
+-- what `verify` answers: the texts stand for a game that is judged and for a solution of it, and the verdict is written
+pub record IsVerifyAnswer (game_text : List ℕ) (from : Option ℕ) (text : List ℕ) (explain : Bool) (exit : Exit) (output : List ℕ) : Type 0 where
   pub game : List Node
-  pub game_read : IsGameText game_text game
+  pub judged : IsJudged game_text from game
   pub solution : Solution
   pub read : IsSolutionText game text solution
   pub verdict : IsVerdict game solution explain exit output
 
--- the one text stands for a game, and the other is refused as a solution of it
-pub record RefusesSolution (game_text text : List ℕ) (refusal : Refusal) : Type 0 where
+-- the refusal of the game that is judged: that of the text, or where an identifier is given, that of the part
+abbrev pub IsJudgedRefusal : List ℕ → Option ℕ → Refusal → Type 0
+IsJudgedRefusal game_text None refusal = IsRefusal game_text refusal
+IsJudgedRefusal game_text (Some identifier) refusal = IsPartTextRefusal game_text identifier refusal
+
+-- the one text stands for a game that is judged, and the other is refused as a solution of it
+pub record RefusesSolution (game_text : List ℕ) (from : Option ℕ) (text : List ℕ) (refusal : Refusal) : Type 0 where
   pub game : List Node
-  pub game_read : IsGameText game_text game
+  pub judged : IsJudged game_text from game
   pub refused : IsSolutionRefusal game text refusal
 
--- the refusal of `verify`: that of the game's text, or else that of the solution's
-abbrev pub IsVerifyRefusal : List ℕ → List ℕ → Refusal → Type 0
-IsVerifyRefusal game_text text refusal = IsRefusal game_text refusal ⊎ RefusesSolution game_text text refusal
+-- the refusal of `verify`: that of the game that is judged, or else that of the solution's text
+abbrev pub IsVerifyRefusal : List ℕ → Option ℕ → List ℕ → Refusal → Type 0
+IsVerifyRefusal game_text from text refusal = IsJudgedRefusal game_text from refusal ⊎ RefusesSolution game_text from text refusal

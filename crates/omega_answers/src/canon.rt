@@ -1,2 +1,3 @@
 pub mod hoa;
+pub mod part;
 pub mod pg;

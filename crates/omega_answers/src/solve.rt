@@ -12,9 +12,10 @@ mod one;
 mod searched;
 
 use crate::game_text::game_of;
+use crate::part::part_from;
 use asked::Asked;
 use both::solve_both;
-use omega_game::{Game, Refusal, TaskFault};
+use omega_game::{Game, Refusal};
 use omega_region::regions_of_parts;
 use omega_solve::{MeasureTable, Schedule};
 use one::solve_one;
@@ -55,12 +56,7 @@ fn solve_part<T: MeasureTable, S: Schedule>(
 {
     regions_of_parts();
     game.keeps_limits();
-    let place = match game.place_of(identifier) {
-        Some(place) => place,
-        None => return Err(Refusal::Task(TaskFault::UnknownNode)),
-    };
-    let part = game.part(alloc, place)?;
-    drop(game);
+    let part = part_from(alloc, game, identifier)?;
     solve_whole::<T, S>(alloc, &part, asked, budget)
 }
 

@@ -5,12 +5,14 @@ ghost use Rattle.omega_game.specs.Limits.{most_nodes};
 ghost use Rattle.omega_pg.specs.solution.Solution.{IsSolution, choices_of};
 ghost use Rattle.omega_pg.specs.solution.Refusing.{IsReadSolutionRefusal};
 ghost use Rattle.omega_pg.specs.solution.Text.{IsSolutionText};
-ghost use Rattle.omega_answers.specs.Verify.{IsVerifyAnswer, IsVerifyRefusal};
+ghost use Rattle.omega_answers.specs.Part.{IsPartText, IsPartTextRefusal};
+ghost use Rattle.omega_answers.specs.Verify.{IsJudged, IsJudgedRefusal, IsVerifyAnswer, IsVerifyRefusal};
 ghost use Rattle.omega_answers.specs.solve.Solution.{WinsAsGiven, WinsGiven};
 ghost use Rattle.omega_answers.specs.steps.Verdict.{given_to, is_given, verdict_exit, verdict_text};
 
 mod explaining;
 
+use crate::part::part_from;
 use explaining::explained;
 use omega_game::{Game, Player, Refusal, Strategy, check_strategy};
 use omega_io::Exit;
@@ -18,24 +20,47 @@ use omega_pg::{Solution, read_game, read_solution};
 use std::alloc::Global;
 
 /// Says whether the choices of the solution that a text stands for win, without solving its game, which has a text of
-/// its own; where they do not, also why, if that is asked for. The refusal of the game text, or else that of the solution
-/// text: 1 to 4, 10 to 14, 53 or 60.
+/// its own; where they do not, also why, if that is asked for. Where an identifier is given, the solution is one of the
+/// part that its node reaches. The refusal of the game text, or else 54, or else that of the solution text: 1 to 4, 10 to
+/// 14, 54, 53 or 60.
 pub fn verify_solution(
     alloc: Global,
     game: &[u8],
+    from: Option<u32>,
     text: Vec<u8>,
     explain: bool,
 ) -> Result<(Exit, Vec<u8>), Refusal>
-    ensures answer { IfOk result (λ made. IsVerifyAnswer game.now explain text.items made.0 made.1.items) }
-    ensures refused { IfErr result (or_memory (IsVerifyRefusal game.now text.items)) }
+    ensures answer { IfOk result (λ made. IsVerifyAnswer game.now from text.items explain made.0 made.1.items) }
+    ensures refused { IfErr result (or_memory (IsVerifyRefusal game.now from text.items)) }
 {
-    let game = read_game(alloc, game)?;
+    let game = judged_game(alloc, game, from)?;
     let solution = solution_in(alloc, &game, text)?;
     if explain {
         return explained(alloc, &game, &solution);
     }
     let is_right = wins_as_given(alloc, &game, &solution)?;
     verdict(alloc, is_right)
+}
+
+/// The game that a text stands for, or where an identifier is given, the part of it that its node reaches. 1 to 4, 10 to
+/// 14, 54 or 60.
+fn judged_game(alloc: Global, text: &[u8], from: Option<u32>) -> Result<Game, Refusal>
+    ensures game { IfOk result (IsJudged text.now from) }
+    ensures refused { IfErr result (or_memory (IsJudgedRefusal text.now from)) }
+{
+    match from {
+        None => read_game(alloc, text),
+        Some(identifier) => judged_part(alloc, text, identifier),
+    }
+}
+
+/// The part that the node with an identifier reaches in the game that a text stands for. 1 to 4, 10 to 14, 54 or 60.
+fn judged_part(alloc: Global, text: &[u8], identifier: u32) -> Result<Game, Refusal>
+    ensures part { IfOk result (IsPartText text.now identifier) }
+    ensures refused { IfErr result (or_memory (IsPartTextRefusal text.now identifier)) }
+{
+    let game = read_game(alloc, text)?;
+    part_from(alloc, game, identifier)
 }
 
 /// How the command ends for a solution that is right or not, and what it writes. 60 alone.

@@ -6,14 +6,13 @@ use Rattle.omega_text.specs.declared.refusal.task.TaskFault.{TaskFault}
 use Rattle.omega_text.specs.declared.refusal.task.TaskFault.TheVariants.{Budget, TooWide, UnknownNode}
 use Rattle.omega_game.specs.declared.player.Player.{Player}
 use Rattle.omega_game.specs.Game.{Node, priorities}
-use Rattle.omega_game.specs.Part.{IsPart}
 use Rattle.omega_measure.specs.Table.{is_too_wide}
 use Rattle.omega_pg.specs.game.Refusing.{IsRefusal}
 use Rattle.omega_pg.specs.game.Text.{IsGameText}
 use Rattle.omega_solve.specs.Within.{GoesOnAfter}
 use Rattle.omega_answers.specs.declared.solve.asked.Asked.{Asked}
 use Rattle.omega_answers.specs.declared.solve.asked.Asked.TheVariants as way
-use Rattle.omega_answers.specs.solve.Solving.{HasIdentifier}
+use Rattle.omega_answers.specs.Part.{IsPartFrom, IsUnknown}
 
 -- the game is solved for this player: for the one asked for, or for both
 abbrev pub IsSolvedFor : Asked → Player → Type 0
@@ -40,18 +39,16 @@ IsWholeFault nodes asked budget TooWide = IsTooWide nodes asked
 IsWholeFault nodes asked budget Budget = IsOverBudget nodes asked budget
 IsWholeFault nodes asked budget fault = ⊥
 
--- a part that the node with the identifier reaches has this fault
+-- the part that the node with the identifier reaches has this fault
 pub record IsPartFault (game : List Node) (asked : Asked) (identifier budget : ℕ) (fault : TaskFault) : Type 0 where
-  pub place : ℕ
-  pub identified : HasIdentifier game identifier place
   pub part : List Node
-  pub reached : IsPart game place part
+  pub part_of : IsPartFrom game identifier part
   pub fault_there : IsWholeFault part asked budget fault
 
 -- the fault of solving a game, or where an identifier is given, the part that its node reaches: first, that no node has it
 abbrev pub IsSolvingFault : List Node → Asked → Option ℕ → ℕ → TaskFault → Type 0
 IsSolvingFault game asked None budget fault = IsWholeFault game asked budget fault
-IsSolvingFault game asked (Some identifier) budget UnknownNode = (place : ℕ) → ¬ HasIdentifier game identifier place
+IsSolvingFault game asked (Some identifier) budget UnknownNode = IsUnknown game identifier
 IsSolvingFault game asked (Some identifier) budget fault = IsPartFault game asked identifier budget fault
 
 -- the text stands for a game that has this fault

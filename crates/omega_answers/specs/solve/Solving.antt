@@ -1,19 +1,15 @@
 -- What `solve` answers: a right answer for the game, or for the part that one node reaches.
-use Rattle.std.specs.Prelude.{◌≡◌, ◌↔◌, ◌<◌, List, Option, Some, None, ℕ, length, slice_index}
+use Rattle.std.specs.Prelude.{◌↔◌, ◌<◌, List, Option, Some, None, ℕ, length, slice_index}
 use Rattle.omega_game.specs.declared.player.Player.{Player}
-use Rattle.omega_game.specs.Game.{Node, node_at}
+use Rattle.omega_game.specs.Game.{Node}
 use Rattle.omega_game.specs.Part.{IsPartAt}
 use Rattle.omega_game.specs.Winning.{InRegion}
 use Rattle.omega_pg.specs.game.Text.{IsGameText}
+use Rattle.omega_answers.specs.Part.{HasIdentifier}
 use Rattle.omega_answers.specs.solve.AnswerText.{IsAnswerOf}
 use Rattle.omega_answers.specs.declared.solve.asked.Asked.{Asked}
 use Rattle.omega_answers.specs.declared.solve.asked.Asked.TheVariants as way
 use Rattle.omega_answers.specs.solve.Solution.{IsExactSolutionOf, IsSolutionOf}
-
--- the node at a place has the identifier
-pub record HasIdentifier (nodes : List Node) (identifier place : ℕ) : Type 0 where
-  pub node : place < length nodes
-  pub identified : (node_at nodes place).identifier ≡ identifier
 
 -- the kept nodes are in the player's region of the part exactly where they are in that of the game
 abbrev pub SameRegions : List Node → List ℕ → List Node → Player → Type 0

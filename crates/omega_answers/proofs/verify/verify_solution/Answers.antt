@@ -8,10 +8,10 @@ use Rattle.omega_answers.proofs.verify.verify_solution.Goals as goal
 
 pub returns-clause-answer : goal.returns-clause-answer
 returns-clause-answer c =
-    subst (λ (explain : Bool). IfOk c.verdict.result (λ made. IsVerifyAnswer c.args.game.now explain c.args.text.items made.0 made.1.items)) (sym c.if-explain.false)
+    subst (λ (explain : Bool). IfOk c.verdict.result (λ made. IsVerifyAnswer c.args.game.now c.args.from c.args.text.items explain made.0 made.1.items)) (sym c.if-explain.false)
     (IfOk-weaker c.verdict.result _ _
     (λ made verdict.
-    verdict-answers c.args.game.now c.args.text.items made.0 made.1.items c.in_ok-game.game c.in_ok-solution.solution
+    verdict-answers c.args.game.now c.args.from c.args.text.items made.0 made.1.items c.in_ok-game.game c.in_ok-solution.solution
     c.in_ok-is_right.is_right c.in_ok-game.ensures.game c.in_ok-solution.ensures.solution c.in_ok-is_right.ensures.wins
     verdict.0 verdict.1)
     c.verdict.ensures.made)

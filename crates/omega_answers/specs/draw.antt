@@ -1,0 +1,3 @@
+-- What `draw` answers, format by format.
+pub mod Hoa
+pub mod Pg

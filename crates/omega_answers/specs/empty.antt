@@ -1,0 +1,3 @@
+-- What `empty` answers: `empty`, or the text of an accepting lasso, and refusals.
+pub mod Answer
+pub mod LassoText

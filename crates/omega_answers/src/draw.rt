@@ -1,0 +1,2 @@
+pub mod hoa;
+pub mod pg;

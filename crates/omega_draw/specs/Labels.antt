@@ -1,0 +1,26 @@
+-- Lines of the labels that DOT draws, and how names stand in them (the DOT language, graphviz.org/doc/info/lang.html; escString).
+use Rattle.std.specs.Prelude.{ℕ, ◌==◌, nat_lt, if◌then◌else◌, Option, Some, None, List, [], ◌∷◌, ◌++◌, codes}
+use Rattle.std.specs.List.{flat_map}
+
+-- a byte of a name: a quote, a backslash, an ampersand and a line feed are escaped, and another control byte is a space
+abbrev pub escaped_byte : ℕ → List ℕ
+escaped_byte byte =
+    if byte == 34 then codes "\\\""
+    else if byte == 92 then codes "\\\\"
+    else if byte == 38 then codes "&amp;"
+    else if byte == 10 then codes "\\n"
+    else if nat_lt byte 32 then codes " "
+    else byte ∷ []
+
+-- a name, so that DOT draws its bytes
+abbrev pub escaped : List ℕ → List ℕ
+escaped name = flat_map escaped_byte name
+
+-- the end of a line of a label
+abbrev pub line_end : List ℕ
+line_end = codes "\\n"
+
+-- the line of a name, if there is one
+abbrev pub name_line : Option (List ℕ) → List ℕ
+name_line None = []
+name_line (Some name) = escaped name ++ line_end

@@ -1,0 +1,3 @@
+-- What only private contracts of drawings cite.
+pub mod Marking
+pub mod Naming
