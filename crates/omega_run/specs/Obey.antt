@@ -1,5 +1,5 @@
 -- What the program leaves when it obeys a command line: its status, and what it read, wrote and told.
-use Rattle.std.specs.Prelude.{◌≡◌, ◌+◌, ◌<◌, ◌≤◌, ◌⊎◌, Bool, [], List, Option, Result, Ok, Err, ℕ, string_bytes}
+use Rattle.std.specs.Prelude.{◌≡◌, ◌+◌, ◌<◌, ◌≤◌, ◌⊎◌, [], List, Option, Result, Ok, Err, ℕ, string_bytes}
 use Rattle.std.specs.Io.KnownBytes.{Appends, Keeps}
 use Rattle.omega_text.specs.declared.refusal.Refusal.{Refusal}
 use Rattle.omega_text.specs.declared.refusal.Refusal.TheVariants.{Io, Memory}
@@ -9,7 +9,7 @@ use Rattle.omega_command.specs.declared.command.Command.TheVariants as command
 use Rattle.omega_io.specs.declared.exit.Exit.{Exit}
 use Rattle.omega_io.specs.declared.exit.Exit.TheVariants.{Done}
 use Rattle.omega_command.specs.declared.line.Line.{Line}
-use Rattle.omega_command.specs.declared.line.Line.TheVariants.{Fault, Help, Run, Verify}
+use Rattle.omega_command.specs.declared.line.Line.TheVariants.{DrawSolution, Fault, Help, Run, Verify}
 use Rattle.omega_io.specs.Exit.{fault_status, status_of}
 use Rattle.omega_io.specs.RefusalLine.{line_of}
 use Rattle.omega_run.specs.Respond.{IsRunRefusal}
@@ -59,17 +59,21 @@ Prints text (Ok exit) held_before held_after failed_before failed_after =
 Prints text (Err refusal) held_before held_after failed_before failed_after =
     (refusal ≡ Io) × (failed_after ≡ failed_before + 1) × WritesBeginning held_before held_after text
 
--- the file was read as some text of a game and the solution verified against it, or the file was refused and nothing read or written
-abbrev pub Verifies : (List ℕ → Type 0) → (Refusal → Type 0) → Bool → Result Exit Refusal → Streams → Streams → Type 0
-Verifies reads refuses explain (Ok exit) before after = (game : List ℕ) × reads game × Performs (command.Verify game explain) most_lifts (Ok exit) before after
-Verifies reads refuses explain (Err refusal) before after =
-    ((game : List ℕ) × reads game × Performs (command.Verify game explain) most_lifts (Err refusal) before after)
+-- the file was read as some text and the command with that text run, or the file was refused and nothing read or written
+abbrev pub PerformsWithFile : (List ℕ → Type 0) → (Refusal → Type 0) → (List ℕ → Command) → Result Exit Refusal → Streams → Streams → Type 0
+PerformsWithFile reads refuses command_with (Ok exit) before after =
+    (text : List ℕ) × reads text × Performs (command_with text) most_lifts (Ok exit) before after
+PerformsWithFile reads refuses command_with (Err refusal) before after =
+    ((text : List ℕ) × reads text × Performs (command_with text) most_lifts (Err refusal) before after)
     ⊎ (refuses refusal × (after ≡ before))
 
 -- what the line asks for was done, and ended so, where files are read so and refused so by their names
 abbrev pub Obeys : (List ℕ → List ℕ → Type 0) → (List ℕ → Refusal → Type 0) → Line → Result Exit Refusal → Streams → Streams → Type 0
 Obeys reads refuses (Run command budget) outcome before after = Performs command budget outcome before after
-Obeys reads refuses (Verify file explain) outcome before after = Verifies (reads (string_bytes file)) (refuses (string_bytes file)) explain outcome before after
+Obeys reads refuses (Verify file from explain) outcome before after =
+    PerformsWithFile (reads (string_bytes file)) (refuses (string_bytes file)) (λ game. command.Verify game from explain) outcome before after
+Obeys reads refuses (DrawSolution file) outcome before after =
+    PerformsWithFile (reads (string_bytes file)) (refuses (string_bytes file)) command.DrawSolution outcome before after
 Obeys reads refuses (Help text) outcome before after =
     (after.unread ≡ before.unread) × (after.failed_reads ≡ before.failed_reads)
     × Prints (string_bytes text) outcome before.held after.held before.failed_writes after.failed_writes

@@ -5,22 +5,28 @@ use Rattle.omega_text.specs.declared.refusal.Refusal.{Refusal}
 use Rattle.omega_pg.specs.game.Refusing.{IsRefusal}
 use Rattle.omega_game.specs.declared.player.Player.{Player}
 use Rattle.omega_command.specs.declared.command.Command.{Command}
-use Rattle.omega_command.specs.declared.command.Command.TheVariants.{Canon, Check, Empty, Game, Search, Show, Solve, Verify}
+use Rattle.omega_command.specs.declared.command.Command.TheVariants.{Canon, CanonPart, Check, Draw, DrawLasso, DrawSolution, Empty, EmptySearch, Game, Search, Show, Solve, Verify}
 use Rattle.omega_command.specs.declared.command.Format.TheVariants.{Hoa, Pg}
 use Rattle.omega_io.specs.declared.exit.Exit.{Exit}
 use Rattle.omega_io.specs.declared.exit.Exit.TheVariants.{Done}
 use Rattle.omega_answers.specs.Game.{IsEmptinessGameAnswer, IsEmptinessGameRefusal}
+use Rattle.omega_answers.specs.Part.{IsPartTextRefusal}
 use Rattle.omega_answers.specs.Verify.{IsVerifyAnswer, IsVerifyRefusal}
 use Rattle.omega_answers.specs.canon.Hoa.{IsStreamCanonAnswer}
+use Rattle.omega_answers.specs.canon.Part.{IsCanonPartAnswer}
 use Rattle.omega_answers.specs.canon.Pg.{IsCanonAnswer}
 use Rattle.omega_answers.specs.check.Hoa.{IsStreamCheckAnswer}
 use Rattle.omega_answers.specs.check.Pg.{IsCheckAnswer}
+use Rattle.omega_answers.specs.draw.Hoa.{IsAutomatonDrawingAnswer, IsLassoDrawingAnswer}
+use Rattle.omega_answers.specs.draw.Pg.{IsGameDrawingAnswer, IsSolutionDrawingAnswer, IsSolutionDrawingRefusal}
+use Rattle.omega_answers.specs.empty.Answer.{IsEmptyAnswer, IsEmptyRefusal, IsEmptySearchRefusal}
 use Rattle.omega_answers.specs.show.Hoa.{IsStreamShowAnswer}
 use Rattle.omega_answers.specs.show.Pg.{IsShowAnswer}
 use Rattle.omega_answers.specs.declared.solve.asked.Asked.{Asked}
 use Rattle.omega_answers.specs.declared.solve.asked.Asked.TheVariants as way
 use Rattle.omega_answers.specs.solve.Refusing.{IsSolveRefusal}
 use Rattle.omega_answers.specs.solve.Solving.{IsSolveAnswer}
+use Rattle.omega_hoa.specs.Alone.{IsAutomatonRefusal}
 use Rattle.omega_hoa.specs.Stream.{IsStreamRefusal}
 use Rattle.omega_io.specs.Reading.{ReadsText, ReadsWhole}
 
@@ -37,11 +43,17 @@ Answers (Check Pg) budget text exit output = (exit ≡ Done) × IsCheckAnswer te
 Answers (Check Hoa) budget text exit output = (exit ≡ Done) × IsStreamCheckAnswer text output
 Answers (Canon Pg) budget text exit output = (exit ≡ Done) × IsCanonAnswer text output
 Answers (Canon Hoa) budget text exit output = (exit ≡ Done) × IsStreamCanonAnswer text output
+Answers (CanonPart from) budget text exit output = (exit ≡ Done) × IsCanonPartAnswer text from output
 Answers (Solve player from) budget text exit output = (exit ≡ Done) × IsSolveAnswer text (asked_for player) from budget output
 Answers (Search from) budget text exit output = (exit ≡ Done) × IsSolveAnswer text way.Search from budget output
-Answers (Verify game explain) budget text exit output = IsVerifyAnswer game explain text exit output
-Answers Empty budget text exit output = ⊥
+Answers (Verify game from explain) budget text exit output = IsVerifyAnswer game from text explain exit output
+Answers Empty budget text exit output = (exit ≡ Done) × IsEmptyAnswer text output
+Answers EmptySearch budget text exit output = (exit ≡ Done) × IsEmptyAnswer text output
 Answers Game budget text exit output = (exit ≡ Done) × IsEmptinessGameAnswer text output
+Answers (Draw Pg) budget text exit output = (exit ≡ Done) × IsGameDrawingAnswer text output
+Answers (Draw Hoa) budget text exit output = (exit ≡ Done) × IsAutomatonDrawingAnswer text output
+Answers (DrawSolution solution) budget text exit output = (exit ≡ Done) × IsSolutionDrawingAnswer text solution output
+Answers DrawLasso budget text exit output = (exit ≡ Done) × IsLassoDrawingAnswer text output
 
 -- the command refuses the text by this refusal, with this budget
 abbrev pub Refuses : Command → ℕ → List ℕ → Refusal → Type 0
@@ -51,11 +63,17 @@ Refuses (Check Pg) budget text refusal = IsRefusal text refusal
 Refuses (Check Hoa) budget text refusal = IsStreamRefusal text refusal
 Refuses (Canon Pg) budget text refusal = IsRefusal text refusal
 Refuses (Canon Hoa) budget text refusal = IsStreamRefusal text refusal
+Refuses (CanonPart from) budget text refusal = IsPartTextRefusal text from refusal
 Refuses (Solve player from) budget text refusal = IsSolveRefusal text (asked_for player) from budget refusal
 Refuses (Search from) budget text refusal = IsSolveRefusal text way.Search from budget refusal
-Refuses (Verify game explain) budget text refusal = IsVerifyRefusal game text refusal
-Refuses Empty budget text refusal = ⊥
+Refuses (Verify game from explain) budget text refusal = IsVerifyRefusal game from text refusal
+Refuses Empty budget text refusal = IsEmptyRefusal text budget refusal
+Refuses EmptySearch budget text refusal = IsEmptySearchRefusal text refusal
 Refuses Game budget text refusal = IsEmptinessGameRefusal text refusal
+Refuses (Draw Pg) budget text refusal = IsRefusal text refusal
+Refuses (Draw Hoa) budget text refusal = IsAutomatonRefusal text refusal
+Refuses (DrawSolution solution) budget text refusal = IsSolutionDrawingRefusal text solution refusal
+Refuses DrawLasso budget text refusal = IsEmptySearchRefusal text refusal
 
 -- the whole input was read, and this is the command's answer to it
 abbrev pub Responds : Command → ℕ → (unread_before unread_after : Option (List ℕ)) → Exit → List ℕ → Type 0

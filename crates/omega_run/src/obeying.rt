@@ -1,6 +1,7 @@
 ghost use Rattle.std.specs.Prelude.{◌≡◌, ◌-◌, ◌^◌, ◌<◌, IfOk, ℕ, List};
 ghost use Rattle.omega_command.specs.Line.{IsRunnable};
-ghost use Rattle.omega_run.specs.Obey.{IsObeyed, Prints, Reports, Verifies, streams};
+ghost use Rattle.omega_command.specs.declared.command.Command.TheVariants as command;
+ghost use Rattle.omega_run.specs.Obey.{IsObeyed, PerformsWithFile, Prints, Reports, streams};
 ghost use Rattle.omega_io.specs.Writing.{Tells};
 
 use crate::run::run_command;
@@ -39,8 +40,18 @@ pub fn obey<F: GameFiles, R: Input, W: Output, E: Output>(
             let outcome = run_command(alloc, &command, input, output, budget);
             report(alloc, outcome, errors)
         }
-        Ok(Line::Verify { file, explain }) => {
-            let outcome = verify_file(alloc, file.as_str(), explain, files, input, output);
+        Ok(
+            Line::Verify {
+                file,
+                from,
+                explain,
+            },
+        ) => {
+            let outcome = verify_file(alloc, file.as_str(), from, explain, files, input, output);
+            report(alloc, outcome, errors)
+        }
+        Ok(Line::DrawSolution { file }) => {
+            let outcome = draw_file(alloc, file.as_str(), files, input, output);
             report(alloc, outcome, errors)
         }
         Ok(Line::Help(text)) => {
@@ -55,10 +66,11 @@ pub fn obey<F: GameFiles, R: Input, W: Output, E: Output>(
     }
 }
 
-/// Verifies a solution of the game in a file, which is read before the solution is.
+/// Verifies a solution of the game in a file, or of a part of it. The file is read before the solution is.
 fn verify_file<F: GameFiles, R: Input, W: Output>(
     alloc: Global,
     file: &str,
+    from: Option<u32>,
     explain: bool,
     files: &F,
     input: &mut R,
@@ -66,12 +78,35 @@ fn verify_file<F: GameFiles, R: Input, W: Output>(
 ) -> Result<Exit, Refusal>
     requires reads { R.failed input.old < 2 ^ 64 - 1 }
     requires writes { W.failed output.old < 2 ^ 64 - 1 }
-    ensures { Verifies (F.reads files.now file.now) (F.refuses files.now file.now) explain result
+    ensures { PerformsWithFile (F.reads files.now file.now) (F.refuses files.now file.now) (λ game. command.Verify game from explain) result
         (streams (R.remaining input.old) (R.failed input.old) (W.contents output.old) (W.failed output.old))
         (streams (R.remaining input.new) (R.failed input.new) (W.contents output.new) (W.failed output.new)) }
 {
     let game = Seq::from_vec(files.read_file(alloc, file)?);
-    let command = Command::Verify { game, explain };
+    let command = Command::Verify {
+        game,
+        from,
+        explain,
+    };
+    run_command(alloc, &command, input, output, MOST_LIFTS)
+}
+
+/// Draws a game with the solution in a file, which is read before the game is.
+fn draw_file<F: GameFiles, R: Input, W: Output>(
+    alloc: Global,
+    file: &str,
+    files: &F,
+    input: &mut R,
+    output: &mut W,
+) -> Result<Exit, Refusal>
+    requires reads { R.failed input.old < 2 ^ 64 - 1 }
+    requires writes { W.failed output.old < 2 ^ 64 - 1 }
+    ensures { PerformsWithFile (F.reads files.now file.now) (F.refuses files.now file.now) command.DrawSolution result
+        (streams (R.remaining input.old) (R.failed input.old) (W.contents output.old) (W.failed output.old))
+        (streams (R.remaining input.new) (R.failed input.new) (W.contents output.new) (W.failed output.new)) }
+{
+    let solution = Seq::from_vec(files.read_file(alloc, file)?);
+    let command = Command::DrawSolution { solution };
     run_command(alloc, &command, input, output, MOST_LIFTS)
 }
 

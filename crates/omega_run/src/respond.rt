@@ -1,12 +1,12 @@
 ghost use Rattle.std.specs.Prelude.{◌≡◌, ◌+◌, ◌-◌, ◌^◌, ◌<◌, ◌≤◌, IfOk, IfErr};
 ghost use Rattle.omega_solve.specs.Limits.{most_lifts};
-ghost use Rattle.omega_command.specs.Line.{IsOffered};
 ghost use Rattle.omega_run.specs.Respond.{IsRunRefusal, Responds, asked_for};
 ghost use Rattle.omega_io.specs.Failures.{failures_of};
 
 use omega_answers::{
-    Asked, canon_game, canon_stream, check_game, check_stream, show_game, show_stream, solve_game,
-    verify_solution, write_emptiness_game,
+    Asked, canon_game, canon_part, canon_stream, check_game, check_stream, decide_emptiness,
+    draw_automaton_text, draw_game_text, draw_lasso_text, draw_solution_text, search_emptiness,
+    show_game, show_stream, solve_game, verify_solution, write_emptiness_game,
 };
 use omega_command::{Command, Format};
 use omega_game::Player;
@@ -22,7 +22,6 @@ pub fn respond<R: Input>(
     input: &mut R,
     budget: u64,
 ) -> Result<(Exit, Vec<u8>), Refusal>
-    requires offered { IsOffered command.now }
     requires budget { budget ≤ most_lifts }
     requires reads { R.failed input.old < 2 ^ 64 - 1 }
     ensures answered { IfOk result (λ made. Responds command.now budget (R.remaining input.old) (R.remaining input.new) made.0 made.1.items) }
@@ -45,6 +44,10 @@ pub fn respond<R: Input>(
             Ok((Exit::Done, canon_game(alloc, text)?))
         }
         Command::Canon(Format::Hoa) => Ok((Exit::Done, canon_stream(alloc, input)?)),
+        Command::CanonPart { from } => {
+            let text = read_all(alloc, input)?;
+            Ok((Exit::Done, canon_part(alloc, text, *from)?))
+        }
         Command::Solve { player, from } => {
             let text = read_all(alloc, input)?;
             let asked = asked_for(*player);
@@ -62,15 +65,43 @@ pub fn respond<R: Input>(
             )?;
             Ok((Exit::Done, made))
         }
-        Command::Verify { game, explain } => {
+        Command::Verify {
+            game,
+            from,
+            explain,
+        } => {
             let text = read_all(alloc, input)?;
-            verify_solution(alloc, game.as_slice(), text, *explain)
+            verify_solution(alloc, game.as_slice(), *from, text, *explain)
+        }
+        Command::Empty => {
+            let text = read_all(alloc, input)?;
+            Ok((Exit::Done, decide_emptiness(alloc, text, budget)?))
+        }
+        Command::EmptySearch => {
+            let text = read_all(alloc, input)?;
+            Ok((Exit::Done, search_emptiness(alloc, text)?))
         }
         Command::Game => {
             let text = read_all(alloc, input)?;
             Ok((Exit::Done, write_emptiness_game(alloc, text)?))
         }
-        Command::Empty => unreachable!(),
+        Command::Draw(Format::Pg) => {
+            let text = read_all(alloc, input)?;
+            Ok((Exit::Done, draw_game_text(alloc, text)?))
+        }
+        Command::Draw(Format::Hoa) => {
+            let text = read_all(alloc, input)?;
+            Ok((Exit::Done, draw_automaton_text(alloc, text)?))
+        }
+        Command::DrawSolution { solution } => {
+            let text = read_all(alloc, input)?;
+            let made = draw_solution_text(alloc, text, solution.as_slice())?;
+            Ok((Exit::Done, made))
+        }
+        Command::DrawLasso => {
+            let text = read_all(alloc, input)?;
+            Ok((Exit::Done, draw_lasso_text(alloc, text)?))
+        }
     }
 }
 

@@ -1,7 +1,6 @@
 ghost use Rattle.std.specs.Prelude.{◌≡◌, ◌+◌, ◌-◌, ◌^◌, ◌<◌, ◌≤◌, IfOk, IfErr, OnErr};
 ghost use Rattle.omega_solve.specs.Limits.{most_lifts};
 ghost use Rattle.std.specs.Io.KnownBytes.{Keeps};
-ghost use Rattle.omega_command.specs.Line.{IsOffered};
 ghost use Rattle.omega_run.specs.Respond.{IsRunRefusal};
 ghost use Rattle.omega_run.specs.Run.{BreaksOff, Completes};
 ghost use Rattle.omega_io.specs.Failures.{failures_of};
@@ -22,7 +21,6 @@ pub fn run_command<R: Input, W: Output>(
     output: &mut W,
     budget: u64,
 ) -> Result<Exit, Refusal>
-    requires offered { IsOffered command.now }
     requires budget { budget ≤ most_lifts }
     requires reads { R.failed input.old < 2 ^ 64 - 1 }
     requires writes { W.failed output.old < 2 ^ 64 - 1 }

@@ -1,4 +1,4 @@
-use crate::running::omega;
+use crate::running::{answers, refuses};
 use std::alloc::Global;
 use std::test::Fail;
 
@@ -185,27 +185,12 @@ static REFUSALS: [(&str, &str, u8, &str); 21] = [
 
 #[test]
 fn answers_games(rt: HostRuntime) -> Result<(), Fail> {
-    for (words, text, output) in ANSWERS.as_slice() {
-        let left = omega(rt.alloc(), words, text.as_bytes())?;
-        assert_eq!(rt; left.status, 0, "{words}: {text}");
-        assert!(rt;
-            left.output.as_slice() == output.as_bytes(),
-            "{words}: {text}"
-        );
-        assert!(rt; left.error.is_empty(), "{words}: {text}");
-    }
-    Ok(())
+    answers(rt.alloc(), ANSWERS.as_slice())
 }
 
 #[test]
 fn refuses_games(rt: HostRuntime) -> Result<(), Fail> {
-    for (words, text, status, line) in REFUSALS.as_slice() {
-        let left = omega(rt.alloc(), words, text.as_bytes())?;
-        assert_eq!(rt; left.status, *status, "{words}: {text}");
-        assert!(rt; left.output.is_empty(), "{words}: {text}");
-        assert!(rt; left.error.as_slice() == line.as_bytes(), "{words}: {text}");
-    }
-    Ok(())
+    refuses(rt.alloc(), REFUSALS.as_slice())
 }
 
 /// So many nodes that lead to themselves, each with an odd priority of its own.
@@ -218,24 +203,23 @@ fn odd_loops(alloc: Global, count: u32) -> Result<String, Fail> {
     Ok(text)
 }
 
+/// What is shown of so many of them.
+static BOUNDS: [(u32, &str); 2] = [
+    (
+        121,
+        "game nodes 121 edges 121 greatest 120\nplayer 0 bound 321673174979949641242721308587843387392\nplayer 1 bound 121\n",
+    ),
+    (
+        122,
+        "game nodes 122 edges 122 greatest 121\nplayer 0 bound over 128 bits\nplayer 1 bound 122\n",
+    ),
+];
+
 #[test]
 fn shows_bounds_of_128_bits(rt: HostRuntime) -> Result<(), Fail> {
-    for (count, output) in [
-        (
-            121,
-            "game nodes 121 edges 121 greatest 120\nplayer 0 bound 321673174979949641242721308587843387392\nplayer 1 bound 121\n",
-        ),
-        (
-            122,
-            "game nodes 122 edges 122 greatest 121\nplayer 0 bound over 128 bits\nplayer 1 bound 122\n",
-        ),
-    ] {
-        let text = odd_loops(rt.alloc(), count)?;
-        let left = omega(rt.alloc(), "show --format pg", text.as_bytes())?;
-        assert!(rt;
-            left.output.as_slice() == output.as_bytes(),
-            "{count} nodes"
-        );
+    for (count, output) in BOUNDS.as_slice() {
+        let text = odd_loops(rt.alloc(), *count)?;
+        answers(rt.alloc(), &[("show --format pg", text.as_str(), *output)])?;
     }
     Ok(())
 }

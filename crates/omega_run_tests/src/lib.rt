@@ -6,6 +6,8 @@ mod emptiness_games;
 #[cfg(test)]
 mod games;
 #[cfg(test)]
+mod portions;
+#[cfg(test)]
 mod running;
 #[cfg(test)]
 mod solutions;

@@ -1,5 +1,5 @@
 //! Games that are solved for both players.
-use crate::running::omega;
+use crate::running::{Asked, answers, omega, refuses};
 use std::alloc::Global;
 use std::test::Fail;
 
@@ -108,27 +108,12 @@ static REFUSALS: [(&str, &str, u8, &str); 12] = [
 
 #[test]
 fn solves_games_for_both_players(rt: HostRuntime) -> Result<(), Fail> {
-    for (words, text, output) in SOLUTIONS.as_slice() {
-        let left = omega(rt.alloc(), words, text.as_bytes())?;
-        assert_eq!(rt; left.status, 0, "{words}: {text}");
-        assert!(rt;
-            left.output.as_slice() == output.as_bytes(),
-            "{words}: {text}"
-        );
-        assert!(rt; left.error.is_empty(), "{words}: {text}");
-    }
-    Ok(())
+    answers(rt.alloc(), SOLUTIONS.as_slice())
 }
 
 #[test]
 fn refuses_games_for_both_players(rt: HostRuntime) -> Result<(), Fail> {
-    for (words, text, status, line) in REFUSALS.as_slice() {
-        let left = omega(rt.alloc(), words, text.as_bytes())?;
-        assert_eq!(rt; left.status, *status, "{words}: {text}");
-        assert!(rt; left.output.is_empty(), "{words}: {text}");
-        assert!(rt; left.error.as_slice() == line.as_bytes(), "{words}: {text}");
-    }
-    Ok(())
+    refuses(rt.alloc(), REFUSALS.as_slice())
 }
 
 /// As many nodes with an even priority of their own as make a game too wide for player 1, and one with priority 1. Each
@@ -159,10 +144,11 @@ static WIDE: [(&str, u8, &str); 8] = [
 #[test]
 fn tells_that_a_game_is_too_wide_before_it_runs(rt: HostRuntime) -> Result<(), Fail> {
     let text = wide_for_one(rt.alloc())?;
-    for (words, status, line) in WIDE.as_slice() {
-        let left = omega(rt.alloc(), words, text.as_bytes())?;
-        assert_eq!(rt; left.status, *status, "{words}");
-        assert!(rt; left.error.as_slice() == line.as_bytes(), "{words}");
+    for (line, status, error) in WIDE.as_slice() {
+        let left = omega(rt.alloc(), &Asked::of(line, text.as_str()))?;
+        if left.status != *status || left.error.as_slice() != error.as_bytes() {
+            return Err(Fail::new(*line));
+        }
     }
     Ok(())
 }

@@ -1,20 +1,18 @@
-use crate::running::omega;
-use omega_run::{Command, Exit, Format, FromRead, Refusal, ToWrite, run_command};
+use crate::portions::{Filling, Portions};
+use crate::running::{Asked, Wanted, answers, expect, expect_over, refuses};
 use std::alloc::Global;
-use std::io;
-use std::io::Read;
 use std::test::Fail;
 
 /// An aborted segment, and an automaton.
-const ABORTED: &str =
+pub(crate) const ABORTED: &str =
     "HOA: ( & 7 nonsense --ABORT-- /*a/*b*/c*/ HOA: v1 Acceptance: 0 t --BODY-- --END--";
 
 /// An automaton with an alias and a repeated mark.
-const ALIAS: &str =
+pub(crate) const ALIAS: &str =
     "HOA: v1 States: 1 Start: 0 AP: 1 \"a\" Alias: @b 0|t Acceptance: 1 Inf(0) acc-name: Buchi --BODY-- State: 0 [!@b&0] 0 {0 0} --END--";
 
 /// Its canonical text.
-const CANONICAL: &str =
+pub(crate) const CANONICAL: &str =
     "HOA: v1\nStates: 1\nStart: 0\nAP: 1 \"a\"\nacc-name: Buchi\nAcceptance: 1 Inf(0)\n--BODY--\nState: 0\n[!(0|t)&0] 0 {0}\n--END--\n";
 
 /// A command line, an input and the whole output of a run that is done.
@@ -46,70 +44,67 @@ static ANSWERS: [(&str, &str, &str); 9] = [
     ("canon --format hoa", CANONICAL, CANONICAL),
 ];
 
-/// A command line, an input and the line of a run that is refused.
-static REFUSALS: [(&str, &str, &str); 9] = [
+/// A command line, an input, and the status and the line of a run that is refused.
+static REFUSALS: [(&str, &str, u8, &str); 9] = [
     (
         "check --format hoa",
         "HOA: v1 States: 1 Start: 0 AP: 1 \"a\" Acceptance: 0 t --BODY-- State: 0 0 0 0 --END--",
+        1,
         "omega: 30 ImplicitCount\n",
     ),
     (
         "check --format hoa",
         "HOA: v1 Acceptance: 0 t --BODY-- State: 0\n",
+        1,
         "omega: 3 Syntax at 42\n",
     ),
     (
         "show --format hoa",
         "HOA: v1 Acceptance: 0 t --BODY-- --END-- x",
+        1,
         "omega: 3 Syntax at 41\n",
     ),
     (
         "canon --format hoa",
         "HOA: v1 Acceptance: 0 t --BODY-- --END-- HOA: v1 --BODY-- --END--",
+        1,
         "omega: 22 MissingAcceptance\n",
     ),
     (
         "check --format hoa",
         "HOA: v2 --BODY-- --END-- $",
+        1,
         "omega: 20 Version\n",
     ),
     (
         "check --format hoa",
         "HOA: ( --ABORT-- $",
+        1,
         "omega: 1 Lex at 17\n",
     ),
     (
         "check --format hoa",
         "HOA: v1 007 --END--",
+        1,
         "omega: 2 Number at 8\n",
     ),
-    ("check --format hoa", "0 0 0 0;", "omega: 3 Syntax at 0\n"),
-    ("check --format pg", ALIAS, "omega: 1 Lex at 0\n"),
+    (
+        "check --format hoa",
+        "0 0 0 0;",
+        1,
+        "omega: 3 Syntax at 0\n",
+    ),
+    ("check --format pg", ALIAS, 1, "omega: 1 Lex at 0\n"),
 ];
 
 #[test]
 fn answers_streams(rt: HostRuntime) -> Result<(), Fail> {
-    for (words, text, output) in ANSWERS.as_slice() {
-        let left = omega(rt.alloc(), words, text.as_bytes())?;
-        assert_eq!(rt; left.status, 0, "{words}: {text}");
-        assert!(rt;
-            left.output.as_slice() == output.as_bytes(),
-            "{words}: {text}"
-        );
-        assert!(rt; left.error.is_empty(), "{words}: {text}");
-    }
-    Ok(())
+    answers(rt.alloc(), ANSWERS.as_slice())
 }
 
 #[test]
 fn refuses_streams(rt: HostRuntime) -> Result<(), Fail> {
-    for (words, text, line) in REFUSALS.as_slice() {
-        let left = omega(rt.alloc(), words, text.as_bytes())?;
-        assert_eq!(rt; left.status, 1, "{words}: {text}");
-        assert!(rt; left.output.is_empty(), "{words}: {text}");
-        assert!(rt; left.error.as_slice() == line.as_bytes(), "{words}: {text}");
-    }
-    Ok(())
+    refuses(rt.alloc(), REFUSALS.as_slice())
 }
 
 /// An automaton with aliases of which each is twice as large as the one before, and a label that is the last of them.
@@ -127,35 +122,21 @@ fn doubling(alloc: Global, last: u32) -> Result<String, Fail> {
     Ok(text)
 }
 
+/// How many times aliases double, and the status, the output and the line of the run.
+static DOUBLED: [(u32, u8, &str, &str); 3] = [
+    (14, 0, "accepted\n", ""),
+    (15, 1, "", "omega: 33 Expansion\n"),
+    (19, 1, "", "omega: 33 Expansion\n"),
+];
+
 #[test]
 fn aliases_that_double_have_a_limit(rt: HostRuntime) -> Result<(), Fail> {
-    for (last, output, line) in [
-        (14, "accepted\n", ""),
-        (15, "", "omega: 33 Expansion\n"),
-        (19, "", "omega: 33 Expansion\n"),
-    ] {
-        let text = doubling(rt.alloc(), last)?;
-        let left = omega(rt.alloc(), "check --format hoa", text.as_bytes())?;
-        assert!(rt; left.output.as_slice() == output.as_bytes(), "up to {last}");
-        assert!(rt; left.error.as_slice() == line.as_bytes(), "up to {last}");
+    for (last, status, output, error) in DOUBLED.as_slice() {
+        let text = doubling(rt.alloc(), *last)?;
+        let asked = Asked::of("check --format hoa", text.as_str());
+        expect(rt.alloc(), &asked, &Wanted::of(*status, output, error))?;
     }
     Ok(())
-}
-
-/// A reader that gives at most so many bytes at a time.
-#[derive(Drop)]
-struct Portions<'a> {
-    rest: &'a [u8],
-    most: usize,
-}
-
-impl Read for Portions<'_> {
-    fn read(&mut self, buf: &mut [u8]) -> io::Result<usize> {
-        let count = self.rest.len().min(self.most).min(buf.len());
-        buf[..count].copy_from_slice(&self.rest[..count]);
-        self.rest = &self.rest[count..];
-        Ok(count)
-    }
 }
 
 /// So many automata, one behind the other.
@@ -167,49 +148,32 @@ fn many(alloc: Global, count: u32) -> Result<String, Fail> {
     Ok(text)
 }
 
-/// What `canon` writes of a text of the Hanoi format that comes in portions of at most so many bytes.
-fn copied(alloc: Global, text: &[u8], most: usize) -> Result<Vec<u8>, Refusal> {
-    let mut input = FromRead::new(Portions { rest: text, most });
-    let mut output = ToWrite::new(Vec::new(alloc));
-    let command = Command::Canon(Format::Hoa);
-    match run_command(alloc, &command, &mut input, &mut output, 0)? {
-        Exit::Done => Ok(output.into_inner()),
-        Exit::No => Err(Refusal::Io),
+/// Fails where a run does not leave what it is to leave, whatever the portions in which it reads.
+fn expect_in_portions(alloc: Global, asked: &Asked<'_>, wanted: &Wanted<'_>) -> Result<(), Fail> {
+    for most in [1, 7, 4095, 4096, 4097, 1_000_000] {
+        let input = Portions::of(asked.text, most);
+        expect_over(alloc, asked, input, Filling::without_end(alloc), wanted)?;
     }
+    Ok(())
 }
 
-/// The same of `show`.
-fn shown(alloc: Global, text: &[u8], most: usize) -> Result<Vec<u8>, Refusal> {
-    let mut input = FromRead::new(Portions { rest: text, most });
-    let mut output = ToWrite::new(Vec::new(alloc));
-    let command = Command::Show(Format::Hoa);
-    match run_command(alloc, &command, &mut input, &mut output, 0)? {
-        Exit::Done => Ok(output.into_inner()),
-        Exit::No => Err(Refusal::Io),
-    }
-}
+/// So many automata, of 117 bytes each, that the input is read in several pieces of 4,096 bytes.
+const MANY: u32 = 50;
 
 #[test]
 fn portions_make_no_difference(rt: HostRuntime) -> Result<(), Fail> {
-    let text = many(rt.alloc(), 50)?;
-    assert!(rt; text.len() > 4096);
-    for most in [1, 7, 4095, 4096, 4097, 1_000_000] {
-        let copy = copied(rt.alloc(), text.as_bytes(), most)?;
-        assert!(rt; copy.as_slice() == text.as_bytes(), "{most} at a time");
-    }
-    Ok(())
+    let text = many(rt.alloc(), MANY)?;
+    let asked = Asked::of("canon --format hoa", text.as_str());
+    expect_in_portions(rt.alloc(), &asked, &Wanted::of(0, text.as_str(), ""))
 }
 
 #[test]
 fn portions_make_no_difference_to_a_refusal(rt: HostRuntime) -> Result<(), Fail> {
-    let mut text = many(rt.alloc(), 50)?;
+    let mut text = many(rt.alloc(), MANY)?;
     text.push_str("HOA: v1 )")?;
-    for most in [1, 4096, 1_000_000] {
-        let outcome = shown(rt.alloc(), text.as_bytes(), most);
-        assert!(rt;
-            matches!(&outcome, Err(refusal) if refusal.number() == 3),
-            "{most} at a time"
-        );
-    }
-    Ok(())
+    // What is no header could stand in a segment that is aborted later: the end of the text is at fault.
+    let place = text.len();
+    let error = format!(in rt.alloc(); "omega: 3 Syntax at {place}\n")?;
+    let asked = Asked::of("show --format hoa", text.as_str());
+    expect_in_portions(rt.alloc(), &asked, &Wanted::of(1, "", error.as_str()))
 }

@@ -1,147 +1,89 @@
-use omega_run::{Command, Exit, FromRead, Input, Output, Refusal, Seq, ToWrite, run_command};
+//! Readers and writers that give and take a byte at a time, and then fail.
+use crate::portions::{Filling, Portions};
+use crate::running::{Asked, Wanted, expect_over};
+use crate::streams::{ABORTED, ALIAS, CANONICAL};
 use std::alloc::Global;
-use std::io;
-use std::io::{Read, Write};
 use std::test::Fail;
 
-const TEXT: &[u8] = b"0 1 0 1; 1 2 1 0;";
+/// A command line, an input and the whole answer to it.
+static RUNS: [(&str, &str, &str); 3] = [
+    ("solve", "0 1 0 1; 1 2 1 0;", "paritysol 1;\n0 0 1;\n1 0;\n"),
+    (
+        "canon --format hoa",
+        ABORTED,
+        "HOA: v1\nStates: 0\nAP: 0\nAcceptance: 0 t\n--BODY--\n--END--\n",
+    ),
+    ("canon --format hoa", ALIAS, CANONICAL),
+];
 
-const ANSWER: &[u8] = b"paritysol 1;\n0 0 1;\n1 0;\n";
-
-/// A reader that gives a byte at a time, and at last nothing, or an error.
-#[derive(Drop)]
-struct Dripping<'a> {
-    rest: &'a [u8],
-    fails: bool,
-}
-
-impl Read for Dripping<'_> {
-    fn read(&mut self, buf: &mut [u8]) -> io::Result<usize> {
-        let Some(byte) = self.rest.first() else {
-            return if self.fails {
-                Err(io::Error::from(io::ErrorKind::Interrupted))
-            } else {
-                Ok(0)
-            };
-        };
-        let Some(slot) = buf.first_mut() else {
-            return Ok(0);
-        };
-        *slot = *byte;
-        self.rest = &self.rest[1..];
-        Ok(1)
+/// What a run is to leave that is refused for a read or a write that failed, and wrote this.
+fn broken_off(written: &[u8], failed_reads: u64, failed_writes: u64) -> Wanted<'_> {
+    Wanted {
+        status: 5,
+        output: written,
+        error: b"omega: 61 Io\n",
+        failed_reads,
+        failed_writes,
     }
 }
 
-/// A writer that takes a byte at a time while it has room, and then gives an error, or takes nothing.
-#[derive(Drop)]
-struct Filling {
-    taken: Vec<u8>,
+/// An input that fails after so many bytes leaves nothing written.
+fn reads_no_further(alloc: Global, asked: &Asked<'_>, count: usize) -> Result<(), Fail> {
+    let input = Portions::failing(asked.text.as_bytes().get(..count).ok_or("past the end")?);
+    let output = Filling::without_end(alloc);
+    expect_over(alloc, asked, input, output, &broken_off(b"", 1, 0))
+}
+
+/// An output that has room for so many bytes has a beginning of the answer.
+fn writes_no_further(
+    alloc: Global,
+    asked: &Asked<'_>,
+    answer: &str,
     room: usize,
-    fails: bool,
+) -> Result<(), Fail> {
+    let wanted = broken_off(answer.as_bytes().get(..room).ok_or("past the end")?, 0, 1);
+    for fails in [true, false] {
+        let input = Portions::whole(asked.text);
+        let output = Filling::with_room(alloc, room, fails);
+        expect_over(alloc, asked, input, output, &wanted)?;
+    }
+    Ok(())
 }
 
-impl Write for Filling {
-    fn write(&mut self, buf: &[u8]) -> io::Result<usize> {
-        if self.taken.len() >= self.room {
-            return if self.fails {
-                Err(io::Error::from(io::ErrorKind::BrokenPipe))
-            } else {
-                Ok(0)
-            };
-        }
-        let Some(byte) = buf.first() else {
-            return Ok(0);
-        };
-        self.taken.push(*byte)?;
-        Ok(1)
-    }
-
-    fn flush(&mut self) -> io::Result<()> {
-        Ok(())
-    }
-}
-
-/// A writer that takes so many bytes.
-fn with_room(alloc: Global, room: usize, fails: bool) -> Filling {
-    Filling {
-        taken: Vec::new(alloc),
-        room,
-        fails,
-    }
+/// A run reads and writes a byte at a time as it does in one.
+fn goes_through(alloc: Global, asked: &Asked<'_>, answer: &str) -> Result<(), Fail> {
+    let input = Portions::of(asked.text, 1);
+    let output = Filling::with_room(alloc, answer.len(), true);
+    expect_over(alloc, asked, input, output, &Wanted::of(0, answer, ""))
 }
 
 #[test]
-fn a_reader_that_fails_leaves_nothing_written(rt: HostRuntime) {
-    for j in 0..=TEXT.len() {
-        let mut input = FromRead::new(Dripping {
-            rest: &TEXT[..j],
-            fails: true,
-        });
-        let mut output = ToWrite::new(Vec::new(rt.alloc()));
-        let command = Command::Solve {
-            player: None,
-            from: None,
-        };
-        let outcome = run_command(rt.alloc(), &command, &mut input, &mut output, 9);
-        assert_eq!(rt; outcome, Err(Refusal::Io), "after {j} bytes");
-        assert_eq!(rt; input.failures(), 1, "after {j} bytes");
-        assert!(rt; output.into_inner().is_empty(), "after {j} bytes");
-    }
-}
-
-#[test]
-fn a_writer_that_fails_has_a_beginning(rt: HostRuntime) {
-    for j in 0..ANSWER.len() {
-        for fails in [true, false] {
-            let mut input = FromRead::new(TEXT);
-            let mut output = ToWrite::new(with_room(rt.alloc(), j, fails));
-            let command = Command::Solve {
-                player: None,
-                from: None,
-            };
-            let outcome = run_command(rt.alloc(), &command, &mut input, &mut output, 9);
-            assert_eq!(rt; outcome, Err(Refusal::Io), "after {j} bytes");
-            assert_eq!(rt; output.failures(), 1, "after {j} bytes");
-            let taken = output.into_inner().taken;
-            assert!(rt; taken.as_slice() == &ANSWER[..j], "after {j} bytes");
+fn a_reader_that_fails_leaves_nothing_written(rt: HostRuntime) -> Result<(), Fail> {
+    for (line, text, _) in RUNS.as_slice() {
+        for count in 0..=text.len() {
+            reads_no_further(rt.alloc(), &Asked::of(line, text), count)?;
         }
     }
+    Ok(())
 }
 
 #[test]
-fn a_byte_at_a_time_is_enough(rt: HostRuntime) {
-    let mut input = FromRead::new(Dripping {
-        rest: TEXT,
-        fails: false,
-    });
-    let mut output = ToWrite::new(with_room(rt.alloc(), 100, true));
-    let command = Command::Solve {
-        player: None,
-        from: None,
-    };
-    let outcome = run_command(rt.alloc(), &command, &mut input, &mut output, 9);
-    assert_eq!(rt; outcome, Ok(Exit::Done));
-    assert_eq!(rt; input.failures(), 0);
-    assert_eq!(rt; output.failures(), 0);
-    assert!(rt; output.into_inner().taken.as_slice() == ANSWER);
+fn a_writer_that_fails_has_a_beginning(rt: HostRuntime) -> Result<(), Fail> {
+    for (line, text, answer) in RUNS.as_slice() {
+        for room in 0..answer.len() {
+            writes_no_further(rt.alloc(), &Asked::of(line, text), answer, room)?;
+        }
+        goes_through(rt.alloc(), &Asked::of(line, text), answer)?;
+    }
+    Ok(())
 }
 
 #[test]
 fn verify_reads_its_input_before_it_judges_the_game(rt: HostRuntime) -> Result<(), Fail> {
-    let game = Seq::from_vec(Vec::from_slice(rt.alloc(), b"0 0 0;")?);
-    let mut input = FromRead::new(Dripping {
-        rest: b"paritysol 0;",
-        fails: true,
-    });
-    let mut output = ToWrite::new(Vec::new(rt.alloc()));
-    let command = Command::Verify {
-        game,
-        explain: false,
+    let asked = Asked {
+        line: "verify --game g",
+        file: "0 0 0;",
+        text: "paritysol 0;",
     };
-    let outcome = run_command(rt.alloc(), &command, &mut input, &mut output, 9);
-    assert_eq!(rt; outcome, Err(Refusal::Io));
-    assert_eq!(rt; input.failures(), 1);
-    assert!(rt; output.into_inner().is_empty());
-    Ok(())
+    reads_no_further(rt.alloc(), &asked, 12)
 }

@@ -1,5 +1,5 @@
 //! Solutions that are verified.
-use crate::running::{Left, OneFile, omega_with_file};
+use crate::running::{Asked, Wanted, expect};
 use omega_run::{GameFiles, HostFiles, Refusal};
 use std::alloc::Global;
 use std::test::Fail;
@@ -133,27 +133,25 @@ static REFUSALS: [(&str, &str, &str); 20] = [
     ("", "paritysol 0; 0 0 0;", "omega: 3 Syntax at 0\n"),
 ];
 
-/// Verifies a solution text of the game with a text, which is in a file.
-fn verified(alloc: Global, game: &str, text: &str) -> Result<Left, Fail> {
-    let file = OneFile {
-        name: "g",
-        text: game.as_bytes(),
+/// Fails where verifying a solution text of the game with a text, which is in the file, does not leave what it is to leave.
+fn verifies(alloc: Global, game: &str, text: &str, wanted: &Wanted<'_>) -> Result<(), Fail> {
+    let asked = Asked {
+        line: "verify --game g",
+        file: game,
+        text,
     };
-    omega_with_file(alloc, "verify --game g", &file, text.as_bytes())
+    expect(alloc, &asked, wanted)
 }
 
 #[test]
 fn says_whether_solutions_are_right(rt: HostRuntime) -> Result<(), Fail> {
     for (game, text, is_right) in VERDICTS.as_slice() {
-        let left = verified(rt.alloc(), game, text)?;
-        let (status, output): (u8, &[u8]) = if *is_right {
-            (0, b"yes\n")
+        let wanted = if *is_right {
+            Wanted::of(0, "yes\n", "")
         } else {
-            (6, b"no\n")
+            Wanted::of(6, "no\n", "")
         };
-        assert_eq!(rt; left.status, status, "{game} {text}");
-        assert!(rt; left.output.as_slice() == output, "{game} {text}");
-        assert!(rt; left.error.is_empty(), "{game} {text}");
+        verifies(rt.alloc(), game, text, &wanted)?;
     }
     Ok(())
 }
@@ -201,45 +199,33 @@ static EXPLAINED: [(&str, &str, &str); 8] = [
 #[test]
 fn explains_why_a_solution_is_not_right(rt: HostRuntime) -> Result<(), Fail> {
     for (game, text, output) in EXPLAINED.as_slice() {
-        let file = OneFile {
-            name: "g",
-            text: game.as_bytes(),
+        let asked = Asked {
+            line: "verify --game g --explain",
+            file: game,
+            text,
         };
-        let asked = "verify --game g --explain";
-        let left = omega_with_file(rt.alloc(), asked, &file, text.as_bytes())?;
         let status = if *output == "yes\n" { 0 } else { 6 };
-        assert_eq!(rt; left.status, status, "{game} {text}");
-        assert!(rt;
-            left.output.as_slice() == output.as_bytes(),
-            "{game} {text}"
-        );
-        assert!(rt; left.error.is_empty(), "{game} {text}");
+        expect(rt.alloc(), &asked, &Wanted::of(status, output, ""))?;
     }
     Ok(())
 }
 
 #[test]
 fn refuses_what_is_no_solution(rt: HostRuntime) -> Result<(), Fail> {
-    for (game, text, line) in REFUSALS.as_slice() {
-        let left = verified(rt.alloc(), game, text)?;
-        assert_eq!(rt; left.status, 1, "{game} {text}");
-        assert!(rt; left.output.is_empty(), "{game} {text}");
-        assert!(rt; left.error.as_slice() == line.as_bytes(), "{game} {text}");
+    for (game, text, error) in REFUSALS.as_slice() {
+        verifies(rt.alloc(), game, text, &Wanted::of(1, "", error))?;
     }
     Ok(())
 }
 
 #[test]
 fn tells_that_the_file_is_not_there(rt: HostRuntime) -> Result<(), Fail> {
-    let file = OneFile {
-        name: "g",
-        text: b"0 0 0 0;",
+    let asked = Asked {
+        line: "verify --game h",
+        file: "0 0 0 0;",
+        text: "paritysol 0; 0 0 0;",
     };
-    let left = omega_with_file(rt.alloc(), "verify --game h", &file, b"paritysol 0; 0 0 0;")?;
-    assert_eq!(rt; left.status, 5);
-    assert!(rt; left.output.is_empty());
-    assert!(rt; left.error.as_slice() == b"omega: 61 Io\n".as_slice());
-    Ok(())
+    expect(rt.alloc(), &asked, &Wanted::of(5, "", "omega: 61 Io\n"))
 }
 
 #[test]

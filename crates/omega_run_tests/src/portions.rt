@@ -1,0 +1,96 @@
+//! A reader that gives its bytes in portions, and a writer that takes them in portions; either may fail at last.
+use std::alloc::Global;
+use std::io;
+use std::io::{Read, Write};
+
+/// A reader that gives at most so many bytes at a time, and at last nothing, or an error.
+#[derive(Drop)]
+pub(crate) struct Portions<'a> {
+    rest: &'a [u8],
+    most: usize,
+    fails: bool,
+}
+
+impl<'a> Portions<'a> {
+    /// A reader that gives as many bytes as there is room for, and then nothing.
+    pub(crate) fn whole(text: &'a str) -> Portions<'a> {
+        Portions::of(text, usize::MAX)
+    }
+
+    /// A reader that gives at most so many bytes at a time, and then nothing.
+    pub(crate) fn of(text: &'a str, most: usize) -> Portions<'a> {
+        Portions {
+            rest: text.as_bytes(),
+            most,
+            fails: false,
+        }
+    }
+
+    /// A reader that gives these bytes, one at a time, and then an error.
+    pub(crate) fn failing(front: &'a [u8]) -> Portions<'a> {
+        Portions {
+            rest: front,
+            most: 1,
+            fails: true,
+        }
+    }
+}
+
+impl Read for Portions<'_> {
+    fn read(&mut self, buf: &mut [u8]) -> io::Result<usize> {
+        if self.rest.is_empty() && self.fails {
+            return Err(io::Error::from(io::ErrorKind::Interrupted));
+        }
+        let count = self.rest.len().min(self.most).min(buf.len());
+        buf[..count].copy_from_slice(&self.rest[..count]);
+        self.rest = &self.rest[count..];
+        Ok(count)
+    }
+}
+
+/// A writer that takes at most so many bytes at a time while it has room, and then gives an error, or takes nothing.
+#[derive(Drop)]
+pub(crate) struct Filling {
+    pub(crate) taken: Vec<u8>,
+    most: usize,
+    room: usize,
+    fails: bool,
+}
+
+impl Filling {
+    /// A writer that takes all that it is given.
+    pub(crate) fn without_end(alloc: Global) -> Filling {
+        Filling {
+            taken: Vec::new(alloc),
+            most: usize::MAX,
+            room: usize::MAX,
+            fails: false,
+        }
+    }
+
+    /// A writer that takes so many bytes, one at a time.
+    pub(crate) fn with_room(alloc: Global, room: usize, fails: bool) -> Filling {
+        Filling {
+            taken: Vec::new(alloc),
+            most: 1,
+            room,
+            fails,
+        }
+    }
+}
+
+impl Write for Filling {
+    fn write(&mut self, buf: &[u8]) -> io::Result<usize> {
+        if self.room == 0 && self.fails {
+            return Err(io::Error::from(io::ErrorKind::BrokenPipe));
+        }
+        let count = buf.len().min(self.most).min(self.room);
+        self.taken.extend_from_slice(&buf[..count])?;
+        self.room -= count;
+        Ok(count)
+    }
+
+    fn flush(&mut self) -> io::Result<()> {
+        Ok(())
+    }
+}
