@@ -1,135 +1,34 @@
-ghost use Rattle.std.specs.Prelude.{◌≡◌, ◌∷◌, ◌++◌, [], codes, decimal, IfErr, IfOk, OnOk};
+ghost use Rattle.std.specs.Prelude.{◌≡◌, ◌≤◌, ◌∷◌, ◌++◌, [], codes, decimal, drop, length, reverse, take, IfErr, IfOk, OnOk};
 ghost use Rattle.omega_acc.specs.Depth.{IsMemory};
 ghost use Rattle.omega_acc.specs.Writing.{atom_text, bracketed, joined_text, negated_text, set_text, truth_text};
-ghost use Rattle.omega_acc.specs.layout.Texts.{text_seen, texts_below, top_text};
+ghost use Rattle.omega_acc.specs.layout.Texts.{IsPartBefore, joined_bytes, texts_below, top_text};
 
-use omega_text::{Refusal, Seq, write_number};
+use omega_text::{Refusal, write_number};
 use std::alloc::Global;
 use std::marker::Model;
 
-/// The bytes of an expression, and how tightly its top operator binds: 1 for `|`, 2 for `&`, 3 for the rest.
-#[derive(Drop)]
-pub(crate) struct Text {
+/// How tightly an atom binds, or `!` and its part.
+const ATOM: u32 = 3;
+
+/// The bytes for which there is room before the first is written.
+const FIRST_ROOM: usize = 64;
+
+/// Where the bytes of an expression begin, and how tightly its top operator binds: 1 for `|`, 2 for `&`, 3 for the rest.
+#[derive(Clone, Copy)]
+pub(crate) struct Part {
+    start: usize,
     rank: u32,
-    bytes: Seq<u8>,
 }
 
-impl Text {
-    /// `t` or `f`.
-    pub(crate) fn truth(alloc: Global, value: bool) -> Result<Text, Refusal>
-        ensures ok { IfOk result (λ text. text_seen text ≡ atom_text (truth_text value)) }
-        ensures err { IfErr result IsMemory }
-    {
-        let mut bytes = Vec::new(alloc);
-        bytes.push(if value { b't' } else { b'f' })?;
-        Ok(atom(bytes))
-    }
-
-    /// A number in decimal.
-    pub(crate) fn number(alloc: Global, number: u32) -> Result<Text, Refusal>
-        ensures ok { IfOk result (λ text. text_seen text ≡ atom_text (decimal number)) }
-        ensures err { IfErr result IsMemory }
-    {
-        let mut bytes = Vec::new(alloc);
-        write_number(number as u128, &mut bytes)?;
-        Ok(atom(bytes))
-    }
-
-    /// A word and a set in parentheses, with `!` before it or without.
-    pub(crate) fn of_set(
-        alloc: Global,
-        word: &[u8],
-        negated: bool,
-        set: u32,
-    ) -> Result<Text, Refusal>
-        ensures ok { IfOk result (λ text. text_seen text ≡ atom_text (word.now ++ set_text negated set)) }
-        ensures err { IfErr result IsMemory }
-    {
-        let mut bytes = Vec::new(alloc);
-        bytes.extend_from_slice(word)?;
-        bytes.push(b'(')?;
-        if negated {
-            bytes.push(b'!')?;
-        }
-        write_number(set as u128, &mut bytes)?;
-        bytes.push(b')')?;
-        Ok(atom(bytes))
-    }
-
-    /// `!` and a part.
-    pub(crate) fn negated(self, alloc: Global) -> Result<Text, Refusal>
-        ensures ok { IfOk result (λ text. text_seen text ≡ negated_text (text_seen self)) }
-        ensures err { IfErr result IsMemory }
-    {
-        let mut bytes = Vec::new(alloc);
-        bytes.push(b'!')?;
-        let part = in_brackets(alloc, self.rank < 3, self.bytes)?;
-        bytes.extend_from_slice(part.as_slice())?;
-        Ok(atom(bytes))
-    }
-
-    /// Two parts and an operator.
-    pub(crate) fn joined(
-        self,
-        alloc: Global,
-        rank: u32,
-        sign: u8,
-        right: Text,
-    ) -> Result<Text, Refusal>
-        ensures ok { IfOk result (λ text. text_seen text ≡ joined_text rank sign (text_seen self) (text_seen right)) }
-        ensures err { IfErr result IsMemory }
-    {
-        let mut bytes = in_brackets(alloc, self.rank < rank, self.bytes)?.into_vec();
-        bytes.push(sign)?;
-        let behind = in_brackets(alloc, right.rank <= rank, right.bytes)?;
-        bytes.extend_from_slice(behind.as_slice())?;
-        Ok(Text {
-            rank,
-            bytes: Seq::from_vec(bytes),
-        })
-    }
-
-    /// Its bytes.
-    pub(crate) fn bytes(&self) -> &[u8]
-        ensures { result.now ≡ (text_seen self.now).bytes }
-    {
-        self.bytes.as_slice()
-    }
-}
-
-/// An atom with these bytes.
-fn atom(bytes: Vec<u8>) -> Text
-    ensures { text_seen result ≡ atom_text bytes.items }
-{
-    Text {
-        rank: 3,
-        bytes: Seq::from_vec(bytes),
-    }
-}
-
-/// Bytes in parentheses or not.
-fn in_brackets(alloc: Global, within: bool, bytes: Seq<u8>) -> Result<Seq<u8>, Refusal>
-    ensures ok { IfOk result (λ all. all ≡ bracketed within bytes) }
-    ensures err { IfErr result IsMemory }
-{
-    if !within {
-        return Ok(bytes);
-    }
-    let mut all = Vec::new(alloc);
-    all.push(b'(')?;
-    all.extend_from_slice(bytes.as_slice())?;
-    all.push(b')')?;
-    Ok(Seq::from_vec(all))
-}
-
-/// A stack of texts.
+/// A stack of texts in one buffer, each behind those below it.
 #[derive(Drop)]
 pub(crate) struct Texts {
-    items: Vec<Text>,
+    bytes: Vec<u8>,
+    parts: Vec<Part>,
 }
 
 impl Model for Texts {
-    ghost use Rattle.std.specs.Prelude.{List, map, reverse};
+    ghost use Rattle.std.specs.Prelude.{List, reverse};
     ghost use Rattle.std.specs.Coded.{coded_list};
     ghost use Rattle.omega_acc.specs.Writing.{Text, text_code};
 
@@ -137,38 +36,170 @@ impl Model for Texts {
 
     ghost coded = { coded_list text_code };
 
-    ghost use Rattle.omega_acc.specs.layout.Texts.{text_seen};
+    ghost use Rattle.omega_acc.specs.layout.Texts.{texts_in};
 
-    ghost view = { λ t. map text_seen (reverse t.items.items) };
+    ghost view = { λ t. texts_in t.bytes.items (reverse t.parts.items) };
 }
 
 impl Texts {
-    /// No texts.
-    pub(crate) fn new(alloc: Global) -> Self
-        ensures { result ≡ [] }
-    {
-        Texts {
-            items: Vec::new(alloc),
-        }
-    }
-
-    /// Puts a text on top.
-    pub(crate) fn push(&mut self, text: Text) -> Result<(), Refusal>
-        ensures ok { OnOk result (self.new ≡ text_seen text ∷ self.old) }
+    /// No texts. There is room for the bytes of an expression of ordinary length.
+    pub(crate) fn new(alloc: Global) -> Result<Self, Refusal>
+        ensures ok { IfOk result (λ texts. texts ≡ []) }
         ensures err { IfErr result IsMemory }
     {
-        self.items.push(text)?;
+        let bytes = Vec::with_capacity(alloc, FIRST_ROOM)?;
+        Ok(Texts {
+            bytes,
+            parts: Vec::new(alloc),
+        })
+    }
+
+    /// Puts `t` or `f` on top.
+    pub(crate) fn truth(&mut self, value: bool) -> Result<(), Refusal>
+        ensures ok { OnOk result (self.new ≡ atom_text (truth_text value) ∷ self.old) }
+        ensures err { IfErr result IsMemory }
+    {
+        let start = self.bytes.as_slice().len();
+        self.bytes.push(if value { b't' } else { b'f' })?;
+        self.parts.push(Part { start, rank: ATOM })?;
         Ok(())
     }
 
-    /// Takes the text on top, an empty one where there is none.
-    pub(crate) fn pop(&mut self, alloc: Global) -> Text
-        ensures text { text_seen result ≡ top_text self.old }
-        ensures rest { self.new ≡ texts_below self.old }
+    /// Puts a number in decimal on top.
+    pub(crate) fn number(&mut self, number: u32) -> Result<(), Refusal>
+        ensures ok { OnOk result (self.new ≡ atom_text (decimal number) ∷ self.old) }
+        ensures err { IfErr result IsMemory }
     {
-        match self.items.pop() {
-            Some(text) => text,
-            None => atom(Vec::new(alloc)),
+        let start = self.bytes.as_slice().len();
+        write_number(number as u128, &mut self.bytes)?;
+        self.parts.push(Part { start, rank: ATOM })?;
+        Ok(())
+    }
+
+    /// Puts a word and a set in parentheses on top, with `!` before the set or without.
+    pub(crate) fn set(&mut self, word: &[u8], negated: bool, set: u32) -> Result<(), Refusal>
+        ensures ok { OnOk result (self.new ≡ atom_text (word.now ++ set_text negated set) ∷ self.old) }
+        ensures err { IfErr result IsMemory }
+    {
+        let start = self.bytes.as_slice().len();
+        write_set(&mut self.bytes, word, negated, set)?;
+        self.parts.push(Part { start, rank: ATOM })?;
+        Ok(())
+    }
+
+    /// Puts `!` before the text on top.
+    pub(crate) fn negate(&mut self) -> Result<(), Refusal>
+        ensures ok { OnOk result (self.new ≡ negated_text (top_text self.old) ∷ texts_below self.old) }
+        ensures err { IfErr result IsMemory }
+    {
+        let end = self.bytes.as_slice().len();
+        let part = part_before(&mut self.parts, end);
+        bracket(&mut self.bytes, part.start, part.rank < ATOM)?;
+        self.bytes.insert(part.start, b'!')?;
+        self.parts.push(Part {
+            start: part.start,
+            rank: ATOM,
+        })?;
+        Ok(())
+    }
+
+    /// Joins the two texts on top by an operator.
+    pub(crate) fn join(&mut self, rank: u32, sign: u8) -> Result<(), Refusal>
+        ensures ok { OnOk result (self.new ≡ joined_text rank sign (top_text (texts_below self.old)) (top_text self.old) ∷ texts_below (texts_below self.old)) }
+        ensures err { IfErr result IsMemory }
+    {
+        let end = self.bytes.as_slice().len();
+        let right = part_before(&mut self.parts, end);
+        let left = part_before(&mut self.parts, right.start);
+        bracket(&mut self.bytes, right.start, right.rank <= rank)?;
+        put_before(
+            &mut self.bytes,
+            left.start,
+            right.start,
+            left.rank < rank,
+            sign,
+        )?;
+        self.parts.push(Part {
+            start: left.start,
+            rank,
+        })?;
+        Ok(())
+    }
+
+    /// The bytes of the text on top.
+    pub(crate) fn top(&self) -> &[u8]
+        ensures { result.now ≡ (top_text self.now).bytes }
+    {
+        let bytes = self.bytes.as_slice();
+        match self.parts.as_slice().last() {
+            Some(part) => &bytes[part.start.min(bytes.len())..],
+            None => &[],
         }
     }
+}
+
+/// Takes the last part, which begins no later than a place; where there is none, an empty one there.
+fn part_before(parts: &mut Vec<Part>, end: usize) -> Part
+    ensures { IsPartBefore (reverse parts.old.items) end result (reverse parts.new.items) }
+{
+    match parts.pop() {
+        Some(part) => Part {
+            start: part.start.min(end),
+            rank: part.rank,
+        },
+        None => Part {
+            start: end,
+            rank: ATOM,
+        },
+    }
+}
+
+/// Puts the bytes from a place on in parentheses or not.
+fn bracket(bytes: &mut Vec<u8>, start: usize, within: bool) -> Result<(), Refusal>
+    requires { start ≤ length bytes.old.items }
+    ensures ok { OnOk result (bytes.new.items ≡ take start bytes.old.items ++ bracketed within (drop start bytes.old.items)) }
+    ensures err { IfErr result IsMemory }
+{
+    if !within {
+        return Ok(());
+    }
+    bytes.insert(start, b'(')?;
+    bytes.push(b')')?;
+    Ok(())
+}
+
+/// Puts an operator before the bytes from `right` on, and those from `left` up to there in parentheses or not.
+fn put_before(
+    bytes: &mut Vec<u8>,
+    left: usize,
+    right: usize,
+    within: bool,
+    sign: u8,
+) -> Result<(), Refusal>
+    requires first { left ≤ right }
+    requires second { right ≤ length bytes.old.items }
+    ensures ok { OnOk result (bytes.new.items ≡ joined_bytes within left right sign bytes.old.items) }
+    ensures err { IfErr result IsMemory }
+{
+    bytes.insert(right, sign)?;
+    if within {
+        bytes.insert(right, b')')?;
+        bytes.insert(left, b'(')?;
+    }
+    Ok(())
+}
+
+/// Appends a word and a set in parentheses, with `!` before the set or without.
+fn write_set(bytes: &mut Vec<u8>, word: &[u8], negated: bool, set: u32) -> Result<(), Refusal>
+    ensures ok { OnOk result (bytes.new.items ≡ bytes.old.items ++ (word.now ++ set_text negated set)) }
+    ensures err { IfErr result IsMemory }
+{
+    bytes.extend_from_slice(word)?;
+    bytes.push(b'(')?;
+    if negated {
+        bytes.push(b'!')?;
+    }
+    write_number(set as u128, bytes)?;
+    bytes.push(b')')?;
+    Ok(())
 }

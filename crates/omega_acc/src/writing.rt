@@ -3,11 +3,11 @@
 ghost use Rattle.std.specs.Prelude.{◌≡◌, ◌++◌, IfErr, IfOk, OnErr, OnOk};
 ghost use Rattle.omega_acc.specs.Depth.{IsMemory};
 ghost use Rattle.omega_acc.specs.Writing.{acc_text, label_text};
-ghost use Rattle.omega_acc.specs.layout.Texts.{text_seen};
+ghost use Rattle.omega_acc.specs.layout.Texts.{top_text};
 
 use crate::acc::{Acc, AccNode};
 use crate::label::{Label, LabelNode};
-use crate::texts::{Text, Texts};
+use crate::texts::Texts;
 use omega_text::Refusal;
 use std::alloc::Global;
 
@@ -19,8 +19,8 @@ pub fn write_label(label: &Label, out: &mut Vec<u8>) -> Result<(), Refusal>
     ensures err { IfErr result IsMemory }
 {
     let alloc = *out.allocator();
-    let text = text_of_label(alloc, label)?;
-    out.extend_from_slice(text.bytes())?;
+    let texts = texts_of_label(alloc, label)?;
+    out.extend_from_slice(texts.top())?;
     Ok(())
 }
 
@@ -32,57 +32,43 @@ pub fn write_acc(formula: &Acc, out: &mut Vec<u8>) -> Result<(), Refusal>
     ensures err { IfErr result IsMemory }
 {
     let alloc = *out.allocator();
-    let text = text_of_formula(alloc, formula)?;
-    out.extend_from_slice(text.bytes())?;
+    let texts = texts_of_formula(alloc, formula)?;
+    out.extend_from_slice(texts.top())?;
     Ok(())
 }
 
 /// The text of a label, made part by part.
-fn text_of_label(alloc: Global, label: &Label) -> Result<Text, Refusal>
-    ensures ok { IfOk result (λ text. text_seen text ≡ label_text label.now) }
+fn texts_of_label(alloc: Global, label: &Label) -> Result<Texts, Refusal>
+    ensures ok { IfOk result (λ texts. top_text texts ≡ label_text label.now) }
     ensures err { IfErr result IsMemory }
 {
-    let mut stack = Texts::new(alloc);
+    let mut stack = Texts::new(alloc)?;
     for node in label.nodes() {
-        let text = match node {
-            LabelNode::Constant(value) => Text::truth(alloc, *value)?,
-            LabelNode::Proposition(number) => Text::number(alloc, *number)?,
-            LabelNode::Not => stack.pop(alloc).negated(alloc)?,
-            LabelNode::And => {
-                let right = stack.pop(alloc);
-                stack.pop(alloc).joined(alloc, 2, b'&', right)?
-            }
-            LabelNode::Or => {
-                let right = stack.pop(alloc);
-                stack.pop(alloc).joined(alloc, 1, b'|', right)?
-            }
-        };
-        stack.push(text)?;
+        match node {
+            LabelNode::Constant(value) => stack.truth(*value)?,
+            LabelNode::Proposition(number) => stack.number(*number)?,
+            LabelNode::Not => stack.negate()?,
+            LabelNode::And => stack.join(2, b'&')?,
+            LabelNode::Or => stack.join(1, b'|')?,
+        }
     }
-    Ok(stack.pop(alloc))
+    Ok(stack)
 }
 
 /// The text of an acceptance formula, made part by part.
-fn text_of_formula(alloc: Global, formula: &Acc) -> Result<Text, Refusal>
-    ensures ok { IfOk result (λ text. text_seen text ≡ acc_text formula.now) }
+fn texts_of_formula(alloc: Global, formula: &Acc) -> Result<Texts, Refusal>
+    ensures ok { IfOk result (λ texts. top_text texts ≡ acc_text formula.now) }
     ensures err { IfErr result IsMemory }
 {
-    let mut stack = Texts::new(alloc);
+    let mut stack = Texts::new(alloc)?;
     for node in formula.nodes() {
-        let text = match node {
-            AccNode::Constant(value) => Text::truth(alloc, *value)?,
-            AccNode::Inf(negated, set) => Text::of_set(alloc, b"Inf".as_slice(), *negated, *set)?,
-            AccNode::Fin(negated, set) => Text::of_set(alloc, b"Fin".as_slice(), *negated, *set)?,
-            AccNode::And => {
-                let right = stack.pop(alloc);
-                stack.pop(alloc).joined(alloc, 2, b'&', right)?
-            }
-            AccNode::Or => {
-                let right = stack.pop(alloc);
-                stack.pop(alloc).joined(alloc, 1, b'|', right)?
-            }
-        };
-        stack.push(text)?;
+        match node {
+            AccNode::Constant(value) => stack.truth(*value)?,
+            AccNode::Inf(negated, set) => stack.set(b"Inf".as_slice(), *negated, *set)?,
+            AccNode::Fin(negated, set) => stack.set(b"Fin".as_slice(), *negated, *set)?,
+            AccNode::And => stack.join(2, b'&')?,
+            AccNode::Or => stack.join(1, b'|')?,
+        }
     }
-    Ok(stack.pop(alloc))
+    Ok(stack)
 }

@@ -1,15 +1,26 @@
--- The texts that nodes in postfix order leave.
-use Rattle.std.specs.Prelude.{List, [], ◌∷◌, ◌++◌, codes, decimal}
-use Rattle.omega_acc.specs.Writing.{Text, atom_text, joined_text, negated_text, set_text, truth_text}
-use Rattle.omega_acc.specs.declared.texts.Text.{Text as MadeText}
+-- The texts that nodes in postfix order leave, and how they lie in one buffer.
+use Rattle.std.specs.Prelude.{◌≡◌, ℕ, Bool, List, [], ◌∷◌, ◌++◌, codes, decimal, drop, min, take}
+use Rattle.omega_acc.specs.Writing.{Text, atom_text, bracketed, joined_text, negated_text, set_text, truth_text}
+use Rattle.omega_acc.specs.declared.texts.Part.{Part}
 use Rattle.omega_acc.specs.declared.acc.AccNode.{AccNode}
 use Rattle.omega_acc.specs.declared.acc.AccNode.TheVariants as acc
 use Rattle.omega_acc.specs.declared.label.LabelNode.{LabelNode}
 use Rattle.omega_acc.specs.declared.label.LabelNode.TheVariants.{And, Constant, Not, Or, Proposition}
 
--- a text as contracts see it
-abbrev pub text_seen : MadeText → Text
-text_seen text = record { rank = text.rank; bytes = text.bytes }
+-- the texts of parts, the last first, in the bytes of all
+abbrev pub texts_in : List ℕ → List Part → List Text
+texts_in bytes [] = []
+texts_in bytes (part ∷ parts) = record { rank = part.rank; bytes = drop part.start bytes } ∷ texts_in (take part.start bytes) parts
+
+-- the part on top was taken, begun no later than a place; where there was none, an empty one there
+abbrev pub IsPartBefore : List Part → ℕ → Part → List Part → Type 0
+IsPartBefore [] stop part new = (new ≡ []) × (part.start ≡ stop) × (part.rank ≡ 3)
+IsPartBefore (top ∷ below) stop part new = (new ≡ below) × (part.start ≡ min top.start stop) × (part.rank ≡ top.rank)
+
+-- bytes with an operator before those from `right` on, and those from `left` up to there in parentheses or not
+abbrev pub joined_bytes : Bool → ℕ → ℕ → ℕ → List ℕ → List ℕ
+joined_bytes within left right sign bytes =
+    take left (take right bytes) ++ (bracketed within (drop left (take right bytes)) ++ sign ∷ drop right bytes)
 
 -- the text on top, empty where there is none
 abbrev pub top_text : List Text → Text
