@@ -1,5 +1,6 @@
-use super::is_told;
-use omega_pg::{Player, Refusal, Solution, read_game, read_solution, write_solution};
+use super::games::is_written;
+use super::{assert_row, is_told};
+use omega_pg::{Game, Player, Refusal, Solution, read_game, read_solution, write_solution};
 use std::alloc::Global;
 use std::test::*;
 
@@ -77,11 +78,19 @@ static REFUSED: [(&str, u32, Option<usize>); 39] = [
 ];
 
 /// Whether a text of a solution of a game is written anew as wanted.
-fn is_rewritten(alloc: Global, game: &str, text: &str, want: &str) -> Result<bool, Refusal> {
-    let game = read_game(alloc, game.as_bytes())?;
-    let solution = read_solution(alloc, &game, text.as_bytes())?;
-    let found = write_solution(alloc, &game, &solution)?;
-    Ok(found.as_slice() == want.as_bytes())
+fn is_rewritten(alloc: Global, game: &str, text: &str, want: &str) -> bool {
+    match read_game(alloc, game.as_bytes()) {
+        Ok(game) => is_written(rewritten(alloc, &game, text), want),
+        Err(_) => false,
+    }
+}
+
+/// The written form of the solution that a text stands for.
+fn rewritten(alloc: Global, game: &Game, text: &str) -> Result<Vec<u8>, Refusal> {
+    match read_solution(alloc, game, text.as_bytes()) {
+        Ok(solution) => write_solution(alloc, game, &solution),
+        Err(refusal) => Err(refusal),
+    }
 }
 
 /// The solution of `GAME` that a text stands for.
@@ -107,11 +116,8 @@ fn is_won_by_owners(solution: &Solution) -> bool {
 
 #[test]
 fn solutions_are_read_and_written(rt: HostRuntime) {
-    for (game, text, want) in SOLUTIONS.iter() {
-        assert!(rt;
-            is_rewritten(rt.alloc(), game, text, want) == Ok(true),
-            "{text}"
-        );
+    for (row, (game, text, want)) in SOLUTIONS.iter().enumerate() {
+        assert_row(&rt, row, is_rewritten(rt.alloc(), game, text, want));
     }
 }
 
@@ -125,7 +131,7 @@ fn winners_and_choices_stand_by_place(rt: HostRuntime) {
 
 #[test]
 fn other_solution_texts_are_refused(rt: HostRuntime) {
-    for (text, number, place) in REFUSED.iter() {
-        assert!(rt; is_refused(rt.alloc(), text, *number, *place), "{text}");
+    for (row, (text, number, place)) in REFUSED.iter().enumerate() {
+        assert_row(&rt, row, is_refused(rt.alloc(), text, *number, *place));
     }
 }

@@ -6,7 +6,7 @@ use omega_solve::{Nested, Outcome, PackedTable, Solver};
 use std::alloc::Global;
 use std::process::Abort;
 
-#[derive(Clone, Copy, Debug)]
+#[derive(Clone, Copy)]
 enum Family {
     /// Node i has priority i mod 2 and leads to the next two nodes, round the end.
     Ladder,
@@ -105,9 +105,14 @@ fn run<R: Abort>(
     assert!(rt; outcome == Outcome::Done);
     assert_counts(rt, game, player, solver.lifts(), solver.attempts());
     match solver.answer() {
-        Some(answer) => answer.won.iter().filter(|won| **won).count(),
+        Some(answer) => count_of(answer.won),
         None => 0,
     }
+}
+
+/// How many nodes are won.
+fn count_of(won: &[bool]) -> usize {
+    won.iter().filter(|won| **won).count()
 }
 
 /// Solves a game within so many lifts. How many nodes are won.
