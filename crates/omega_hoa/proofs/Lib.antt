@@ -10,6 +10,7 @@ pub mod Ones
 pub mod OneStream
 pub mod OneText
 pub mod Outlines
+pub mod Passing
 pub mod Readings
 pub mod Results
 pub mod Segments

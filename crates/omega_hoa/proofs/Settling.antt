@@ -17,7 +17,7 @@ use Rattle.omega_text.specs.declared.refusal.text.TextFault.{TextFault}
 use Rattle.omega_text.specs.declared.refusal.text.TextFault.TheVariants.{Lex, Number, Syntax, TooLong}
 use Rattle.omega_hoa.specs.Feeding.{IsDivided, IsRest}
 use Rattle.omega_hoa.specs.Stream.{IsFaultInside, IsFaultOutside, IsRefusedBehind, IsStreamFault}
-use Rattle.omega_hoa.specs.dividing.Next.{IsNext, IsNextSettled, IsProgress, IsRefusedNow, IsRefusedThen, IsWindow}
+use Rattle.omega_hoa.specs.dividing.Next.{IsNext, IsNextSettled, IsNothing, IsProgress, IsRefusedNow, IsRefusedThen, IsWindow}
 use Rattle.omega_hoa.specs.declared.division.Division.{Division}
 use Rattle.omega_hoa.specs.declared.item.Item.{Item}
 use Rattle.omega_hoa.specs.declared.progress.Progress.{Progress}
@@ -64,6 +64,15 @@ pub no_more : (settled : Option PlacedToken) (seen : List ℕ) (lexemes : List (
     → IsDivided seen lexemes items begins inside → IsDivided seen (lexemes ++ lexemes_in seen settled) items begins inside
 no_more settled seen lexemes items begins inside is divided =
     subst (λ ls. IsDivided seen ls items begins inside) (sym (ap (λ token. lexemes ++ lexemes_in seen token) is ∙ append-nil lexemes)) divided
+
+-- nor do none at all
+pub nothing_divided : (settled : Settled) (seen : List ℕ) (lexemes : List (Lexeme HoaKind)) (items : List Item) (begins : ℕ) (inside : Bool) → IsNothing settled
+    → IsDivided seen lexemes items begins inside → IsDivided seen (lexemes ++ settled_lexemes seen settled) items begins inside
+nothing_divided settled seen lexemes items begins inside nothing divided =
+    let same : lexemes ++ settled_lexemes seen settled ≡ lexemes =
+    ap (λ token. lexemes ++ (lexemes_in seen token ++ lexemes_in seen settled.second)) nothing.first
+    ∙ ap (λ token. lexemes ++ lexemes_in seen token) nothing.second ∙ append-nil lexemes in
+    subst (λ ls. IsDivided seen ls items begins inside) (sym same) divided
 
 module _ (bytes : List ℕ) (first : ℕ) (division : Division) (settled : Settled) (seen : List ℕ) (lexemes : List (Lexeme HoaKind)) (items : List Item)
     (next : IsNextSettled bytes first division settled seen lexemes items) where

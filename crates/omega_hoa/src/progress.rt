@@ -1,10 +1,11 @@
-ghost use Rattle.std.specs.Prelude.{◌+◌, ◌<◌, ◌≤◌, length, IfErr, IfOk};
+ghost use Rattle.std.specs.Prelude.{◌+◌, ◌<◌, ◌≤◌, ℕ, List, length, IfErr, IfOk, IsTrue};
 ghost use Rattle.omega_hoa.specs.Feeding.{Extends};
-ghost use Rattle.omega_hoa.specs.dividing.Next.{IsProgressSome, IsReadAs, IsRefusedFrom};
+ghost use Rattle.omega_hoa.specs.dividing.Next.{IsNothing, IsProgress, IsProgressSome, IsReadAs, IsRefusedFrom};
+ghost use Rattle.omega_hoa.specs.declared.item.Item.{Item};
 
 use crate::division::{Division, take_all};
 use crate::item::Item;
-use omega_text::{HoaTokenizer, Refusal};
+use omega_text::{HoaTokenizer, Refusal, Settled};
 use std::alloc::Global;
 
 /// How far the bytes of a stream were read.
@@ -17,7 +18,7 @@ pub(crate) struct Progress {
 /// Reads the bytes from a place to their end, and pushes the items of the segments that end there. 1 to 3, 20 to 33 or 60: the
 /// refusal of the text, or memory; the items of the segments before stand there then.
 ///
-/// The bytes are those of the text from `first` on. Each is looked at once, those of a segment that ends once more.
+/// The bytes are those of the text from `first` on. Each is scanned once, those of a segment that ends once more.
 pub(crate) fn read_bytes(
     alloc: Global,
     bytes: &[u8],
@@ -33,10 +34,36 @@ pub(crate) fn read_bytes(
     ensures extends { Extends out.old.items out.new.items }
 {
     let mut reached = progress;
-    for place in from..bytes.len() {
-        reached = read_byte(alloc, bytes, first, place, reached, out)?;
+    let mut place = from;
+    while place < bytes.len() {
+        let (after, end) = pass_inside(bytes, first, place, reached);
+        if end == bytes.len() {
+            return Ok(after);
+        }
+        reached = read_byte(alloc, bytes, first, end, after, out)?;
+        place = end + 1;
     }
     Ok(reached)
+}
+
+/// Inside a segment, reads the bytes from a place on, up to one that may end it or settles a fault; and that one's place.
+fn pass_inside(bytes: &[u8], first: usize, from: usize, progress: Progress) -> (Progress, usize)
+    requires within { from ≤ length bytes.now }
+    requires so_far { IsProgressSome bytes.now first from progress }
+    ensures forward { from ≤ result.1 }
+    ensures end { result.1 ≤ length bytes.now }
+    ensures read { (prior : List ℕ) (items : List Item) → IsProgress bytes.now first from progress prior items → IsProgress bytes.now first result.1 result.0 prior items }
+{
+    if !progress.division.inside {
+        return (progress, from);
+    }
+    let mut tokenizer = progress.tokenizer;
+    let end = tokenizer.pass(bytes, from);
+    let after = Progress {
+        tokenizer,
+        division: progress.division,
+    };
+    (after, end)
 }
 
 /// Reads the byte at a place.
@@ -56,9 +83,23 @@ fn read_byte(
 {
     let mut tokenizer = progress.tokenizer;
     let settled = tokenizer.step(bytes[place]);
+    if is_nothing(&settled) {
+        return Ok(Progress {
+            tokenizer,
+            division: progress.division,
+        });
+    }
     let division = take_all(alloc, bytes, first, progress.division, settled, out)?;
     Ok(Progress {
         tokenizer,
         division,
     })
+}
+
+/// Whether neither a token nor a fault was settled.
+#[inline(always)]
+fn is_nothing(settled: &Settled) -> bool
+    ensures { IsTrue result → IsNothing settled.now }
+{
+    settled.first.is_none() && settled.second.is_none() && settled.fault.is_none()
 }

@@ -64,7 +64,7 @@ impl Stream {
     /// `out` are as before, and the piece may be fed again. After any other refusal the items before it stand in `out`, and
     /// each later call answers it.
     ///
-    /// A piece is kept until its segments have ended. Each byte is looked at once, those of a segment that ends once more.
+    /// A piece is kept until its segments have ended. Each byte is scanned once, those of a segment that ends once more.
     pub fn feed(&mut self, piece: &[u8], out: &mut Vec<Item>) -> Result<(), Refusal>
         ensures refused_before { IfSome self.old.refused (λ refusal. (result ≡ Err refusal) × (self.new ≡ self.old) × (out.new.items ≡ out.old.items)) }
         ensures too_long { self.old.refused ≡ None → most_text < self.old.begins + length self.old.bytes + length piece.now

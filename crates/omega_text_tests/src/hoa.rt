@@ -120,6 +120,22 @@ const SETTLED: [(&str, &[usize]); 12] = [
     ("/* ", &[0, 0, 0]),
 ];
 
+// Texts, the places of the bytes of theirs by which a mark or a fault is settled, and the number and the place of the fault.
+const STOPS: [(&str, &[usize], Option<(u32, usize)>); 8] = [
+    (
+        "HOA: v1 \"a\" 12 --BODY-- State: 0 {1} --END--\n",
+        &[22, 43],
+        None,
+    ),
+    ("t:9a--END--@a--ABORT--/**/--BODY--", &[33], None),
+    ("9--END--9 --ABORT--", &[7, 18], None),
+    ("/* --END-- */ \"--END--\\\"\" --ABORT-", &[], None),
+    ("ab$", &[2], Some((1, 2))),
+    ("a \"x\\\"y\" 007 ", &[12], Some((2, 9))),
+    ("2147483647 2147483648 ", &[21], Some((2, 11))),
+    ("[!0&1] --ENDX", &[12], Some((1, 7))),
+];
+
 // What a tokenizer settles of a piece that begins at a place is put behind other tokens; the answer is its fault.
 fn read(
     tokenizer: &mut HoaTokenizer,
@@ -148,6 +164,52 @@ fn keep(settled: &Settled, tokens: &mut Vec<PlacedToken>) -> Result<(), AllocErr
         tokens.push(token)?;
     }
     Ok(())
+}
+
+// The places at which a tokenizer stops in a piece that begins at a place are put behind others; the answer is its fault.
+fn pass(
+    tokenizer: &mut HoaTokenizer,
+    place: usize,
+    piece: &[u8],
+    stops: &mut Vec<usize>,
+) -> Result<Option<TextFault>, AllocError>
+    requires read { HasReadTo place tokenizer.old }
+    requires room { place + length piece.now < 2 ^ 60 }
+    ensures { IfOk result (λ _. HasReadTo (place + length piece.now) tokenizer.new) }
+{
+    let mut fault = None;
+    let mut next = 0usize;
+    while next < piece.len() {
+        next = tokenizer.pass(piece, next);
+        if next < piece.len() {
+            stops.push(place + next)?;
+            let settled = tokenizer.step(piece[next]);
+            fault = settled.fault;
+            next += 1;
+        }
+    }
+    Ok(fault)
+}
+
+// The first place at which a text does not have these stops and this fault if it comes in two pieces.
+fn wrong_stop(
+    alloc: Global,
+    text: &[u8],
+    stops: &[usize],
+    fault: Option<(u32, usize)>,
+) -> Result<Option<usize>, AllocError>
+    requires { length text.now < 2 ^ 59 }
+{
+    for cut in 0..text.len() {
+        let mut found = Vec::new(alloc);
+        let mut tokenizer = HoaTokenizer::new();
+        pass(&mut tokenizer, 0, &text[..cut], &mut found)?;
+        let last = pass(&mut tokenizer, cut, &text[cut..], &mut found)?;
+        if last.map(number_and_place) != fault || found.as_slice() != stops {
+            return Ok(Some(cut));
+        }
+    }
+    Ok(None)
 }
 
 // Whether a text that comes in two pieces is cut into these parts, with this fault behind them.
@@ -257,6 +319,18 @@ fn each_token_is_settled_at_its_byte(rt: HostRuntime) -> Result<(), Fail> {
     for (text, counts) in SETTLED.iter() {
         assert_eq!(rt; text.len() < LONGEST, true);
         assert_eq!(rt; wrong_byte(rt.alloc(), text.as_bytes(), *counts)?, None);
+    }
+    Ok(())
+}
+
+#[test]
+fn bytes_are_passed_up_to_marks_and_faults(rt: HostRuntime) -> Result<(), Fail> {
+    for (text, stops, fault) in STOPS.iter() {
+        assert_eq!(rt; text.len() < LONGEST, true);
+        assert_eq!(rt;
+            wrong_stop(rt.alloc(), text.as_bytes(), *stops, *fault)?,
+            None
+        );
     }
     Ok(())
 }

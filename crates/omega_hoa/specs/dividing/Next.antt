@@ -1,5 +1,5 @@
 -- The next tokens of a stream, and the bytes of which they are read.
-use Rattle.std.specs.Prelude.{◌≡◌, ℕ, ◌+◌, ◌≤◌, ◌⊎◌, Option, List, ◌++◌, length, take, drop}
+use Rattle.std.specs.Prelude.{◌≡◌, ℕ, ◌+◌, ◌≤◌, ◌⊎◌, Option, None, List, ◌++◌, length, take, drop}
 use Rattle.omega_text.specs.Cut.{Cuts}
 use Rattle.omega_text.specs.Lexeme.{Lexeme}
 use Rattle.omega_text.specs.Limits.{most_text}
@@ -47,6 +47,12 @@ IsTakenAs bytes first division token old new after = (seen : List ℕ) (lexemes 
 abbrev pub IsRefusedAt : List ℕ → ℕ → Division → Option PlacedToken → Refusal → Type 0
 IsRefusedAt bytes first division token refusal = (seen : List ℕ) (lexemes : List (Lexeme HoaKind)) (items : List Item) → IsNext bytes first division token seen lexemes items
     → IsRefusedNow seen items refusal
+
+-- neither a token nor a fault was settled
+pub record IsNothing (settled : Settled) : Type 0 where
+  pub first : settled.first ≡ None
+  pub second : settled.second ≡ None
+  pub fault : settled.fault ≡ None
 
 -- behind divided tokens stand those that a byte settles
 pub record IsNextSettled (bytes : List ℕ) (first : ℕ) (division : Division) (settled : Settled) (seen : List ℕ) (lexemes : List (Lexeme HoaKind)) (items : List Item) : Type 0 where

@@ -1,35 +1,34 @@
 -- Bytes that are read at once.
-use Rattle.std.proofs.Common.{◌≡◌, ◌≢◌, ◌==◌, ◌⊎◌, inl, inr, ⊎_elim, ℕ, ◌+◌, ◌-◌, ◌<◌, ◌≤◌, ◌^◌, Bool, true, false, Option, Some, None, List, [], ◌∷◌, ◌++◌, length, get_or, take, drop, refl, sym, ap, ◌∙◌, subst, arith, append_assoc, append-nil, length-append, length-drop, length-take-le, take-add, drop-drop}
-use Rattle.std.proofs.lemmas.Bool.Decides.{nat_tests}
+use Rattle.std.proofs.Common.{◌≡◌, ◌≢◌, ◌==◌, ◌⊎◌, inl, inr, ⊎_elim, ℕ, suc, ◌+◌, ◌-◌, ◌<◌, ◌≤◌, Bool, true, false, Option, Some, None, List, [], ◌∷◌, ◌++◌, length, get_or, take, drop, refl, sym, ap, ◌∙◌, subst, arith, append_assoc, append-nil, length-append, length-drop, length-take-le, take-add, drop-drop}
+use Rattle.std.proofs.lemmas.Bool.Decides.{eqb_tells, nat_tests}
 use Rattle.std.proofs.lemmas.List.{get_or-drop, take_more}
 use Rattle.std.specs.List.{prefix_len}
 use Rattle.std.proofs.lemmas.List.Sums.{prefix_len-le-length}
 use Rattle.omega_text.specs.Cut.{Cuts}
 use Rattle.omega_text.specs.Lexeme.{Lexeme}
 use Rattle.omega_text.specs.Limits.{most_number}
-use Rattle.omega_text.specs.Bytes.{is_digit, is_letter, is_white, is_word_byte}
-use Rattle.omega_text.specs.Forms.{IsDigits, IsWord}
+use Rattle.omega_text.specs.Bytes.{is_digit, is_letter, is_word_byte}
 use Rattle.omega_text.specs.declared.hoa.kind.HoaKind.{HoaKind}
-use Rattle.omega_text.specs.declared.hoa.kind.HoaKind.TheVariants.{Identifier, HeaderName, AliasName, True, False, Int, String, Body, End, Abort, Not, And, Or, OpenParenthesis, CloseParenthesis, OpenBracket, CloseBracket, OpenBrace, CloseBrace}
+use Rattle.omega_text.specs.declared.hoa.kind.HoaKind.TheVariants.{Identifier, HeaderName, Int, String, Body, End, Abort}
 use Rattle.omega_text.specs.declared.hoa.mode.Mode.{Mode}
-use Rattle.omega_text.specs.declared.hoa.mode.Mode.TheVariants.{Start, Word, Digits, Dash, Whole, Blank}
+use Rattle.omega_text.specs.declared.hoa.mode.Mode.TheVariants.{Start, Word, Digits, Quoted, Dash, Whole, Blank}
 use Rattle.omega_text.specs.declared.hoa.passing.Course.TheVariants.{Ends}
+use Rattle.omega_text.specs.declared.hoa.passing.Simple.TheVariants.{Ended}
 use Rattle.omega_text.specs.declared.hoa.pending.Pending.{Pending}
 use Rattle.omega_text.specs.declared.hoa.placed.PlacedToken.{PlacedToken}
 use Rattle.omega_text.specs.declared.hoa.placed.Settled.{Settled}
 use Rattle.omega_text.specs.declared.hoa.tokenizer.HoaTokenizer.{HoaTokenizer}
-use Rattle.omega_text.specs.declared.refusal.text.TextFault.{TextFault}
 use Rattle.omega_text.specs.hoa.Format.{hoa_format}
 use Rattle.omega_text.specs.hoa.Laws.{is_closed}
 use Rattle.omega_text.specs.hoa.Pieces.{lexeme_in, lexemes_in, settled_lexemes}
-use Rattle.omega_text.specs.hoa.scanning.Modes.{first_mode, letter_kind, next_mode, run, word_mode}
-use Rattle.omega_text.specs.hoa.scanning.Passing.{HasPassed, HasRoom, IsCourse, IsEndedBy, IsNoneMark, IsOnWayFor, IsPlain, IsSingle, NoneMarks, Passed, Passes, PassesAs, is_mark}
+use Rattle.omega_text.specs.hoa.scanning.Modes.{first_mode, letter_kind, next_mode, quoted_mode, run, word_mode}
+use Rattle.omega_text.specs.hoa.scanning.Passing.{EndsWord, HasPassed, HasRoom, IsCourse, IsEndedBy, IsNoneMark, IsOnWayFor, IsPlain, IsSimple, IsSingle, NoneMarks, Passed, Passes, PassesAs, is_mark, is_quoted}
 use Rattle.omega_text.specs.hoa.scanning.Reading.{Any, HasRead, IsAt, IsKept, IsOnWay, IsUnfinished, With}
 use Rattle.omega_text.specs.hoa.scanning.Unfinished.{IsPlaced, IsTokenIn, IsValueOf, fresh}
 use Rattle.omega_text.proofs.hoa_texts.Last.{last_unclosed}
 use Rattle.omega_text.proofs.hoa_texts.Pieces.{at_with, grown, judged, parts, split_more}
 use Rattle.omega_text.proofs.hoa_texts.Runs.{run_append}
-use Rattle.omega_text.proofs.hoa_texts.Tests.{pass}
+use Rattle.omega_text.proofs.hoa_texts.Tests.{either, pass}
 use Rattle.omega_text.proofs.hoa_texts.Units.{first_digits, first_reached}
 use Rattle.omega_text.proofs.hoa_texts.Written.{digits_run, first_digit, first_letter, no_test}
 
@@ -154,6 +153,18 @@ read_on start text before after next is mode begins unfinished seen lexemes plac
   plain = tt;
 }
 
+-- bytes from a place on
+passes_part : (start : ℕ) (bytes rest : List ℕ) (place count : ℕ) (before after : Pending) → place ≤ length bytes → rest ≡ drop place bytes → count ≤ length rest
+    → PassesAs start (take count rest) before after → Passes start bytes place (place + count) before after
+passes_part start bytes rest place count before after within is short reads =
+    let size = length-drop place bytes in
+    let all : place + count - place ≡ count = omega arith in
+    record {
+      forward = omega arith;
+      within = omega (arith, ap length is);
+      reads = subst (λ n. PassesAs start (take n (drop place bytes)) before after) (sym all) (subst (λ bs. PassesAs start (take count bs) before after) is reads);
+    }
+
 -- the first unit of bytes from a place on
 module _ (bytes rest : List ℕ) (place start count : ℕ) (inside : place < length bytes) (is : rest ≡ drop place bytes) where
   head_is : get_or rest 0 0 ≡ get_or bytes place 0
@@ -162,30 +173,51 @@ module _ (bytes rest : List ℕ) (place start count : ℕ) (inside : place < len
   some : 0 < length rest
   some = let size = length-drop place bytes in omega (arith, ap length is)
 
-  taken : (before after : Pending) → count ≤ length rest → PassesAs start (take count rest) before after → Passes start bytes place (place + count) before after
-  taken before after short reads =
-      let size = length-drop place bytes in
-      let all : place + count - place ≡ count = omega arith in
-      record {
-        forward = omega arith;
-        within = omega (arith, ap length is);
-        reads = subst (λ n. PassesAs start (take n (drop place bytes)) before after) (sym all) (subst (λ bs. PassesAs start (take count bs) before after) is reads);
-      }
-
   -- a word
   pub word_passes : (kind : HoaKind) (after : Pending) → is_letter (get_or bytes place 0) ≡ true → count ≡ prefix_len is_word_byte rest
       → (count ≡ 1 → kind ≡ letter_kind (get_or rest 0 0)) → (count ≢ 1 → kind ≡ Identifier) → after.mode ≡ Word kind → after.start ≡ start → Passes start bytes place (place + count) (fresh start) after
   word_passes kind after letter prefix one more mode begins =
-      taken (fresh start) after (omega (arith, prefix, prefix_len-le-length is_word_byte rest))
+      passes_part start bytes rest place count (fresh start) after (omega (arith, inside)) is (omega (arith, prefix, prefix_len-le-length is_word_byte rest))
       (read_on start (take count rest) (fresh start) after (Word kind) (first_reached rest some (ap is_letter head_is ∙ letter) count prefix kind one more) mode begins (λ begun none. tt))
+
+  -- a word, of some kind
+  pub word_read : is_letter (get_or bytes place 0) ≡ true → count ≡ prefix_len is_word_byte rest
+      → (kind : HoaKind) × Passes start bytes place (place + count) (fresh start) (record { mode = Word kind; start = start; value = 0 })
+  word_read letter prefix = ⊎_elim
+      (λ (is, one). (
+        letter_kind (get_or rest 0 0),
+        word_passes (letter_kind (get_or rest 0 0)) (record { mode = Word (letter_kind (get_or rest 0 0)); start = start; value = 0 }) letter prefix (λ _. refl) (λ other. absurd (other one)) refl refl,
+      ))
+      (λ (is, more). (
+        Identifier,
+        word_passes Identifier (record { mode = Word Identifier; start = start; value = 0 }) letter prefix (λ one. absurd (more one)) (λ _. refl) refl refl,
+      ))
+      (eqb_tells count 1)
 
   -- digits
   pub digits_pass : (after : Pending) → is_digit (get_or bytes place 0) ≡ true → count ≡ prefix_len is_digit rest → after.mode ≡ Digits → after.start ≡ start
       → IsValueOf after.value (take count rest) → Passes start bytes place (place + count) (fresh start) after
   digits_pass after digit prefix mode begins value =
-      taken (fresh start) after (omega (arith, prefix, prefix_len-le-length is_digit rest))
+      passes_part start bytes rest place count (fresh start) after (omega (arith, inside)) is (omega (arith, prefix, prefix_len-le-length is_digit rest))
       (read_on start (take count rest) (fresh start) after Digits (digits_run (take count rest) (first_digits rest some (ap is_digit head_is ∙ digit) count prefix)) mode begins
       (λ begun none. subst (λ bs. IsValueOf after.value (bs ++ take count rest)) (sym none) value))
+
+-- bytes of a string, up to the first quote or backslash
+stays_quoted : (byte : ℕ) → is_quoted byte ≡ true → quoted_mode byte ≡ Quoted
+stays_quoted byte quoted =
+    let no_quote : (byte == 34) ≡ false = grind (arith, nat_tests) in
+    let no_backslash : (byte == 92) ≡ false = grind (arith, nat_tests) in
+    pass (byte == 34) _ _ no_quote ∙ pass (byte == 92) _ _ no_backslash
+
+quoted_front : (bytes : List ℕ) → run (Some Quoted) (take (prefix_len is_quoted bytes) bytes) ≡ Some Quoted
+quoted_front [] = refl
+quoted_front (byte ∷ rest) =
+    either (λ count. run (Some Quoted) (take count (byte ∷ rest)) ≡ Some Quoted) (is_quoted byte) (1 + prefix_len is_quoted rest) 0
+    (λ quoted.
+    let one : 1 + prefix_len is_quoted rest ≡ suc (prefix_len is_quoted rest) = omega arith in
+    ap (λ count. run (Some Quoted) (take count (byte ∷ rest))) one
+    ∙ ap (λ mode. run (Some mode) (take (prefix_len is_quoted rest) rest)) (stays_quoted byte quoted) ∙ quoted_front rest)
+    (λ other. refl)
 
 -- a unit goes on with a byte
 pub goes_on : (place byte : ℕ) (before after : Pending) (next : Mode) → next_mode before.mode byte ≡ Some next → after.mode ≡ next → after.start ≡ before.start
@@ -293,8 +325,8 @@ placed kind value start end = record { kind = kind; value = value; span = record
 placed_there : (kind : HoaKind) (value start end : ℕ) → IsPlaced (placed kind value start end) kind value start end
 placed_there kind value start end = record { kind_is = refl; value_is = refl; start_is = refl; end_is = refl }
 
-pub word_ended : (before : Pending) (kind : HoaKind) (byte : ℕ) → before.mode ≡ Word kind → IsSingle byte → IsEndedBy byte before
-word_ended before kind byte is single =
+pub word_ended : (byte : ℕ) → IsSingle byte → EndsWord byte
+word_ended byte single before kind is =
     ended_single before byte (ap (λ mode. next_mode mode byte) is ∙ single_ends_word kind byte single)
     (λ stop. (
       placed kind 0 before.start stop,
@@ -312,8 +344,8 @@ digits_ended before byte is small single =
     single
 
 -- a word and the colon behind it
-pub header_ended : (before : Pending) (kind : HoaKind) (byte : ℕ) → before.mode ≡ Word kind → byte ≡ 58 → IsEndedBy byte before
-header_ended before kind byte is colon seen lexemes at =
+pub header_ended : (byte : ℕ) → byte ≡ 58 → EndsWord byte
+header_ended byte colon before kind is seen lexemes at =
     let token = placed HeaderName 0 before.start (length seen + 1) in
     record {
       added = lexeme_in (seen ++ byte ∷ []) token ∷ [];
@@ -322,6 +354,11 @@ header_ended before kind byte is colon seen lexemes at =
           (refl, (token, refl, placed_there HeaderName 0 before.start (length seen + 1)));
       plain = (refl, tt);
     }
+
+-- a quote ends a string
+pub string_ended : (byte : ℕ) (before : Pending) → before.mode ≡ Quoted → byte ≡ 34 → IsEndedBy byte before
+string_ended byte before is quote seen lexemes at =
+    ends_with (length seen) byte before (Whole String) (ap (λ mode. next_mode mode byte) is ∙ ap (λ b. Some (quoted_mode b)) quote) (inr (String, refl, refl)) seen lexemes refl at
 
 -- such a unit and the byte that ends it
 pub ended_passes : (start : ℕ) (bytes : List ℕ) (from to : ℕ) (before between : Pending) → Passes start bytes from to before between → to < length bytes → IsEndedBy (get_or bytes to 0) between
@@ -332,6 +369,47 @@ ended_passes start bytes from to before between front inside ends =
     (λ seen lexemes place at.
     let last : length seen + 1 ≡ start + (to + 1 - from) = omega (arith, place, front.forward) in
     subst (λ n. Passed seen lexemes (get_or bytes to 0 ∷ []) (fresh n)) last (ends seen lexemes at)))
+
+-- a unit is whole, with the byte behind it
+pub single_simple : (start : ℕ) (bytes : List ℕ) (place : ℕ) → place < length bytes → IsSingle (get_or bytes place 0) → IsSimple start bytes place (Ended (place + 1))
+single_simple start bytes place inside single =
+    let one : start + 1 ≡ start + (place + 1 - place) = omega arith in
+    (omega arith, passes_byte start bytes place (fresh start) (fresh (start + (place + 1 - place))) inside (subst (λ n. PassesAs start (get_or bytes place 0 ∷ []) (fresh start) (fresh n)) one (single_ends start (get_or bytes place 0) single)))
+
+ended_simple : (start : ℕ) (bytes : List ℕ) (place end : ℕ) (between : Pending) → Passes start bytes place end (fresh start) between → end < length bytes → IsEndedBy (get_or bytes end 0) between
+    → IsSimple start bytes place (Ended (end + 1))
+ended_simple start bytes place end between front inside ends = (omega (arith, front.forward), ended_passes start bytes place end (fresh start) between front inside ends)
+
+pub word_simple : (start : ℕ) (bytes rest : List ℕ) (place count : ℕ) → place < length bytes → rest ≡ drop place bytes → is_letter (get_or bytes place 0) ≡ true → count ≡ prefix_len is_word_byte rest
+    → place + count < length bytes → EndsWord (get_or bytes (place + count) 0) → IsSimple start bytes place (Ended (place + count + 1))
+word_simple start bytes rest place count inside is letter prefix more ends =
+    let word = word_read bytes rest place start count inside is letter prefix in
+    ended_simple start bytes place (place + count) (record { mode = Word word.0; start = start; value = 0 }) word.1 more (ends (record { mode = Word word.0; start = start; value = 0 }) word.0 refl)
+
+pub digits_simple : (start : ℕ) (bytes rest : List ℕ) (place count value : ℕ) → place < length bytes → rest ≡ drop place bytes → is_digit (get_or bytes place 0) ≡ true → count ≡ prefix_len is_digit rest
+    → IsValueOf value (take count rest) → value ≤ most_number → place + count < length bytes → IsSingle (get_or bytes (place + count) 0) → IsSimple start bytes place (Ended (place + count + 1))
+digits_simple start bytes rest place count value inside is digit prefix worth small more single =
+    let between : Pending = record { mode = Digits; start = start; value = value } in
+    ended_simple start bytes place (place + count) between (digits_pass bytes rest place start count inside is between digit prefix refl refl worth) more
+    (digits_ended between (get_or bytes (place + count) 0) refl small single)
+
+-- a quote and what stands behind it
+pub string_passes : (start : ℕ) (bytes rest : List ℕ) (place count : ℕ) (after : Pending) → place < length bytes → rest ≡ drop (place + 1) bytes → get_or bytes place 0 ≡ 34 → count ≡ prefix_len is_quoted rest
+    → after.mode ≡ Quoted → after.start ≡ start → Passes start bytes place (place + 1 + count) (fresh start) after
+string_passes start bytes rest place count after inside is quote prefix mode begins =
+    passes_then start bytes place (place + 1) (place + 1 + count) (fresh start) (record { mode = Quoted; start = start; value = 0 }) after
+    (passes_byte start bytes place (fresh start) (record { mode = Quoted; start = start; value = 0 }) inside
+    (goes_on start (get_or bytes place 0) (fresh start) (record { mode = Quoted; start = start; value = 0 }) Quoted (ap first_mode quote) refl refl (λ value begun. tt)))
+    (passes_part (start + (place + 1 - place)) bytes rest (place + 1) count (record { mode = Quoted; start = start; value = 0 }) after (omega (arith, inside)) is (omega (arith, prefix, prefix_len-le-length is_quoted rest))
+    (read_on (start + (place + 1 - place)) (take count rest) (record { mode = Quoted; start = start; value = 0 }) after Quoted
+    (ap (λ n. run (Some Quoted) (take n rest)) prefix ∙ quoted_front rest) mode begins (λ begun none. tt)))
+
+pub string_simple : (start : ℕ) (bytes rest : List ℕ) (place count : ℕ) → place < length bytes → rest ≡ drop (place + 1) bytes → get_or bytes place 0 ≡ 34 → count ≡ prefix_len is_quoted rest
+    → place + 1 + count < length bytes → get_or bytes (place + 1 + count) 0 ≡ 34 → IsSimple start bytes place (Ended (place + 1 + count + 1))
+string_simple start bytes rest place count inside is quote prefix more ends =
+    let between : Pending = record { mode = Quoted; start = start; value = 0 } in
+    ended_simple start bytes place (place + 1 + count) between (string_passes start bytes rest place count between inside is quote prefix refl refl) more
+    (string_ended (get_or bytes (place + 1 + count) 0) between refl ends)
 
 -- a byte that settles neither a mark nor a fault
 pub plain_passed : (seen : List ℕ) (lexemes : List (Lexeme HoaKind)) (byte : ℕ) (after : Pending) (settled : Settled) → IsPlain settled

@@ -3,7 +3,7 @@
 ghost use Rattle.std.specs.Prelude.{◌≡◌, ◌+◌, ◌-◌, ◌<◌, ◌≤◌, ◌^◌, ◌∷◌, [], length, slice_index, take, true, IfSome, IsTrue};
 ghost use Rattle.std.specs.List.{prefix_len};
 ghost use Rattle.omega_text.specs.Bytes.{is_digit, is_letter};
-ghost use Rattle.omega_text.specs.hoa.scanning.Passing.{IsCourse, IsEndedBy, IsNoneMark, IsOnWayFor, IsPlain, IsSingle, Passes, PassesAs};
+ghost use Rattle.omega_text.specs.hoa.scanning.Passing.{EndsWord, IsCourse, IsNoneMark, IsOnWayFor, IsPlain, IsSimple, IsSingle, Passes, PassesAs, is_quoted};
 ghost use Rattle.omega_text.specs.hoa.scanning.Reading.{IsOnWay};
 ghost use Rattle.omega_text.specs.hoa.scanning.Unfinished.{IsValueOf, fresh};
 
@@ -126,7 +126,7 @@ fn is_no_mark(settled: Option<PlacedToken>) -> bool
     }
 }
 
-/// Where no unit has been begun, those that a byte or a run of bytes tells, up to one that goes on or ends in another way.
+/// Where no unit has been begun, those that a first byte and a run of bytes behind it tell.
 #[inline(always)]
 fn pass_plain(pending: Pending, start: usize, bytes: &[u8], from: usize) -> (Pending, usize)
     requires within { from ≤ length bytes.now }
@@ -139,8 +139,7 @@ fn pass_plain(pending: Pending, start: usize, bytes: &[u8], from: usize) -> (Pen
     }
 }
 
-/// White bytes, signs, words and numbers, as long as a white byte, a sign or a colon ends them; and the word or the number
-/// that none of them ends.
+/// White bytes, signs, words, numbers and strings, as far as they are ended one behind the other; and the unit that is not.
 #[inline(always)]
 fn pass_simple(start: usize, bytes: &[u8], from: usize) -> (Pending, usize)
     requires within { from ≤ length bytes.now }
@@ -149,18 +148,47 @@ fn pass_simple(start: usize, bytes: &[u8], from: usize) -> (Pending, usize)
 {
     let mut place = from;
     while place < bytes.len() {
-        let byte = bytes[place];
-        if is_single(byte) {
-            place += 1;
-        } else {
-            let (begun, end) = simple_unit(bytes, place, start + (place - from));
-            if !is_ended_at(&begun, bytes, end) {
-                return (begun, end);
-            }
-            place = end + 1;
+        match simple_unit(bytes, place, start + (place - from)) {
+            Simple::Ended { place: end } => place = end,
+            Simple::Begun {
+                pending,
+                place: end,
+            } => return (pending, end),
         }
     }
     (Pending::new(start + (place - from)), place)
+}
+
+/// How far a unit was read that a first byte and a run of bytes behind it tell.
+#[derive(Clone, Copy, Debug, PartialEq, Eq)]
+enum Simple {
+    /// It is whole, and so is the unit that the byte behind it is, if that byte was needed to end it.
+    Ended { place: usize },
+    /// It is not, or has not been begun.
+    Begun { pending: Pending, place: usize },
+}
+
+/// Reads the unit that begins at a place.
+#[inline(always)]
+fn simple_unit(bytes: &[u8], place: usize, start: usize) -> Simple
+    requires { place < length bytes.now }
+    ensures { IsSimple start bytes.now place result }
+{
+    let byte = bytes[place];
+    if is_single(byte) {
+        Simple::Ended { place: place + 1 }
+    } else if is_letter(byte) {
+        pass_word(bytes, place, start)
+    } else if byte.is_ascii_digit() {
+        pass_digits(bytes, place, start)
+    } else if byte == b'"' {
+        pass_string(bytes, place, start)
+    } else {
+        Simple::Begun {
+            pending: Pending::new(start),
+            place,
+        }
+    }
 }
 
 /// Whether a byte is a unit of its own and no mark: white, or a sign.
@@ -171,57 +199,60 @@ fn is_single(byte: u8) -> bool
     is_white(byte) || sign_kind(byte).is_some()
 }
 
-/// The word or the number that begins at a place, and where it ends; nothing where neither begins.
 #[inline(always)]
-fn simple_unit(bytes: &[u8], place: usize, start: usize) -> (Pending, usize)
-    requires { place < length bytes.now }
-    ensures { Passes start bytes.now place result.1 (fresh start) result.0 }
-{
-    let byte = bytes[place];
-    if is_letter(byte) {
-        word_at(bytes, place, start)
-    } else if byte.is_ascii_digit() {
-        digits_at(bytes, place, start)
-    } else {
-        (Pending::new(start), place)
-    }
-}
-
-#[inline(always)]
-fn word_at(bytes: &[u8], place: usize, start: usize) -> (Pending, usize)
+fn pass_word(bytes: &[u8], place: usize, start: usize) -> Simple
     requires within { place < length bytes.now }
     requires letter { is_letter (slice_index bytes.now place) ≡ true }
-    ensures { Passes start bytes.now place result.1 (fresh start) result.0 }
+    ensures { IsSimple start bytes.now place result }
 {
     let rest = tail(bytes, place);
     let count = word_count(rest);
+    let end = place + count;
+    if end < bytes.len() && ends_word(bytes[end]) {
+        return Simple::Ended { place: end + 1 };
+    }
     let kind = if count == 1 {
         letter_kind(rest[0])
     } else {
         HoaKind::Identifier
     };
-    let pending = Pending {
-        mode: KeptMode::new(Mode::Word(kind)),
-        start,
-        value: 0,
-    };
-    (pending, place + count)
+    Simple::Begun {
+        pending: Pending {
+            mode: KeptMode::new(Mode::Word(kind)),
+            start,
+            value: 0,
+        },
+        place: end,
+    }
+}
+
+/// Whether a byte ends a word, as a colon or a unit of its own.
+#[inline(always)]
+fn ends_word(byte: u8) -> bool
+    ensures { IsTrue result → EndsWord byte }
+{
+    byte == b':' || is_single(byte)
 }
 
 #[inline(always)]
-fn digits_at(bytes: &[u8], place: usize, start: usize) -> (Pending, usize)
+fn pass_digits(bytes: &[u8], place: usize, start: usize) -> Simple
     requires within { place < length bytes.now }
     requires digit { is_digit (slice_index bytes.now place) ≡ true }
-    ensures { Passes start bytes.now place result.1 (fresh start) result.0 }
+    ensures { IsSimple start bytes.now place result }
 {
-    let rest = tail(bytes, place);
-    let (count, value) = front_value(rest);
-    let pending = Pending {
-        mode: KeptMode::new(Mode::Digits),
-        start,
-        value,
-    };
-    (pending, place + count)
+    let (count, value) = front_value(tail(bytes, place));
+    let end = place + count;
+    if end < bytes.len() && value <= MOST_NUMBER as u64 && is_single(bytes[end]) {
+        return Simple::Ended { place: end + 1 };
+    }
+    Simple::Begun {
+        pending: Pending {
+            mode: KeptMode::new(Mode::Digits),
+            start,
+            value,
+        },
+        place: end,
+    }
 }
 
 /// How many bytes at the front are digits, and their value, or a number above the greatest where they are no number.
@@ -240,26 +271,37 @@ fn front_value(bytes: &[u8]) -> (usize, u64)
     }
 }
 
-/// Whether the byte at a place ends a word or a number, and is itself a whole unit or the colon of a header name.
 #[inline(always)]
-fn is_ended_at(begun: &Pending, bytes: &[u8], place: usize) -> bool
-    ensures within { IsTrue result → place < length bytes.now }
-    ensures ended { IsTrue result → IsEndedBy (slice_index bytes.now place) begun.now }
+fn pass_string(bytes: &[u8], place: usize, start: usize) -> Simple
+    requires within { place < length bytes.now }
+    requires quote { slice_index bytes.now place ≡ 34 }
+    ensures { IsSimple start bytes.now place result }
 {
-    if place >= bytes.len() {
-        return false;
+    let inside = place + 1;
+    let end = inside + quoted_count(tail(bytes, inside));
+    if end < bytes.len() && bytes[end] == b'"' {
+        return Simple::Ended { place: end + 1 };
     }
-    is_ended(begun, bytes[place])
+    Simple::Begun {
+        pending: Pending {
+            mode: KeptMode::new(Mode::Quoted),
+            start,
+            value: 0,
+        },
+        place: end,
+    }
 }
 
-/// Whether a byte ends a word or a number, and is itself a whole unit or, behind a word, the colon of a header name.
-#[inline(always)]
-fn is_ended(begun: &Pending, byte: u8) -> bool
-    ensures { IsTrue result → IsEndedBy byte begun.now }
+/// How many bytes at the front are neither quotes nor backslashes.
+fn quoted_count(bytes: &[u8]) -> usize
+    ensures { result ≡ prefix_len is_quoted bytes.now }
 {
-    match begun.mode.get() {
-        Mode::Word(_) => byte == b':' || is_single(byte),
-        Mode::Digits => begun.value <= MOST_NUMBER as u64 && is_single(byte),
-        _ => false,
-    }
+    bytes.iter().take_while(|byte| is_quoted(**byte)).count()
+}
+
+/// Whether a byte stands for itself in a string.
+fn is_quoted(byte: u8) -> bool
+    ensures { result ≡ is_quoted byte }
+{
+    byte != b'"' && byte != b'\\'
 }

@@ -1,11 +1,23 @@
 -- A byte is read behind those before it.
-use Rattle.std.proofs.Common.{◌∷◌, [], ◌++◌, get_or, refl, sym, subst, take}
+use Rattle.std.proofs.Common.{◌∷◌, [], ◌++◌, get_or, refl, arith, sym, subst, take}
 use Rattle.omega_text.specs.hoa.Pieces.{settled_lexemes}
 use Rattle.omega_hoa.specs.Feeding.{IsDivided}
 use Rattle.omega_hoa.specs.dividing.Next.{IsRefusedThen}
-use Rattle.omega_hoa.proofs.Results.{error_then, more_says}
-use Rattle.omega_hoa.proofs.Settling.{progressed, refused_whole, settled_next}
+use Rattle.omega_hoa.proofs.Results.{error_then, more_says, nothing_more}
+use Rattle.omega_hoa.proofs.Settling.{divided_on, nothing_divided, progressed, refused_whole, settled_next}
 use Rattle.omega_hoa.proofs.progress.read_byte.Goals as goal
+
+pub returns-then-is_nothing-clause-read : goal.returns-then-is_nothing-clause-read
+returns-then-is_nothing-clause-read c = λ prior items so_far.
+    let byte = get_or c.args.bytes.now c.args.place 0 in
+    let front = prior ++ take c.args.place c.args.bytes.now in
+    let seen = front ++ byte ∷ [] in
+    let division = c.args.progress.division in
+    nothing_more _ _ _
+    (progressed c.args.bytes.now c.args.first c.args.place c.args.progress prior items c.requires.within so_far byte c.step-settled.result c.step-settled.new.self
+    division items refl (omega arith) (c.step-settled.ensures.reads front so_far.lexemes so_far.read)
+    (nothing_divided c.step-settled.result seen so_far.lexemes items division.begins division.inside (c.is_nothing.ensures c.if-is_nothing.true)
+    (divided_on front (byte ∷ []) so_far.lexemes items division.begins division.inside so_far.divided)))
 
 pub take_all-requires : goal.take_all-requires
 take_all-requires c =

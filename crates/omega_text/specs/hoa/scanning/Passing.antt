@@ -1,5 +1,5 @@
 -- Bytes that are read at once, while they settle neither a mark nor a fault.
-use Rattle.std.specs.Prelude.{◌≡◌, ℕ, ◌+◌, ◌-◌, ◌<◌, ◌≤◌, ◌^◌, ◌⊎◌, Bool, true, false, Option, Some, None, List, [], ◌∷◌, ◌++◌, length, take, drop}
+use Rattle.std.specs.Prelude.{◌≡◌, ℕ, ◌+◌, ◌-◌, ◌<◌, ◌≤◌, ◌^◌, ◌⊎◌, Bool, true, false, not, ◌&&◌, ◌==◌, Option, Some, None, List, [], ◌∷◌, ◌++◌, length, take, drop}
 use Rattle.omega_text.specs.Lexeme.{Lexeme}
 use Rattle.omega_text.specs.declared.hoa.kind.HoaKind.{HoaKind}
 use Rattle.omega_text.specs.declared.hoa.kind.HoaKind.TheVariants.{Body, End, Abort}
@@ -9,9 +9,11 @@ use Rattle.omega_text.specs.declared.hoa.placed.Settled.{Settled}
 use Rattle.omega_text.specs.declared.hoa.tokenizer.HoaTokenizer.{HoaTokenizer}
 use Rattle.omega_text.specs.hoa.scanning.Modes.{first_mode}
 use Rattle.omega_text.specs.declared.hoa.mode.Mode.{Mode}
-use Rattle.omega_text.specs.declared.hoa.mode.Mode.TheVariants.{Blank, Whole}
+use Rattle.omega_text.specs.declared.hoa.mode.Mode.TheVariants.{Word, Blank, Whole}
 use Rattle.omega_text.specs.declared.hoa.passing.Course.{Course}
 use Rattle.omega_text.specs.declared.hoa.passing.Course.TheVariants.{GoesOn, Ends, Other}
+use Rattle.omega_text.specs.declared.hoa.passing.Simple.{Simple}
+use Rattle.omega_text.specs.declared.hoa.passing.Simple.TheVariants.{Ended, Begun}
 use Rattle.omega_text.specs.hoa.scanning.Reading.{Any, HasRead, IsAt, IsUnfinished}
 use Rattle.omega_text.specs.hoa.scanning.Unfinished.{fresh}
 
@@ -77,6 +79,19 @@ IsCourse next Other = Unit {0}
 -- the same of one byte, behind which no unit has been begun
 abbrev pub IsEndedBy : ℕ → Pending → Type 0
 IsEndedBy byte before = (seen : List ℕ) (lexemes : List (Lexeme HoaKind)) → IsAt Any seen lexemes before → Passed seen lexemes (byte ∷ []) (fresh (length seen + 1))
+
+-- such a byte, or the colon of a header name, ends a word
+abbrev pub EndsWord : ℕ → Type 0
+EndsWord byte = (before : Pending) (kind : HoaKind) → before.mode ≡ Word kind → IsEndedBy byte before
+
+-- a byte stands for itself in a string: neither a quote nor a backslash
+abbrev pub is_quoted : ℕ → Bool
+is_quoted byte = not (byte == 34) && not (byte == 92)
+
+-- units were read behind a place: up to another where none has been begun, or with one that has
+abbrev pub IsSimple : ℕ → List ℕ → ℕ → Simple → Type 0
+IsSimple start bytes place (Ended end) = (place < end) × Passes start bytes place end (fresh start) (fresh (start + (end - place)))
+IsSimple start bytes place (Begun pending end) = Passes start bytes place end (fresh start) pending
 
 -- a unit is being read at a place, and places can be counted further by so many
 abbrev pub IsOnWayFor : ℕ → Pending → ℕ → Type 0

@@ -1,6 +1,5 @@
 -- One unit or one byte more.
 use Rattle.std.proofs.Common.{◌<◌, ◌+◌, ◌-◌, length, arith}
-use Rattle.omega_text.specs.hoa.scanning.Passing.{Passes}
 use Rattle.omega_text.proofs.hoa_texts.Passing.{passes_byte, passes_none, passes_then, way_further, way_on}
 use Rattle.omega_text.proofs.hoa.passing.pass_bytes.Goals as goal
 

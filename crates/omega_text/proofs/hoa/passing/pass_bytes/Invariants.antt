@@ -1,5 +1,5 @@
 -- So far neither a mark nor a fault was settled.
-use Rattle.std.proofs.Common.{◌-◌, ℕ, length}
+use Rattle.std.proofs.Common.{◌-◌, length}
 use Rattle.omega_text.specs.hoa.scanning.Passing.{Passes}
 use Rattle.omega_text.proofs.hoa.passing.pass_bytes.Given as goal
 

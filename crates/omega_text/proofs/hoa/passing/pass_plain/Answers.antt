@@ -1,5 +1,5 @@
 -- From the start of a unit, or not at all.
-use Rattle.std.proofs.Common.{sym, ◌∙◌, arith}
+use Rattle.std.proofs.Common.{sym, ◌∙◌}
 use Rattle.omega_text.proofs.hoa_texts.Passing.{passes_none, started}
 use Rattle.omega_text.proofs.hoa.passing.pass_plain.Goals as goal
 

@@ -1,5 +1,5 @@
 -- So far all units are simple.
-use Rattle.std.proofs.Common.{◌+◌, ◌-◌, ℕ, length}
+use Rattle.std.proofs.Common.{◌+◌, ◌-◌, length}
 use Rattle.omega_text.specs.hoa.scanning.Passing.{Passes}
 use Rattle.omega_text.specs.hoa.scanning.Unfinished.{fresh}
 use Rattle.omega_text.proofs.hoa.passing.pass_simple.Given as goal

@@ -1,5 +1,5 @@
 -- What was read and settled before, with the bytes that were passed.
-use Rattle.std.proofs.Common.{◌+◌, ◌-◌, refl, sym}
+use Rattle.std.proofs.Common.{◌+◌, ◌-◌, refl}
 use Rattle.omega_text.proofs.hoa_texts.Passing.{has_passed, has_passed_none, way_read}
 use Rattle.omega_text.proofs.hoa.tokenizer.HoaTokenizer.pass.Goals as goal
 

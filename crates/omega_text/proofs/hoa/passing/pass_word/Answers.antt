@@ -1,17 +1,22 @@
--- The word that was counted.
-use Rattle.std.proofs.Common.{◌≡◌, ◌≢◌, ◌≤◌, length, get_or, refl, sym, ap, ◌∙◌, arith, length-drop}
+-- The word that was counted, and the byte behind it.
+use Rattle.std.proofs.Common.{◌≡◌, ◌≢◌, length, get_or, refl, ap, ◌∙◌, arith, length-drop}
 use Rattle.std.proofs.lemmas.List.Sums.{prefix_len-le-length}
 use Rattle.omega_text.specs.Bytes.{is_word_byte}
 use Rattle.omega_text.specs.declared.hoa.kind.HoaKind.TheVariants.{Identifier}
 use Rattle.omega_text.specs.hoa.scanning.Modes.{letter_kind}
-use Rattle.omega_text.proofs.hoa_texts.Passing.{word_passes}
-use Rattle.omega_text.proofs.hoa.passing.word_at.Goals as goal
-use Rattle.omega_text.proofs.hoa.passing.word_at.Goals.{then-count-eq1, else-count-eq1}
+use Rattle.omega_text.proofs.hoa_texts.Passing.{word_passes, word_simple}
+use Rattle.omega_text.proofs.hoa.passing.pass_word.Goals as goal
+use Rattle.omega_text.proofs.hoa.passing.pass_word.Goals.{then-count-eq1, else-count-eq1}
 
-pub overflow_add-result : goal.overflow_add-result
-overflow_add-result c =
+pub overflow_add-end : goal.overflow_add-end
+overflow_add-end c =
     let size = length-drop c.args.place c.args.bytes.now in
     omega (arith, c.word_count-count.ensures, prefix_len-le-length is_word_byte c.tail-rest.result.now, ap length c.tail-rest.ensures, c.requires.within)
+
+pub returns-then-ends_word : goal.returns-then-ends_word
+returns-then-ends_word c =
+    word_simple c.args.start c.args.bytes.now c.tail-rest.result.now c.args.place c.word_count-count.result c.requires.within c.tail-rest.ensures c.requires.letter c.word_count-count.ensures
+    c.if-end-bytes.true (c.ends_word.ensures c.if-ends_word.true)
 
 pub returns : goal.returns
 returns c =

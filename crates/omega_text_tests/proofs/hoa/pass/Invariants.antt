@@ -1,0 +1,10 @@
+-- So far all bytes were read.
+use Rattle.std.proofs.Common.{◌+◌, ◌-◌, ◌≤◌, length}
+use Rattle.omega_text_tests.specs.Read.{HasReadTo}
+use Rattle.omega_text_tests.proofs.hoa.pass.Given as goal
+
+abbrev pub invariant-loop-next : goal.invariant-loop-next
+invariant-loop-next l = record { read : HasReadTo (l.place + l.next) l.tokenizer; within : l.next ≤ length l.piece }
+
+abbrev pub decreases-loop-next : goal.decreases-loop-next
+decreases-loop-next l = length l.piece - l.next
