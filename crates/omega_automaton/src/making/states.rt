@@ -24,7 +24,7 @@ pub(crate) fn states_of(
     ensures ok { IfOk result (λ made. AllZip (IsStateOf aliases.now) states made) }
     ensures err { IfErr result IsMemory }
 {
-    let mut made = Vec::new(alloc);
+    let mut made = Vec::with_capacity(alloc, states.len())?;
     for state in states.into_vec() {
         let state = state_of(alloc, aliases, state)?;
         made.push(state)?;
@@ -62,7 +62,7 @@ fn edges_of(alloc: Global, aliases: &Aliases, edges: Seq<RawEdge>) -> Result<Seq
     ensures ok { IfOk result (λ made. AllZip (IsEdgeOf aliases.now) edges made) }
     ensures err { IfErr result IsMemory }
 {
-    let mut made = Vec::new(alloc);
+    let mut made = Vec::with_capacity(alloc, edges.len())?;
     for edge in edges.into_vec() {
         let edge = edge_of(alloc, aliases, edge)?;
         made.push(edge)?;
