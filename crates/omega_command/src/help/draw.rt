@@ -15,10 +15,13 @@ for player 0 and orange for player 1, and each choice is a bold edge.
   $ omega solve < game.pg > solution.txt
   $ omega draw --format pg --solution solution.txt < game.pg | dot -Tsvg > game.svg
 
---format hoa draws an automaton: its states with their numbers and names, an arrow into each start, and
-its edges with their labels, in which propositions stand by their names, and their acceptance marks. Of
-the states, those are drawn that the body has, or that a start or an edge names. With --lasso, the
-accepting lasso that `omega empty --search` writes is drawn in bold, where there is one.
+--format hoa draws an automaton: above it its name and its acceptance formula, then its states with
+their numbers and names, an arrow into each start, and its edges with their labels, in which
+propositions stand by their names, and their marks in braces. What leads to several states at once, an
+edge or a start, leads to them through a point. A state that the body does not have is drawn where an
+edge or a start leads to it. With --lasso, the accepting lasso that `omega empty --search` writes is
+bold, its cycle red and what is of its stem alone blue; where there is none, the automaton is drawn as
+without.
 
   $ echo 'HOA: v1 States: 2 Start: 0 acc-name: co-Buchi Acceptance: 1 Fin(0)
     --BODY-- State: 0 [t] 0 {0} [t] 1 State: 1 [t] 1 --END--' |

@@ -31,11 +31,11 @@ as `omega solve --from ID` writes it; the file has the whole game. Where no node
   $ omega solve --from 0 < game.pg | omega verify --game game.pg --from 0
   yes
 
-A solution text is what `omega solve` writes: a header with the greatest identifier of the game or part, then
-a line for each node in rising order of identifiers, with the player who wins from it and, exactly
-where that player owns the node, one of its successors. Any other text of this kind is refused as
-53 BadSolution. What is wrong with the game is told before what is wrong with the solution. A file
-that can't be read is told as 61 Io.
+A solution text is what `omega solve` writes: a header with the greatest identifier of the game, or of
+the part, then a line for each node in rising order of identifiers, with the player who wins from it
+and, exactly where that player owns the node, one of its successors. Any other text of this kind is
+refused as 53 BadSolution. What is wrong with the game is told before what is wrong with the solution.
+A file that can't be read is told as 61 Io.
 
 Exit status: 0 yes, 1 a text or the task is refused, 2 the command line is wrong, 4 out of memory, 5 a
 read or a write failed, 6 no.";
