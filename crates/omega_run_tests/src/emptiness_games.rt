@@ -3,15 +3,15 @@ use std::alloc::Global;
 use std::test::Fail;
 
 /// A Büchi automaton of one state, whose edge is marked and can be taken.
-const LOOP: &str =
+pub(crate) const LOOP: &str =
     "HOA: v1 States: 1 Start: 0 AP: 1 \"a\" acc-name: Buchi Acceptance: 1 Inf(0) --BODY-- State: 0 [0] 0 {0} --END--";
 
 /// The same, where no set of propositions makes the label true.
-const UNUSABLE: &str =
+pub(crate) const UNUSABLE: &str =
     "HOA: v1 States: 1 Start: 0 AP: 1 \"a\" acc-name: Buchi Acceptance: 1 Inf(0) --BODY-- State: 0 [0&!0] 0 {0} --END--";
 
 /// Two sets that wait for each other, on two edges of one state.
-const TWO_SETS: &str =
+pub(crate) const TWO_SETS: &str =
     "HOA: v1 States: 1 Start: 0 acc-name: generalized-Buchi 2 Acceptance: 2 Inf(0)&Inf(1) --BODY-- State: 0 [t] 0 {0} [t] 0 {1} --END--";
 
 /// A command line, an input, and the emptiness game that is written of it.

@@ -4,13 +4,13 @@ use std::test::Fail;
 
 const TWO: &str = "0 1 0 1; 1 2 1 0;";
 
-const THREE: &str = "0 0 0 1,2; 1 1 1 0; 2 2 1 0;";
+pub(crate) const THREE: &str = "0 0 0 1,2; 1 1 1 0; 2 2 1 0;";
 
-const CARRY: &str = "0 1 0 0,1; 1 3 0 2; 2 4 0 2;";
+pub(crate) const CARRY: &str = "0 1 0 0,1; 1 3 0 2; 2 4 0 2;";
 
-const GAP: &str = "parity 9; 9 3 1 4; 4 2 0 9,4 \"a\";";
+pub(crate) const GAP: &str = "parity 9; 9 3 1 4; 4 2 0 9,4 \"a\";";
 
-const LOOPS: &str = "0 0 0 0; 1 0 0 1;";
+pub(crate) const LOOPS: &str = "0 0 0 0; 1 0 0 1;";
 
 /// A command line, an input and the whole output of a run that is done.
 static ANSWERS: [(&str, &str, &str); 27] = [

@@ -2,9 +2,15 @@
 #![tactic(auto)]
 
 #[cfg(test)]
+mod draw;
+#[cfg(test)]
+mod emptiness;
+#[cfg(test)]
 mod emptiness_games;
 #[cfg(test)]
 mod games;
+#[cfg(test)]
+mod parts;
 #[cfg(test)]
 mod portions;
 #[cfg(test)]

@@ -18,7 +18,7 @@ const EVEN_AND_ODD: &str = "0 2 0 0; 1 1 0 1;";
 const FREE: &str = "0 0 0 0,1; 1 0 0 1,0;";
 
 /// A way to a node at which player 0 chooses between an odd loop and an even one.
-const WAY: &str = "0 0 0 1; 1 0 1 2; 2 0 0 3; 3 0 1 4; 4 0 0 5,6; 5 1 0 5; 6 2 0 6;";
+pub(crate) const WAY: &str = "0 0 0 1; 1 0 1 2; 2 0 0 3; 3 0 1 4; 4 0 0 5,6; 5 1 0 5; 6 2 0 6;";
 
 /// A node of player 1 leads to one at which player 0 chooses between an even loop and an odd one.
 const BEHIND: &str = "0 0 1 1; 1 0 0 1,2; 2 1 0 2;";
