@@ -1,10 +1,13 @@
 """The program under check: how it is run, and what is said where it does something else than is wanted."""
 import os
+import re
 import subprocess
 import tempfile
 
 ROOT = os.path.dirname(os.path.dirname(os.path.abspath(__file__)))
-OMEGA = os.path.join(ROOT, "crates", "omega_tool", "out", "omega_tool")
+BUILT = os.path.join(ROOT, "crates", "omega_tool", "out", "omega_tool")
+# A copy of the program, if one is named, in place of the one that is built here.
+OMEGA = os.path.abspath(os.environ.get("OMEGA") or BUILT)
 
 # Far above what any check takes on a slow machine.
 SECONDS = 120
@@ -46,3 +49,15 @@ def fault_with_file(words, held, text, status, output, error=b""):
         file.write(held)
         file.flush()
         return fault_of(words + [file.name], text, status, output, error)
+
+
+def help_of(subcommand):
+    """The help of a subcommand, or of the program where it is empty."""
+    words = [OMEGA, subcommand, "--help"] if subcommand else [OMEGA, "--help"]
+    return subprocess.run(words, capture_output=True, check=True, timeout=SECONDS).stdout.decode()
+
+
+def subcommands():
+    """The subcommands that the help of the program lists."""
+    listed = re.search(r"^Commands:\n((?:  .*\n)*)", help_of(""), re.MULTILINE).group(1)
+    return [line.split()[0] for line in listed.splitlines()]

@@ -1,0 +1,149 @@
+"""What the pages say, as far as a program can tell: each command is run as it stands there and must write what stands
+below it, each link leads somewhere, each example of docs/library.md stands in the crate that is proved.
+
+A command stands in an indented block, behind `$ `. It goes on with the next line where it ends with a backslash, or
+inside single quotes. Up to the next command stands what it writes, on standard output and standard error together. The
+commands of a block are given to one shell, so that `echo $?` writes the status of the one before; those of a page work
+in one folder, in which `omega`, `docs` and `examples` are those of the repository. The help of the program and the manual are
+pages as well.
+"""
+import glob
+import os
+import re
+import shutil
+import subprocess
+import tempfile
+
+from manual import examples_of_manual, manual_checks
+from program import OMEGA, ROOT, SECONDS, help_of, subcommands
+
+MARK = "\x01done\x01"
+SHELL = "sh"
+# Programs that a command may need, and without which it is passed over.
+PERHAPS = ("dot",)
+# Solvers that are shown in blocks that are not run.
+ELSEWHERE = ("pgsolver ", "oink ")
+
+
+def pages():
+    """The pages by their paths, with their texts."""
+    paths = [os.path.join(ROOT, "README.md"), *sorted(glob.glob(os.path.join(ROOT, "docs", "*.md")))]
+    for path in [*paths, os.path.join(ROOT, "CHANGELOG.md")]:
+        with open(path) as file:
+            yield os.path.relpath(path, ROOT), file.read()
+
+
+def indented_blocks(text, depth):
+    """The runs of lines that are indented at least so far, without the indentation."""
+    block = []
+    for line in [*text.split("\n"), ""]:
+        if line.startswith(" " * depth):
+            block.append(line[depth:])
+        elif block:
+            yield block
+            block = []
+
+
+def goes_on(command):
+    return command.endswith("\\") or command.count("'") % 2 == 1
+
+
+def commands_of(block):
+    """The commands of a block with what each writes."""
+    made = []
+    for line in block:
+        if made and not made[-1][1] and goes_on(made[-1][0]):
+            made[-1][0] += "\n" + line
+        elif line.startswith("$ "):
+            made.append([line[2:], []])
+        elif made:
+            made[-1][1].append(line)
+    return [(command, "".join(line + "\n" for line in lines)) for command, lines in made]
+
+
+def prepare(folder):
+    """Lays out a folder as the repository is, as far as commands need it."""
+    os.makedirs(os.path.join(folder, "home"))
+    built = os.path.join(folder, "crates", "omega_tool", "out")
+    os.makedirs(built)
+    shutil.copy(OMEGA, os.path.join(built, "omega_tool"))
+    os.symlink(OMEGA, os.path.join(folder, "omega"))
+    for name in ("docs", "examples"):
+        os.symlink(os.path.join(ROOT, name), os.path.join(folder, name))
+
+
+def outputs_of(commands, folder):
+    """What the commands write, given to one shell in a folder."""
+    script = "exec 2>&1\n" + "".join(
+        f"{command}\nkept=$?; printf '%s' '{MARK}'; (exit $kept)\n" for command in commands)
+    home = os.path.join(folder, "home")
+    given = {"HOME": home, "PATH": f"{folder}:{home}/.local/bin:{os.environ['PATH']}", "LC_ALL": "C"}
+    came = subprocess.run([SHELL, "-c", script], cwd=folder, env=given, stdin=subprocess.DEVNULL, capture_output=True,
+                          timeout=SECONDS)
+    return came.stdout.decode(errors="replace").split(MARK)[:-1]
+
+
+def is_passed_over(command):
+    return any(re.search(rf"\b{word} -T", command) and not shutil.which(word) for word in PERHAPS)
+
+
+def block_checks(label, block, folder):
+    made = [(command, wanted) for command, wanted in commands_of(block) if not is_passed_over(command)]
+    came = outputs_of([command for command, _ in made], folder) if made else []
+    for index, (command, wanted) in enumerate(made):
+        shown = command if len(command) < 70 else command[:67] + "..."
+        if index >= len(came):
+            fault = "it was not run"
+        else:
+            fault = None if came[index] == wanted else f"wrote {came[index]!r} for {wanted!r}"
+        yield f"{label}: $ {shown}", fault
+
+
+def command_checks(label, blocks):
+    with tempfile.TemporaryDirectory() as folder:
+        prepare(folder)
+        for block in blocks:
+            yield from block_checks(label, block, folder)
+
+
+def unrun_lines(text):
+    """Lines of indented blocks that call the program and are no command that is run."""
+    for block in indented_blocks(text, 4):
+        if not any(line.startswith(("$ ", *ELSEWHERE)) for line in block):
+            yield from (line for line in block if re.match(r"(\./)?omega\s|.*\|\s*(\./)?omega\s", line))
+
+
+def link_checks(label, text):
+    for name, target in re.findall(r"\[([^\]]*)\]\(([^)#]+)\)", text):
+        if "://" not in target:
+            path = os.path.join(ROOT, os.path.dirname(label), target)
+            yield f"{label}: the link {name}", None if os.path.exists(path) else f"{target} is not there"
+
+
+def example_checks():
+    """The examples of the page on the library stand in their crate, word for word."""
+    held = ""
+    for path in sorted(glob.glob(os.path.join(ROOT, "crates", "omega_examples", "src", "*.rt"))):
+        with open(path) as file:
+            held += file.read() + "\n"
+    with open(os.path.join(ROOT, "docs", "library.md")) as file:
+        blocks = re.findall(r"^```rust\n(.*?)^```$", file.read(), re.MULTILINE | re.DOTALL)
+    for block in blocks:
+        yield f"docs/library.md: the example {block.splitlines()[0]}", None if block in held else "it is not in omega_examples"
+
+
+def page_checks():
+    texts = dict(pages())
+    for label, text in texts.items():
+        yield from command_checks(label, indented_blocks(text, 4))
+        for line in unrun_lines(text):
+            yield f"{label}: {line}", "it stands in a block that is not run"
+        yield from link_checks(label, text)
+    for label in texts:
+        if label.startswith("docs/"):
+            yield f"README.md links {label}", None if f"({label})" in texts["README.md"] else "it does not"
+    yield from example_checks()
+    for name in ("", *subcommands()):
+        yield from command_checks(f"the help of {name or 'the program'}", indented_blocks(help_of(name), 2))
+    yield from command_checks("docs/omega.1", examples_of_manual())
+    yield from manual_checks()

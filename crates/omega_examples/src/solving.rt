@@ -1,0 +1,44 @@
+//! A game is built node by node, and solved for both players.
+ghost use Rattle.std.specs.Prelude.{IfOk};
+ghost use Rattle.omega_solve.specs.Headline.{IsExact};
+
+use omega_game::{Game, GameBuilder, Player, Refusal};
+use omega_solve::{Found, MOST_LIFTS, Nested, PackedTable, Solver};
+use std::alloc::Global;
+
+/// The game of `examples/three_nodes.pg`: player 0 moves from node 0 to node 1 or 2, and player 1 back to node 0.
+pub fn three_nodes(alloc: Global) -> Result<Game, Refusal> {
+    let mut nodes = GameBuilder::new(alloc);
+    // Identifier, priority, owner, and the first successor.
+    nodes.add_node(0, 0, Player::Zero, 1)?;
+    nodes.add_successor(2)?;
+    nodes.add_node(1, 1, Player::One, 0)?;
+    nodes.add_node(2, 2, Player::One, 0)?;
+    nodes.finish()
+}
+
+/// The nodes that a player wins, and the player's choices, with as many lifts as it takes.
+pub fn solved_for(alloc: Global, game: &Game, player: Player) -> Result<Found, Refusal>
+    ensures exact { IfOk result (λ found. IsExact game.now player found.won.items found.choice.items) }
+{
+    let solver: Solver<'_, PackedTable, Nested> = Solver::prepare(alloc, game, player)?;
+    Found::by(alloc, solver, MOST_LIFTS)
+}
+
+#[cfg(test)]
+mod tests {
+    use super::*;
+    use std::test::Fail;
+
+    #[test]
+    fn player_zero_wins_all_three(rt: HostRuntime) -> Result<(), Fail> {
+        let alloc = rt.alloc();
+        let game = three_nodes(alloc)?;
+        let zero = solved_for(alloc, &game, Player::Zero)?;
+        let one = solved_for(alloc, &game, Player::One)?;
+        assert_eq!(rt; zero.won.as_slice(), [true, true, true].as_slice());
+        assert_eq!(rt; zero.choice.as_slice(), [Some(2), None, None].as_slice());
+        assert_eq!(rt; one.won.as_slice(), [false, false, false].as_slice());
+        Ok(())
+    }
+}
