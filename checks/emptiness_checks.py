@@ -27,6 +27,18 @@ REFUSED = [
 ]
 
 
+def sixteen_sets(states):
+    """An automaton of so many states and no edges, with 16 sets to be waited for in turn."""
+    formula = b"&".join(b"Inf(%d)" % number for number in range(16))
+    return (b"HOA: v1 States: %d Start: 0 acc-name: generalized-Buchi 16 Acceptance: 16 %s --BODY-- --END--"
+            % (states, formula))
+
+
+# A label that mentions 13 propositions, on a state that is not reached.
+THIRTEEN = (b"HOA: v1 States: 2 Start: 0 AP: 13 %s acc-name: all Acceptance: 0 t --BODY-- State: 0 [t] 0 State: 1 [%s] 1 --END--"
+            % (b" ".join(b'"%d"' % number for number in range(13)), b"&".join(b"%d" % number for number in range(13))))
+
+
 class Emptied(Maker):
     """Makes automata of a kind at random, with one start state or several, and no universal branches."""
 
@@ -78,8 +90,12 @@ def emptiness_checks():
              for edge in (b"", b"[0] 0", b"[0&!0] 0", b"[t] 0 {0}", b"[t] 0 {0} [0] 0", b"{0} [t] 0", b"[t] 0&0", b"0 0")]
     texts += [b"", b"x", b"HOA: v1 --BODY-- --END--", b"HOA: x --ABORT--",
               b"HOA: v1 States: 2147483647 acc-name: all Acceptance: 0 t --BODY-- --END--",
-              b"HOA: v1 States: 1048576 acc-name: all Acceptance: 0 t --BODY-- --END--"]
+              b"HOA: v1 States: 1048576 acc-name: all Acceptance: 0 t --BODY-- --END--",
+              sixteen_sets(65_536), THIRTEEN]
     maker = Emptied(2000)
     texts += [maker.automaton_of(*kind) for _ in range(25) for kind in KINDS]
     for text in texts:
         yield f"the emptiness game of {shown(text)}", fault_of_game(text)
+    for text in (b"HOA: v1 States: 1048575 Start: 7 acc-name: all Acceptance: 0 t --BODY-- --END--", sixteen_sets(65_535)):
+        # The game's text is too long to be solved.
+        yield f"the largest emptiness game of {shown(text)}", fault_of(["game"], text, 0, game_text(read_one(text)))

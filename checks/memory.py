@@ -20,6 +20,8 @@ ALIASES = (b'HOA: v1 AP: 1 "a" Acceptance: 0 t Alias: @a0 0&0 Alias: @a1 @a0&@a0
            b"State: [@a2] 0 --END--")
 WRITTEN = (b'HOA: v1 States: 1 Start: 0 AP: 1 "a" Alias: @b 0|t Acceptance: 1 Inf(0) acc-name: Buchi --BODY-- State: 0 '
            b"[!@b&0] 0 {0 0} --END--")
+TWO_SETS = (b"HOA: v1 States: 2 Start: 0 acc-name: generalized-Buchi 2 Acceptance: 2 Inf(0)&Inf(1) --BODY-- "
+            b"State: 0 [t] 0 {0} [t] 1 State: 1 [t] 0 {1} --END--")
 
 # Words, the text on standard input, and the text in the file of `--game` where there is one.
 RUNS = [
@@ -29,6 +31,7 @@ RUNS = [
     *(([name, "--format", "pg"], text, None) for text in (TWO, GAPS, CHOICE) for name in ("show", "check", "canon")),
     *(([name, "--format", "hoa"], text, None) for text in (BUCHI, ABORTED, ALIASES, WRITTEN, BUCHI * 3)
       for name in ("show", "check", "canon")),
+    *((["game"], text, None) for text in (BUCHI, TWO_SETS, WRITTEN)),
     (["check", "--format", "hoa"], b"HOA: v1 --BODY-- --END--", None),
     (["verify", "--game"], b"paritysol 2; 0 0 2; 1 0; 2 0;", CHOICE),
     (["verify", "--game"], b"paritysol 2; 0 0 1; 1 0; 2 0;", CHOICE),
