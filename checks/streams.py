@@ -70,8 +70,32 @@ def closed_streams():
     yield "standard error is full", None if came.returncode == 1 and not came.stdout else f"{came.returncode}"
 
 
+def broken_streams():
+    """Streams that are closed, a pipe that nobody reads, a folder for input, and files that are no good texts."""
+    words = [OMEGA, "check", "--format", "pg"]
+    taken, given = os.pipe()
+    os.close(taken)
+    came = subprocess.run(words, input=CHOICE, stdout=given, stderr=subprocess.PIPE, timeout=SECONDS)
+    os.close(given)
+    yield "a pipe that nobody reads", None if (came.returncode, came.stderr) == (5, b"omega: 61 Io\n") else f"{came}"
+    folder = os.open(tempfile.gettempdir(), os.O_RDONLY)
+    came = subprocess.run(words, stdin=folder, capture_output=True, timeout=SECONDS)
+    os.close(folder)
+    good = (came.returncode, came.stdout, came.stderr) == (5, b"", b"omega: 61 Io\n")
+    yield "standard input is a folder", None if good else f"{came}"
+    for closed, text, status, error in (("<&-", b"", 5, b"omega: 61 Io\n"), (">&-", CHOICE, 5, b"omega: 61 Io\n"),
+                                        ("2>&-", b"", 1, b"")):
+        came = subprocess.run(["sh", "-c", f'"$0" "$@" {closed}', *words], input=text, capture_output=True, timeout=SECONDS)
+        good = (came.returncode, came.stdout, came.stderr) == (status, b"", error)
+        yield f"a closed stream, {closed}", None if good else f"{came}"
+    long = b"0 0 0 0;" + b" " * 16_777_216
+    for held, line in ((long, b"omega: 4 TooLong\n"), (b"\xff\xfe", b"omega: 1 Lex at 0\n"), (b"", b"omega: 3 Syntax at 0\n")):
+        yield f"a game file of {len(held)} bytes", fault_with_file(["verify", "--game"], held, SOLUTION, 1, b"", line)
+
+
 def stream_checks():
     yield from statuses()
     yield from command_lines()
     yield from help_texts()
     yield from closed_streams()
+    yield from broken_streams()
