@@ -3,7 +3,7 @@ import os
 import subprocess
 import tempfile
 
-from program import OMEGA, SECONDS, fault_of, fault_with_file, shown
+from program import OMEGA, SECONDS, fault_of, fault_with_file, shown, subcommands
 
 CHOICE = b"0 0 0 1,2; 1 1 1 0; 2 2 1 0;"
 SOLUTION = b"paritysol 2; 0 0 2; 1 0; 2 0;"
@@ -43,7 +43,7 @@ def command_lines():
 
 
 def help_texts():
-    for name in ("", "show", "check", "canon", "solve", "verify"):
+    for name in ("", *subcommands()):
         came = run([os.fsencode(word) for word in [name, "--help"] if word])
         good = came.returncode == 0 and not came.stderr and came.stdout
         yield f"help of {name or 'the program'}", None if good else f"{came.returncode} {shown(came.stdout)} {shown(came.stderr)}"
