@@ -1,9 +1,10 @@
-"""Emptiness games of automata, byte for byte, and that player 0 wins a start's node exactly where a lasso accepts."""
+"""The emptiness of automata: their games, byte for byte, that player 0 wins a start's node exactly where a lasso accepts,
+and that `empty`, in both ways, says so there alone and writes a lasso else."""
 import subprocess
 
 from automata import Refused, read_one
 from automaton_texts import Maker
-from emptiness import game_text, has_accepting_lasso, judge
+from emptiness import game_text, has_accepting_lasso, judge, lasso_fault, read_lasso
 from program import OMEGA, SECONDS, fault_of, refusal_fault, shown
 
 ONE_STATE = b'HOA: v1 States: 1 Start: 0 AP: 1 "a" acc-name: %s Acceptance: %s --BODY-- State: 0 %s --END--'
@@ -85,6 +86,61 @@ def fault_of_game(text):
     return fault_of(["game"], text, 0, game_text(automaton)) or solution_fault(automaton)
 
 
+# The two ways in which emptiness is decided.
+WAYS = (["empty"], ["empty", "--search"])
+
+
+def verdict_fault(automaton, output):
+    """What is wrong with what is written of an automaton: `empty` exactly where no lasso accepts, else a lasso that does."""
+    if output == b"empty\n":
+        return "some lasso accepts" if has_accepting_lasso(automaton) else None
+    lasso = read_lasso(output)
+    return f"no verdict: {shown(output)}" if lasso is None else lasso_fault(automaton, *lasso)
+
+
+def fault_of_emptiness(words, text):
+    """What differs from what is wanted of `empty`, or nothing."""
+    try:
+        automaton = read_one(text)
+        judge(automaton)
+    except Refused as refused:
+        return refusal_fault(words, text, refused)
+    ran = subprocess.run([OMEGA, *words], input=text, capture_output=True, timeout=SECONDS)
+    if ran.returncode or ran.stderr:
+        return f"status {ran.returncode}: {shown(ran.stderr)}"
+    return verdict_fault(automaton, ran.stdout)
+
+
+def one_component(states):
+    """An automaton with 8 sets whose states are one component: each edge onward has an even set or a lesser odd one, and
+    each edge back the greatest set, which is odd, so that no cycle accepts."""
+    formula = "0"
+    for number in range(8):
+        formula = "Inf(0)" if number == 0 else f"{'Fin' if number % 2 else 'Inf'}({number}){'&' if number % 2 else '|'}({formula})"
+    lines = []
+    for state in range(states):
+        onward = sorted({min(state + step, states - 1) for step in (1, 2, 7, 20)} - {state})
+        back = sorted({0, state, state // 2, max(state - 13, 0)})
+        edges = [f"[t] {to} {{{(state + to) % 7}}}" for to in onward] + [f"[t] {to} {{7}}" for to in back]
+        lines.append(f"State: {state} " + " ".join(edges))
+    return (f"HOA: v1 States: {states} Start: 0 acc-name: parity max even 8 Acceptance: 8 {formula} --BODY-- "
+            + "\n".join(lines) + " --END--").encode()
+
+
+def deciding_checks(texts):
+    for text in texts:
+        for words in WAYS:
+            yield f"{' '.join(words)} of {shown(text)}", fault_of_emptiness(words, text)
+    for words in WAYS:
+        yield f"{' '.join(words)} of 16 sets and 65,535 states", fault_of(words, sixteen_sets(65_535), 0, b"empty\n")
+    # By lifting it would go through millions of measures; the search looks at each edge a few times.
+    yield "empty --search of one component", fault_of(["empty", "--search"], one_component(160), 0, b"empty\n")
+    for budget, wanted in ((1, None), (2, b"stem\ncycle 0\n")):
+        words, text = ["empty", "--budget", str(budget)], ONE_STATE % (b"Buchi", b"1 Inf(0)", b"[0] 0 {0}")
+        fault = fault_of(words, text, 0, wanted) if wanted else refusal_fault(words, text, "51 Budget", 3)
+        yield f"empty with the budget {budget}", fault
+
+
 def emptiness_checks():
     texts = [ONE_STATE % (name, acceptance, edge) for name, acceptance in KINDS + REFUSED
              for edge in (b"", b"[0] 0", b"[0&!0] 0", b"[t] 0 {0}", b"[t] 0 {0} [0] 0", b"{0} [t] 0", b"[t] 0&0", b"0 0")]
@@ -96,6 +152,7 @@ def emptiness_checks():
     texts += [maker.automaton_of(*kind) for _ in range(25) for kind in KINDS]
     for text in texts:
         yield f"the emptiness game of {shown(text)}", fault_of_game(text)
+    yield from deciding_checks(texts)
     for text in (b"HOA: v1 States: 1048575 Start: 7 acc-name: all Acceptance: 0 t --BODY-- --END--", sixteen_sets(65_535)):
         # The game's text is too long to be solved.
         yield f"the largest emptiness game of {shown(text)}", fault_of(["game"], text, 0, game_text(read_one(text)))

@@ -31,7 +31,8 @@ RUNS = [
     *(([name, "--format", "pg"], text, None) for text in (TWO, GAPS, CHOICE) for name in ("show", "check", "canon")),
     *(([name, "--format", "hoa"], text, None) for text in (BUCHI, ABORTED, ALIASES, WRITTEN, BUCHI * 3)
       for name in ("show", "check", "canon")),
-    *((["game"], text, None) for text in (BUCHI, TWO_SETS, WRITTEN)),
+    *((words, text, None) for text in (BUCHI, TWO_SETS, WRITTEN)
+      for words in (["game"], ["empty"], ["empty", "--search"], ["empty", "--budget", "1"])),
     (["check", "--format", "hoa"], b"HOA: v1 --BODY-- --END--", None),
     (["verify", "--game"], b"paritysol 2; 0 0 2; 1 0; 2 0;", CHOICE),
     (["verify", "--game"], b"paritysol 2; 0 0 1; 1 0; 2 0;", CHOICE),
