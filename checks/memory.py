@@ -13,6 +13,7 @@ TWO = b"0 1 0 1; 1 2 1 0;"
 GAPS = b'parity 9; 9 3 1 4; 4 2 0 9,4 "a";'
 CARRY = b"0 1 0 0; 1 0 0 1; 2 3 0 2; 3 1 1 2,0;"
 CHOICE = b"0 0 0 1,2; 1 1 1 0; 2 2 1 0;"
+PARTED = b"0 0 0 1; 1 1 1 1; 2 2 0 0;"
 
 BUCHI = b'HOA: v1 States: 1 Start: 0 AP: 1 "a" acc-name: Buchi Acceptance: 1 Inf(0) --BODY-- State: 0 [0] 0 {0} --END--'
 ABORTED = b"HOA: ( & 7 nonsense --ABORT-- /*a/*b*/c*/ HOA: v1 Acceptance: 0 t --BODY-- --END--"
@@ -37,6 +38,10 @@ RUNS = [
     (["verify", "--game"], b"paritysol 2; 0 0 2; 1 0; 2 0;", CHOICE),
     (["verify", "--game"], b"paritysol 2; 0 0 1; 1 0; 2 0;", CHOICE),
     (["verify", "--game"], b"paritysol 2; 0 0;", CHOICE),
+    (["verify", "--from", "1", "--game"], b"paritysol 1; 1 1 1;", PARTED),
+    (["verify", "--explain", "--from", "1", "--game"], b"paritysol 1; 1 0;", PARTED),
+    (["verify", "--from", "5", "--game"], b"paritysol 1; 1 0;", PARTED),
+    *((["canon", "--format", "pg", "--from", start], PARTED, None) for start in ("0", "1", "5")),
     (["check", "--format", "pg"], b"0 0 0;", None),
     (["check", "--format", "pg"], b"", None),
     (["solve", "--from", "7"], CHOICE, None),

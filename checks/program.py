@@ -51,6 +51,11 @@ def fault_with_file(words, held, text, status, output, error=b""):
         return fault_of(words + [file.name], text, status, output, error)
 
 
+def output_of(words, text):
+    """What the program writes, whatever its status is."""
+    return subprocess.run([OMEGA, *words], input=text, capture_output=True, timeout=SECONDS).stdout
+
+
 def help_of(subcommand):
     """The help of a subcommand, or of the program where it is empty."""
     words = [OMEGA, subcommand, "--help"] if subcommand else [OMEGA, "--help"]
