@@ -24,7 +24,7 @@ WRITTEN = (b'HOA: v1 States: 1 Start: 0 AP: 1 "a" Alias: @b 0|t Acceptance: 1 In
 TWO_SETS = (b"HOA: v1 States: 2 Start: 0 acc-name: generalized-Buchi 2 Acceptance: 2 Inf(0)&Inf(1) --BODY-- "
             b"State: 0 [t] 0 {0} [t] 1 State: 1 [t] 0 {1} --END--")
 
-# Words, the text on standard input, and the text in the file of `--game` where there is one.
+# Words, the text on standard input, and the text in the file that is the last word, where there is one.
 RUNS = [
     *((["solve", *more], text, None)
       for text in (TWO, GAPS, CARRY, CHOICE)
@@ -38,6 +38,10 @@ RUNS = [
     (["verify", "--game"], b"paritysol 2; 0 0 2; 1 0; 2 0;", CHOICE),
     (["verify", "--game"], b"paritysol 2; 0 0 1; 1 0; 2 0;", CHOICE),
     (["verify", "--game"], b"paritysol 2; 0 0;", CHOICE),
+    *((["draw", "--format", "pg"], text, None) for text in (GAPS, CHOICE)),
+    (["draw", "--format", "pg", "--solution"], CHOICE, b"paritysol 2; 0 0 1; 1 0; 2 0;"),
+    (["draw", "--format", "pg", "--solution"], CHOICE, b"paritysol 2; 0 0;"),
+    *((["draw", "--format", "hoa", *more], text, None) for text in (BUCHI, TWO_SETS, WRITTEN) for more in ([], ["--lasso"])),
     (["verify", "--from", "1", "--game"], b"paritysol 1; 1 1 1;", PARTED),
     (["verify", "--explain", "--from", "1", "--game"], b"paritysol 1; 1 0;", PARTED),
     (["verify", "--from", "5", "--game"], b"paritysol 1; 1 0;", PARTED),

@@ -1,8 +1,8 @@
 """What the pages say, as far as a program can tell: each command is run as it stands there and must write what stands
 below it, each link leads somewhere, each example of docs/library.md stands in the crate that is proved.
 
-A command stands in an indented block, behind `$ `. It goes on with the next line where it ends with a backslash, or
-inside single quotes. Up to the next command stands what it writes, on standard output and standard error together. The
+A command stands in an indented block, behind `$ `. It goes on with the next line where it ends with a backslash or a
+pipe, or inside single quotes. Up to the next command stands what it writes, on standard output and standard error together. The
 commands of a block are given to one shell, so that `echo $?` writes the status of the one before; those of a page work
 in one folder, in which `omega`, `docs` and `examples` are those of the repository. The help of the program and the manual are
 pages as well.
@@ -45,7 +45,7 @@ def indented_blocks(text, depth):
 
 
 def goes_on(command):
-    return command.endswith("\\") or command.count("'") % 2 == 1
+    return command.endswith(("\\", "|")) or command.count("'") % 2 == 1
 
 
 def commands_of(block):

@@ -1,0 +1,192 @@
+"""Drawings of games, solutions, automata and lassos, byte for byte by the rules of docs/formats.md; and where `dot` is
+installed, that it makes a picture of each example."""
+import glob
+import os
+import random
+import shutil
+import subprocess
+
+from automata import BINDS, Aliases, bare, binds, read_one, written
+from automaton_texts import ABORTED, ALIAS, BUCHI, EVERYTHING, Maker
+from emptiness import judge, read_lasso
+from games import Refused, read_game, read_solution
+from parts import made_at_random, solution_at_random
+from parts import written as solution_text
+from program import ROOT, SECONDS, fault_of, fault_with_file, output_of, shown
+
+ESCAPES = {34: b'\\"', 92: b"\\\\", 38: b"&amp;", 10: b"\\n"}
+COLOURS = (b"lightblue", b"orange")
+
+GAMES = [
+    b"0 0 0 1,2; 1 1 1 0; 2 2 1 0;",
+    b'0 1 0 0,1 "a\\b &amp; c"; 1 2 1 0;',
+    b'parity 9; 9 3 1 4 ""; 4 2 0 9,4,9 "<b>, {c}|d";',
+    b"", b"0 0 0 1;", b"0 0 0 0",
+]
+AUTOMATA = [
+    BUCHI, ABORTED, ALIAS, EVERYTHING,
+    b'HOA: v1 name: "a\\"b" States: 5 Start: 0 Start: 1&2 AP: 2 "p\\\\q" "r" Acceptance: 2 Inf(0)&Fin(!1)\n'
+    b'--BODY-- State: [0&!1|t] 0 "ze&ro" {1} 1 0&3 {0} State: 1 [!(0|1)&0] 3 {0 1} [1] 1 --END--',
+    b'HOA: v1 name: "\n\t\x01\xff" States: 2 Start: 1 AP: 1 "\r&" acc-name: Buchi Acceptance: 1 Inf(0) --BODY-- '
+    b"State: 1 [0] 0 State: 0 [!0] 1 {0} [0] 0 --END--",
+    b"HOA: v1 States: 2147483647 Start: 2147483646 acc-name: all Acceptance: 0 t --BODY-- --END--",
+    b"HOA: v1 States: 3 Start: 0 acc-name: co-Buchi Acceptance: 1 Fin(0) --BODY-- State: 0 [t] 0 {0} [t] 1 State: 1 [t] 1 --END--",
+    b"HOA: v1 States: 1 Start: 0 acc-name: none Acceptance: 0 f --BODY-- State: 0 [t] 0 --END--",
+    b"", b"x", b"HOA: v1 --BODY-- --END--",
+]
+
+
+def escaped(name):
+    return b"".join(ESCAPES.get(byte, b" " if byte < 32 else bytes([byte])) for byte in name)
+
+
+def name_line(quoted):
+    return b"" if quoted is None else escaped(quoted[1:-1]) + b"\\n"
+
+
+def game_drawing(nodes, solution=None):
+    lines = [b"digraph game {\n"]
+    for identifier, node in nodes.items():
+        winner, choice = solution[identifier] if solution else (None, None)
+        fill = b"" if winner is None else b", style=filled, fillcolor=" + COLOURS[winner]
+        label = b"%d\\n%spriority %d\\n" % (identifier, name_line(node.name), node.priority)
+        lines.append(b'  %d [shape=%s, label="%s"%s];\n' % (identifier, (b"diamond", b"box")[node.owner], label, fill))
+        for successor in node.successors:
+            bold = b" [style=bold]" if successor == choice else b""
+            lines.append(b"  %d -> %d%s;\n" % (identifier, successor, bold))
+    return b"".join(lines) + b"}\n"
+
+
+def named(tree, names):
+    """A label with the names of its propositions, in parentheses where the canonical text has them."""
+    if tree[0] == "number":
+        return escaped(names[tree[1]][1:-1])
+    if tree[0] not in BINDS:
+        return tree[0].encode()
+
+    def part(tree, least):
+        return named(tree, names) if binds(tree) >= least else b"(" + named(tree, names) + b")"
+
+    if tree[0] == "!":
+        return b"!" + part(tree[1], 3)
+    return part(tree[1], binds(tree)) + b" %s " % tree[0].encode() + part(tree[2], binds(tree) + 1)
+
+
+def marks_line(marks):
+    return b"{" + b" ".join(b"%d" % mark for mark in sorted(set(marks))) + b"}\\n" if marks else b""
+
+
+def start_lines(number, states):
+    hidden = b", style=invis" if len(states) == 1 else b""
+    return [b"  start%d [shape=point%s];\n" % (number, hidden)] + [b"  start%d -> %d;\n" % (number, state) for state in states]
+
+
+def edge_lines(number, state, edge, label, style):
+    drawn = label + marks_line(edge.marks)
+    if len(edge.targets) == 1:
+        return [b'  %d -> %d [label="%s"%s];\n' % (state, edge.targets[0], drawn, style)]
+    lines = [b'  %d -> branch%d [label="%s"%s, arrowhead=none];\n' % (state, number, drawn, style),
+             b"  branch%d [shape=point];\n" % number]
+    return lines + [b'  branch%d -> %d [label=""%s];\n' % (number, target, style) for target in edge.targets]
+
+
+def automaton_drawing(automaton, stem=(), cycle=()):
+    aliases, names = Aliases(automaton.said(b"Alias:")), automaton.first(b"AP:", (0, []))[1]
+
+    def text_of(label):
+        return named(aliases.measure(label)[2], names)
+
+    front = name_line(automaton.first(b"name:", [None])[0]) + written(bare(automaton.first(b"Acceptance:", None)[1]))
+    lines = [b'digraph automaton {\n  rankdir=LR;\n  labelloc=t;\n  label="%s\\n";\n' % front]
+    for number, states in enumerate(automaton.said(b"Start:")):
+        lines += start_lines(number, states)
+    for state in automaton.states:
+        label = b"" if state.label is None else b"[" + text_of(state.label) + b"]\\n"
+        lines.append(b'  %d [label="%d\\n%s%s%s"];\n' % (
+            state.number, state.number, name_line(state.name), label, marks_line(state.marks)))
+    numbered = enumerate((state.number, edge) for state in automaton.states for edge in state.edges)
+    for number, (state, edge) in numbered:
+        style = b", style=bold, color=red" if number in cycle else b", style=bold, color=blue" if number in stem else b""
+        label = b"" if edge.label is None else text_of(edge.label) + b"\\n"
+        lines += edge_lines(number, state, edge, label, style)
+    return b"".join(lines) + b"}\n"
+
+
+def game_fault(text):
+    words = ["draw", "--format", "pg"]
+    try:
+        nodes = read_game(text)
+    except Refused as refused:
+        return fault_of(words, text, 1, b"", f"omega: {refused}\n".encode())
+    return fault_of(words, text, 0, game_drawing(nodes))
+
+
+def solution_fault(text, solution):
+    words = ["draw", "--format", "pg", "--solution"]
+    try:
+        nodes = read_game(text)
+        read = read_solution(nodes, solution)
+    except Refused as refused:
+        return fault_with_file(words, solution, text, 1, b"", f"omega: {refused}\n".encode())
+    return fault_with_file(words, solution, text, 0, game_drawing(nodes, read))
+
+
+def automaton_fault(text):
+    words = ["draw", "--format", "hoa"]
+    try:
+        automaton = read_one(text)
+    except Refused as refused:
+        return fault_of(words, text, 1, b"", f"omega: {refused}\n".encode())
+    return fault_of(words, text, 0, automaton_drawing(automaton))
+
+
+def lasso_fault(text):
+    """The lasso drawn is that of `empty --search`, which is judged where emptiness is checked."""
+    words = ["draw", "--format", "hoa", "--lasso"]
+    try:
+        automaton = read_one(text)
+        judge(automaton)
+    except Refused as refused:
+        return fault_of(words, text, 1, b"", f"omega: {refused}\n".encode())
+    stem, cycle = read_lasso(output_of(["empty", "--search"], text)) or ((), ())
+    return fault_of(words, text, 0, automaton_drawing(automaton, stem, cycle))
+
+
+def texts_of_automata():
+    maker = Maker(11)
+    return AUTOMATA + [maker.automaton() for _ in range(60)]
+
+
+def drawing_checks():
+    maker = random.Random(24)
+    for text in GAMES + [made_at_random(maker) for _ in range(40)]:
+        yield f"the drawing of {shown(text)}", game_fault(text)
+        yield f"the drawing of {shown(text)} with its solution", solution_fault(text, output_of(["solve"], text))
+        yield f"the drawing of {shown(text)} with no solution", solution_fault(text, b"paritysol 1;")
+    for text in [made_at_random(maker) for _ in range(40)]:
+        nodes = read_game(text)
+        solution = solution_text(nodes, solution_at_random(maker, nodes))
+        yield f"the drawing of {shown(text)} with any solution", solution_fault(text, solution)
+    for text in texts_of_automata():
+        yield f"the drawing of {shown(text)}", automaton_fault(text)
+        yield f"the drawing of {shown(text)} with a lasso", lasso_fault(text)
+    for held, status, line in ((b"0 0 0 0;" + b" " * 16_777_216, 1, b"omega: 4 TooLong\n"), (b"\xff", 1, b"omega: 1 Lex at 0\n")):
+        words = ["draw", "--format", "pg", "--solution"]
+        yield f"a solution file of {len(held)} bytes", fault_with_file(words, held, GAMES[0], status, b"", line)
+    missing = ["draw", "--format", "pg", "--solution", os.path.join(ROOT, "no", "such", "solution")]
+    yield "a solution file that is not there", fault_of(missing, GAMES[0], 5, b"", b"omega: 61 Io\n")
+    if shutil.which("dot"):
+        yield from picture_checks()
+
+
+def picture_checks():
+    """Graphviz makes a picture of the drawing of each example."""
+    drawn = [(path, ["draw", "--format", "pg"]) for path in glob.glob(os.path.join(ROOT, "examples", "*.pg"))]
+    drawn += [(path, ["draw", "--format", "hoa", *more]) for path in glob.glob(os.path.join(ROOT, "examples", "*.hoa"))
+              if "aborted" not in path for more in ([], ["--lasso"])]
+    for path, words in sorted(drawn):
+        with open(path, "rb") as file:
+            drawing = output_of(words, file.read())
+        made = subprocess.run(["dot", "-Tsvg"], input=drawing, capture_output=True, timeout=SECONDS)
+        good = made.returncode == 0 and not made.stderr and b"</svg>" in made.stdout
+        yield f"a picture of {os.path.basename(path)} by {' '.join(words)}", None if good else shown(made.stderr)
