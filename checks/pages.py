@@ -15,7 +15,7 @@ import subprocess
 import tempfile
 
 from manual import examples_of_manual, manual_checks
-from program import OMEGA, ROOT, SECONDS, help_of, subcommands
+from program import OMEGA, ROOT, SECONDS, help_of, output_of, subcommands
 
 MARK = "\x01done\x01"
 SHELL = "sh"
@@ -132,6 +132,19 @@ def example_checks():
         yield f"docs/library.md: the example {block.splitlines()[0]}", None if block in held else "it is not in omega_examples"
 
 
+def version_checks():
+    """The version that the program writes is that of the newest changes, and the README names its toolchain."""
+    texts, said = dict(pages()), output_of(["--version"], b"").decode()
+    lines = said.splitlines()
+    newest = re.search(r"^## (\S+),", texts["CHANGELOG.md"], re.MULTILINE).group(1)
+    yield "the version", None if lines[:1] == [f"omega {newest}"] else f"it is {said!r} for {newest}"
+    kit = lines[1].removeprefix("proved by ") if len(lines) == 2 and lines[1].startswith("proved by ") else None
+    if shutil.which("rt"):
+        found = subprocess.run(["rt", "version"], capture_output=True, timeout=SECONDS).stdout.decode().strip()
+        yield "the toolchain", None if found == kit else f"rt is {found!r}"
+    yield "the toolchain of the README", None if kit and f"`{kit}`" in texts["README.md"] else f"{said!r} is not there"
+
+
 def page_checks():
     texts = dict(pages())
     for label, text in texts.items():
@@ -143,6 +156,7 @@ def page_checks():
         if label.startswith("docs/"):
             yield f"README.md links {label}", None if f"({label})" in texts["README.md"] else "it does not"
     yield from example_checks()
+    yield from version_checks()
     for name in ("", *subcommands()):
         yield from command_checks(f"the help of {name or 'the program'}", indented_blocks(help_of(name), 2))
     yield from command_checks("docs/omega.1", examples_of_manual())

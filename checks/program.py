@@ -63,6 +63,7 @@ def help_of(subcommand):
 
 
 def subcommands():
-    """The subcommands that the help of the program lists."""
+    """The subcommands that the help of the program lists, but for `help`, which has no help of its own."""
     listed = re.search(r"^Commands:\n((?:  .*\n)*)", help_of(""), re.MULTILINE).group(1)
-    return [line.split()[0] for line in listed.splitlines()]
+    names = [line.split()[0] for line in listed.splitlines()]
+    return [name for name in names if name != "help"]
