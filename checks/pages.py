@@ -139,6 +139,9 @@ def version_checks():
     newest = re.search(r"^## (\S+),", texts["CHANGELOG.md"], re.MULTILINE).group(1)
     yield "the version", None if lines[:1] == [f"omega {newest}"] else f"it is {said!r} for {newest}"
     kit = lines[1].removeprefix("proved by ") if len(lines) == 2 and lines[1].startswith("proved by ") else None
+    if shutil.which("rt"):
+        found = subprocess.run(["rt", "version"], capture_output=True, timeout=SECONDS).stdout.decode().strip()
+        yield "the toolchain", None if found == kit else f"rt is {found!r}"
     yield "the toolchain of the README", None if kit and f"`{kit}`" in texts["README.md"] else f"{said!r} is not there"
 
 
