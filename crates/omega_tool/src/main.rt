@@ -1,4 +1,4 @@
-//! The program `omega`: reads, checks, writes and solves parity games, and verifies their solutions.
+//! The program `omega`: what its command line asks for, done over the machine's files and streams.
 #![tactic(auto)]
 
 ghost use Rattle.std.specs.Prelude.{IfOk, IsOkUnless};
