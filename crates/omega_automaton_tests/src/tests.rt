@@ -7,6 +7,12 @@ use omega_automaton::{Automaton, automaton_of};
 use omega_raw::read_raw;
 use omega_text::{Cursor, Refusal, hoa_tokens};
 use std::alloc::Global;
+use std::process::Abort;
+
+// Asserts that a text has the refusal of this number, or none where it is 0.
+fn assert_outcome(rt: &impl Abort, outcome: u32, number: u32) {
+    assert!(rt; outcome == number, "{outcome} for {number}");
+}
 
 // What a text means.
 fn meaning(alloc: Global, text: &[u8]) -> Result<Automaton, Refusal> {

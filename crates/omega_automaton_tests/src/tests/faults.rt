@@ -1,4 +1,4 @@
-use super::{outcome, text_of};
+use super::{assert_outcome, outcome, text_of};
 use omega_acc::RawAcc;
 use omega_automaton::{RawAutomaton, Refusal, Seq, automaton_of};
 use omega_raw::{RawEdge, RawItem, RawState};
@@ -90,7 +90,7 @@ fn other_versions_are_refused(rt: HostRuntime) -> Result<(), Fail> {
         let mut text = b"HOA: ".to_vec(rt.alloc())?;
         text.extend_from_slice(version.as_bytes())?;
         text.extend_from_slice(b" --BODY-- --END--")?;
-        assert_eq!(rt; outcome(rt.alloc(), text.as_slice()), 20, "{version}");
+        assert_outcome(&rt, outcome(rt.alloc(), text.as_slice()), 20);
     }
     Ok(())
 }
@@ -99,11 +99,7 @@ fn other_versions_are_refused(rt: HostRuntime) -> Result<(), Fail> {
 fn faults_of_items_are_refused(rt: HostRuntime) -> Result<(), Fail> {
     for (items, body, number) in ITEMS.iter() {
         let text = text_of(rt.alloc(), items.as_bytes(), body.as_bytes())?;
-        assert_eq!(rt;
-            outcome(rt.alloc(), text.as_slice()),
-            *number,
-            "{items} / {body}"
-        );
+        assert_outcome(&rt, outcome(rt.alloc(), text.as_slice()), *number);
     }
     Ok(())
 }
@@ -113,7 +109,7 @@ fn faults_of_bodies_are_refused(rt: HostRuntime) -> Result<(), Fail> {
     for (body, number) in BODIES.iter() {
         let items = b"AP: 1 \"a\" Acceptance: 1 Inf(0)";
         let text = text_of(rt.alloc(), items, body.as_bytes())?;
-        assert_eq!(rt; outcome(rt.alloc(), text.as_slice()), *number, "{body}");
+        assert_outcome(&rt, outcome(rt.alloc(), text.as_slice()), *number);
     }
     Ok(())
 }
@@ -159,8 +155,8 @@ fn outcome_of_lists(alloc: Global, start: &[u32], targets: &[u32]) -> Result<u32
 // No text writes an empty list of states. As a value it is refused with the states that are out of range.
 #[test]
 fn empty_lists_of_states_are_refused(rt: HostRuntime) -> Result<(), Fail> {
-    assert_eq!(rt; outcome_of_lists(rt.alloc(), &[0], &[0])?, 0);
-    assert_eq!(rt; outcome_of_lists(rt.alloc(), &[], &[0])?, 24);
-    assert_eq!(rt; outcome_of_lists(rt.alloc(), &[0], &[])?, 24);
+    assert_outcome(&rt, outcome_of_lists(rt.alloc(), &[0], &[0])?, 0);
+    assert_outcome(&rt, outcome_of_lists(rt.alloc(), &[], &[0])?, 24);
+    assert_outcome(&rt, outcome_of_lists(rt.alloc(), &[0], &[])?, 24);
     Ok(())
 }

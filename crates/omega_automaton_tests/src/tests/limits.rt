@@ -1,4 +1,4 @@
-use super::{outcome, put_many, text_of};
+use super::{assert_outcome, outcome, put_many, text_of};
 use omega_text::{Refusal, write_number};
 use std::alloc::Global;
 use std::test::Fail;
@@ -31,12 +31,17 @@ fn labels_are_at_most_256_deep(rt: HostRuntime) -> Result<(), Fail> {
     let items = b"AP: 1 \"a\" Acceptance: 0 t";
     for (pairs, number) in [(0, 0), (255, 0), (256, 32), (300, 32)].iter() {
         let on_state = nested(rt.alloc(), "State: [", "0", *pairs, "] 0")?;
-        assert_eq!(rt;
+        assert_outcome(
+            &rt,
             outcome_of(rt.alloc(), items, on_state.as_slice())?,
-            *number
+            *number,
         );
         let on_edge = nested(rt.alloc(), "State: 0 [", "0", *pairs, "] 0")?;
-        assert_eq!(rt; outcome_of(rt.alloc(), items, on_edge.as_slice())?, *number);
+        assert_outcome(
+            &rt,
+            outcome_of(rt.alloc(), items, on_edge.as_slice())?,
+            *number,
+        );
     }
     Ok(())
 }
@@ -48,7 +53,11 @@ fn operators_count_as_depth(rt: HostRuntime) -> Result<(), Fail> {
         let mut body = b"State: [0".to_vec(rt.alloc())?;
         put_many(&mut body, "&0", *more)?;
         put_many(&mut body, "] 0", 1)?;
-        assert_eq!(rt; outcome_of(rt.alloc(), items, body.as_slice())?, *number);
+        assert_outcome(
+            &rt,
+            outcome_of(rt.alloc(), items, body.as_slice())?,
+            *number,
+        );
     }
     Ok(())
 }
@@ -57,7 +66,7 @@ fn operators_count_as_depth(rt: HostRuntime) -> Result<(), Fail> {
 fn formulas_are_at_most_256_deep(rt: HostRuntime) -> Result<(), Fail> {
     for (pairs, number) in [(255, 0), (256, 32)].iter() {
         let items = nested(rt.alloc(), "Acceptance: 1 ", "Inf(0)", *pairs, "")?;
-        assert_eq!(rt; outcome_of(rt.alloc(), items.as_slice(), b"")?, *number);
+        assert_outcome(&rt, outcome_of(rt.alloc(), items.as_slice(), b"")?, *number);
     }
     Ok(())
 }
@@ -67,14 +76,16 @@ fn formulas_are_at_most_256_deep(rt: HostRuntime) -> Result<(), Fail> {
 fn aliases_count_as_depth(rt: HostRuntime) -> Result<(), Fail> {
     for (pairs, unused, used) in [(254, 0, 0), (255, 0, 32), (256, 32, 32)].iter() {
         let items = nested(rt.alloc(), "Acceptance: 0 t Alias: @a ", "t", *pairs, "")?;
-        assert_eq!(rt; outcome_of(rt.alloc(), items.as_slice(), b"")?, *unused);
-        assert_eq!(rt;
+        assert_outcome(&rt, outcome_of(rt.alloc(), items.as_slice(), b"")?, *unused);
+        assert_outcome(
+            &rt,
             outcome_of(rt.alloc(), items.as_slice(), b"State: [@a] 0")?,
-            *used
+            *used,
         );
-        assert_eq!(rt;
+        assert_outcome(
+            &rt,
             outcome_of(rt.alloc(), items.as_slice(), b"State: 0 [@a] 0")?,
-            *used
+            *used,
         );
     }
     Ok(())
@@ -115,29 +126,29 @@ fn doubled(alloc: Global, last: usize) -> Result<Vec<u8>, Refusal> {
 #[test]
 fn expanded_aliases_have_at_most_65536_nodes(rt: HostRuntime) -> Result<(), Fail> {
     let small = doubled(rt.alloc(), 14)?;
-    assert_eq!(rt;
+    assert_outcome(
+        &rt,
         outcome_of(rt.alloc(), small.as_slice(), b"State: [@a14] 0")?,
-        0
+        0,
     );
-    assert_eq!(rt;
+    assert_outcome(
+        &rt,
         outcome_of(rt.alloc(), small.as_slice(), b"State: [!@a14] 0")?,
-        0
+        0,
     );
-    assert_eq!(rt;
+    assert_outcome(
+        &rt,
         outcome_of(rt.alloc(), small.as_slice(), b"State: [!!@a14] 0")?,
-        33
+        33,
     );
-    assert_eq!(rt;
+    assert_outcome(
+        &rt,
         outcome_of(rt.alloc(), small.as_slice(), b"State: 0 [!!@a14] 0")?,
-        33
+        33,
     );
     for last in [15, 19].iter() {
         let large = doubled(rt.alloc(), *last)?;
-        assert_eq!(rt;
-            outcome_of(rt.alloc(), large.as_slice(), b"")?,
-            33,
-            "up to {last}"
-        );
+        assert_outcome(&rt, outcome_of(rt.alloc(), large.as_slice(), b"")?, 33);
     }
     Ok(())
 }
@@ -150,9 +161,10 @@ fn all_labels_are_counted_together(rt: HostRuntime) -> Result<(), Fail> {
         let mut body = b"State: 0 ".to_vec(rt.alloc())?;
         put_many(&mut body, "[!@a14] 0 ", *labels)?;
         put_many(&mut body, last, 1)?;
-        assert_eq!(rt;
+        assert_outcome(
+            &rt,
             outcome_of(rt.alloc(), items.as_slice(), body.as_slice())?,
-            *number
+            *number,
         );
     }
     Ok(())
@@ -164,9 +176,10 @@ fn labels_of_states_are_counted_once(rt: HostRuntime) -> Result<(), Fail> {
     let items = doubled(rt.alloc(), 14)?;
     let mut body = b"State: [!@a14] 0 ".to_vec(rt.alloc())?;
     put_many(&mut body, "0 ", 1000)?;
-    assert_eq!(rt;
+    assert_outcome(
+        &rt,
         outcome_of(rt.alloc(), items.as_slice(), body.as_slice())?,
-        0
+        0,
     );
     Ok(())
 }
@@ -191,17 +204,23 @@ fn propositions(alloc: Global, count: u32) -> Result<Vec<u8>, Refusal> {
 #[test]
 fn there_are_at_most_1024_propositions(rt: HostRuntime) -> Result<(), Fail> {
     let most = propositions(rt.alloc(), 1024)?;
-    assert_eq!(rt;
+    assert_outcome(
+        &rt,
         outcome_of(rt.alloc(), most.as_slice(), b"State: [1023] 0")?,
-        0
+        0,
     );
-    assert_eq!(rt;
+    assert_outcome(
+        &rt,
         outcome_of(rt.alloc(), most.as_slice(), b"State: [1024] 0")?,
-        26
+        26,
     );
-    assert_eq!(rt; outcome_of(rt.alloc(), most.as_slice(), b"State: 0 0")?, 30);
+    assert_outcome(
+        &rt,
+        outcome_of(rt.alloc(), most.as_slice(), b"State: 0 0")?,
+        30,
+    );
     let more = propositions(rt.alloc(), 1025)?;
-    assert_eq!(rt; outcome_of(rt.alloc(), more.as_slice(), b"")?, 26);
+    assert_outcome(&rt, outcome_of(rt.alloc(), more.as_slice(), b"")?, 26);
     Ok(())
 }
 
@@ -210,10 +229,10 @@ fn there_are_at_most_1024_propositions(rt: HostRuntime) -> Result<(), Fail> {
 fn valuations_do_not_wrap(rt: HostRuntime) -> Result<(), Fail> {
     for (count, number) in [(0, 0), (1, 30), (31, 30), (32, 30), (63, 30), (64, 30)].iter() {
         let items = propositions(rt.alloc(), *count)?;
-        assert_eq!(rt;
+        assert_outcome(
+            &rt,
             outcome_of(rt.alloc(), items.as_slice(), b"State: 0 0")?,
             *number,
-            "{count}"
         );
     }
     Ok(())
@@ -234,10 +253,10 @@ const NUMBERS: [(&str, &str, u32); 5] = [
 #[test]
 fn nothing_is_sized_by_a_number(rt: HostRuntime) -> Result<(), Fail> {
     for (items, body, number) in NUMBERS.iter() {
-        assert_eq!(rt;
+        assert_outcome(
+            &rt,
             outcome_of(rt.alloc(), items.as_bytes(), body.as_bytes())?,
             *number,
-            "{items} / {body}"
         );
     }
     Ok(())
@@ -256,14 +275,16 @@ fn many_states(alloc: Global, count: u32) -> Result<Vec<u8>, Refusal> {
 #[test]
 fn many_states_are_read(rt: HostRuntime) -> Result<(), Fail> {
     let mut body = many_states(rt.alloc(), 20_000)?;
-    assert_eq!(rt;
+    assert_outcome(
+        &rt,
         outcome_of(rt.alloc(), b"Acceptance: 0 t", body.as_slice())?,
-        0
+        0,
     );
     put_many(&mut body, "State: 0", 1)?;
-    assert_eq!(rt;
+    assert_outcome(
+        &rt,
         outcome_of(rt.alloc(), b"Acceptance: 0 t", body.as_slice())?,
-        28
+        28,
     );
     Ok(())
 }

@@ -82,9 +82,9 @@ fn is_counted(
     numbers: (u32, usize, u32, usize, u32),
     acceptance: &str,
 ) -> Result<(), Refusal> {
-    assert_eq!(rt; counts(automaton), numbers);
+    assert!(rt; counts(automaton) == numbers);
     let text = acceptance_text(alloc, automaton)?;
-    assert_eq!(rt; text.as_slice(), acceptance.as_bytes());
+    assert!(rt; text.as_slice() == acceptance.as_bytes());
     Ok(())
 }
 
@@ -108,9 +108,9 @@ fn is_edge(
     marks: &[u32],
 ) -> Result<(), Refusal> {
     let text = label_text(alloc, edge.label.as_ref())?;
-    assert_eq!(rt; text.as_slice(), label.as_bytes());
-    assert_eq!(rt; edge.targets.as_slice(), targets);
-    assert_eq!(rt; edge.marks.as_slice(), marks);
+    assert!(rt; text.as_slice() == label.as_bytes());
+    assert!(rt; edge.targets.as_slice() == targets);
+    assert!(rt; edge.marks.as_slice() == marks);
     Ok(())
 }
 
@@ -125,13 +125,10 @@ fn is_state(
     marks: &[u32],
 ) -> Result<(), Refusal> {
     let text = label_text(alloc, state.label.as_ref())?;
-    assert_eq!(rt; text.as_slice(), label.as_bytes());
-    assert_eq!(rt; state.number, number);
-    assert_eq!(rt;
-        state.name.as_ref().map(|name: &Seq<u8>| name.as_slice()),
-        name
-    );
-    assert_eq!(rt; state.marks.as_slice(), marks);
+    assert!(rt; text.as_slice() == label.as_bytes());
+    assert!(rt; state.number == number);
+    assert!(rt; state.name.as_ref().map(|name: &Seq<u8>| name.as_slice()) == name);
+    assert!(rt; state.marks.as_slice() == marks);
     Ok(())
 }
 
@@ -208,15 +205,15 @@ fn headers_stand_as_written(rt: HostRuntime) -> Result<(), Fail> {
 }
 
 fn is_named(rt: &impl Abort, automaton: &Automaton) {
-    assert_eq!(rt; automaton.name(), Some("n".as_bytes()));
+    assert!(rt; automaton.name() == Some("n".as_bytes()));
     match automaton.tool() {
         Some(tool) => {
-            assert_eq!(rt; tool.name.as_slice(), "t".as_bytes());
-            assert_eq!(rt;
+            assert!(rt; tool.name.as_slice() == "t".as_bytes());
+            assert!(rt;
                 tool.version
                     .as_ref()
-                    .map(|version: &Seq<u8>| version.as_slice()),
-                Some("1".as_bytes())
+                    .map(|version: &Seq<u8>| version.as_slice())
+                    == Some("1".as_bytes())
             );
         }
         None => assert!(rt; false),
@@ -230,13 +227,13 @@ fn has_lists(rt: &impl Abort, automaton: &Automaton) {
         automaton.properties(),
     ) {
         ([both, one], [q, p], [first, second, third]) => {
-            assert_eq!(rt; both.as_slice(), [1, 0].as_slice());
-            assert_eq!(rt; one.as_slice(), [2].as_slice());
-            assert_eq!(rt; q.as_slice(), "q".as_bytes());
-            assert_eq!(rt; p.as_slice(), "p".as_bytes());
-            assert_eq!(rt; first.as_slice(), "b".as_bytes());
-            assert_eq!(rt; second.as_slice(), "a".as_bytes());
-            assert_eq!(rt; third.as_slice(), "b".as_bytes());
+            assert!(rt; both.as_slice() == [1, 0].as_slice());
+            assert!(rt; one.as_slice() == [2].as_slice());
+            assert!(rt; q.as_slice() == "q".as_bytes());
+            assert!(rt; p.as_slice() == "p".as_bytes());
+            assert!(rt; first.as_slice() == "b".as_bytes());
+            assert!(rt; second.as_slice() == "a".as_bytes());
+            assert!(rt; third.as_slice() == "b".as_bytes());
         }
         _ => assert!(rt; false),
     }
@@ -245,10 +242,10 @@ fn has_lists(rt: &impl Abort, automaton: &Automaton) {
 fn has_headers(rt: &impl Abort, automaton: &Automaton) {
     match automaton.unknown() {
         [first, second, third] => {
-            assert_eq!(rt; first.name.as_slice(), "x".as_bytes());
-            assert_eq!(rt; second.name.as_slice(), "y".as_bytes());
-            assert_eq!(rt; second.values.len(), 0);
-            assert_eq!(rt; third.name.as_slice(), "x".as_bytes());
+            assert!(rt; first.name.as_slice() == "x".as_bytes());
+            assert!(rt; second.name.as_slice() == "y".as_bytes());
+            assert!(rt; second.values.len() == 0);
+            assert!(rt; third.name.as_slice() == "x".as_bytes());
             are_values(rt, first.values.as_slice());
         }
         _ => assert!(rt; false),
@@ -263,8 +260,8 @@ fn are_values(rt: &impl Abort, values: &[HeaderValue]) {
             HeaderValue::Text(text),
             HeaderValue::Word(word),
         ] => {
-            assert_eq!(rt; text.as_slice(), "s".as_bytes());
-            assert_eq!(rt; word.as_slice(), "w".as_bytes());
+            assert!(rt; text.as_slice() == "s".as_bytes());
+            assert!(rt; word.as_slice() == "w".as_bytes());
         }
         _ => assert!(rt; false),
     }
@@ -273,7 +270,7 @@ fn are_values(rt: &impl Abort, values: &[HeaderValue]) {
 fn has_acceptance_name(rt: &impl Abort, automaton: &Automaton) {
     match automaton.acc_name() {
         Some(name) => {
-            assert_eq!(rt; name.name.as_slice(), "parity".as_bytes());
+            assert!(rt; name.name.as_slice() == "parity".as_bytes());
             match name.parameters.as_slice() {
                 [
                     Parameter::Word(max),
@@ -281,8 +278,8 @@ fn has_acceptance_name(rt: &impl Abort, automaton: &Automaton) {
                     Parameter::Number(1),
                     Parameter::Boolean(true),
                 ] => {
-                    assert_eq!(rt; max.as_slice(), "max".as_bytes());
-                    assert_eq!(rt; even.as_slice(), "even".as_bytes());
+                    assert!(rt; max.as_slice() == "max".as_bytes());
+                    assert!(rt; even.as_slice() == "even".as_bytes());
                 }
                 _ => assert!(rt; false),
             }
@@ -299,6 +296,6 @@ fn what_is_not_written_is_none(rt: HostRuntime) -> Result<(), Fail> {
     assert!(rt; automaton.tool().is_none());
     assert!(rt; automaton.name().is_none());
     assert!(rt; automaton.acc_name().is_none());
-    assert_eq!(rt; automaton.starts().len(), 0);
+    assert!(rt; automaton.starts().len() == 0);
     Ok(())
 }
