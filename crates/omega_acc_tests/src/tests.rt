@@ -70,7 +70,7 @@ fn labels_are_written(rt: HostRuntime) -> Result<(), Fail> {
     let none = Aliases::new(rt.alloc());
     for (postfix, want) in LABELS.iter() {
         let text = text_of(rt.alloc(), &label(rt.alloc(), postfix)?, &none)?;
-        assert_eq!(rt; text.as_slice(), want.as_bytes());
+        assert!(rt; text.as_slice() == want.as_bytes());
     }
     Ok(())
 }
@@ -103,9 +103,9 @@ const LATER: [&str; 2] = ["B", "0"];
 
 #[test]
 fn definitions_see_earlier_ones(rt: HostRuntime) {
-    assert_eq!(rt; number_of(size_of(rt.alloc(), &LATER, "A")), 27);
-    assert_eq!(rt; number_of(size_of(rt.alloc(), &LATER, "B")), 0);
-    assert_eq!(rt; number_of(size_of(rt.alloc(), &LATER, "C")), 27);
+    assert!(rt; number_of(size_of(rt.alloc(), &LATER, "A")) == 27);
+    assert!(rt; number_of(size_of(rt.alloc(), &LATER, "B")) == 0);
+    assert!(rt; number_of(size_of(rt.alloc(), &LATER, "C")) == 27);
 }
 
 // Each but the first is twice the one before.
@@ -116,11 +116,11 @@ const DOUBLED: [&str; 20] = [
 
 #[test]
 fn definitions_are_judged_before_they_are_copied(rt: HostRuntime) -> Result<(), Fail> {
-    assert_eq!(rt; size_of(rt.alloc(), &DOUBLED, "P")?, 65_535);
-    assert_eq!(rt; number_of(size_of(rt.alloc(), &DOUBLED, "Q")), 33);
-    assert_eq!(rt; number_of(size_of(rt.alloc(), &DOUBLED, "T")), 33);
-    assert_eq!(rt; size_of(rt.alloc(), &DOUBLED, "P!")?, 65_536);
-    assert_eq!(rt; number_of(size_of(rt.alloc(), &DOUBLED, "P0&")), 33);
+    assert!(rt; size_of(rt.alloc(), &DOUBLED, "P")? == 65_535);
+    assert!(rt; number_of(size_of(rt.alloc(), &DOUBLED, "Q")) == 33);
+    assert!(rt; number_of(size_of(rt.alloc(), &DOUBLED, "T")) == 33);
+    assert!(rt; size_of(rt.alloc(), &DOUBLED, "P!")? == 65_536);
+    assert!(rt; number_of(size_of(rt.alloc(), &DOUBLED, "P0&")) == 33);
     Ok(())
 }
 
@@ -141,10 +141,10 @@ fn wrapped_alias(alloc: Global, pairs: u32) -> Result<u32, Refusal> {
 
 #[test]
 fn depths_are_counted(rt: HostRuntime) {
-    assert_eq!(rt; number_of(wrapped(rt.alloc(), 255)), 0);
-    assert_eq!(rt; number_of(wrapped(rt.alloc(), 256)), 32);
-    assert_eq!(rt; number_of(wrapped_alias(rt.alloc(), 254)), 0);
-    assert_eq!(rt; number_of(wrapped_alias(rt.alloc(), 255)), 32);
+    assert!(rt; number_of(wrapped(rt.alloc(), 255)) == 0);
+    assert!(rt; number_of(wrapped(rt.alloc(), 256)) == 32);
+    assert!(rt; number_of(wrapped_alias(rt.alloc(), 254)) == 0);
+    assert!(rt; number_of(wrapped_alias(rt.alloc(), 255)) == 32);
 }
 
 // The propositions from 0 on joined by `&`.
@@ -162,8 +162,8 @@ fn judged(alloc: Global, raw: &RawLabel) -> Result<bool, Refusal> {
 
 #[test]
 fn twelve_propositions_are_judged(rt: HostRuntime) -> Result<(), Fail> {
-    assert_eq!(rt; judged(rt.alloc(), &all_of(rt.alloc(), 12)?)?, true);
-    assert_eq!(rt; number_of(judged(rt.alloc(), &all_of(rt.alloc(), 13)?)), 42);
+    assert!(rt; judged(rt.alloc(), &all_of(rt.alloc(), 12)?)?);
+    assert!(rt; number_of(judged(rt.alloc(), &all_of(rt.alloc(), 13)?)) == 42);
     Ok(())
 }
 
@@ -178,7 +178,7 @@ const JUDGED: [(&str, bool); 5] = [
 #[test]
 fn labels_are_judged(rt: HostRuntime) -> Result<(), Fail> {
     for (postfix, want) in JUDGED.iter() {
-        assert_eq!(rt; judged(rt.alloc(), &label(rt.alloc(), postfix)?)?, *want);
+        assert!(rt; judged(rt.alloc(), &label(rt.alloc(), postfix)?)? == *want);
     }
     Ok(())
 }
@@ -226,10 +226,7 @@ fn priority_in_row(order: Order, parity: Parity, count: u32, marks: &[u32]) -> O
 #[test]
 fn priorities_are_those_of_the_table(rt: HostRuntime) {
     for (order, parity, count, marks, want) in PRIORITIES.iter() {
-        assert_eq!(rt;
-            priority_in_row(*order, *parity, *count, marks),
-            Some(*want)
-        );
+        assert!(rt; priority_in_row(*order, *parity, *count, marks) == Some(*want));
     }
 }
 
@@ -328,9 +325,8 @@ const KINDS: [(&str, &str, u32, &str, Order, Parity); 10] = [
 fn parity_kinds_are_recognized(rt: HostRuntime) -> Result<(), Fail> {
     for (text, letters, count, postfix, order, parity) in KINDS.iter() {
         let kind = kind_of(rt.alloc(), text, letters, *count, postfix)?;
-        assert_eq!(rt;
-            kind,
-            AccKind::Parity(ParityKind {
+        assert!(rt;
+            kind == AccKind::Parity(ParityKind {
                 order: *order,
                 parity: *parity,
                 count: *count
@@ -357,25 +353,19 @@ const OTHERS: [(&str, &str, u32, &str); 11] = [
 #[test]
 fn other_acceptance_is_refused(rt: HostRuntime) {
     for (text, letters, count, postfix) in OTHERS.iter() {
-        assert_eq!(rt;
-            number_of(kind_of(rt.alloc(), text, letters, *count, postfix)),
-            40
-        );
+        assert!(rt; number_of(kind_of(rt.alloc(), text, letters, *count, postfix)) == 40);
     }
 }
 
 #[test]
 fn generalized_buchi_is_recognized(rt: HostRuntime) -> Result<(), Fail> {
-    assert_eq!(rt;
-        kind_of(rt.alloc(), "generalized-Buchi", "3", 3, "01&2&")?,
-        AccKind::GenBuchi(3)
-    );
+    assert!(rt; kind_of(rt.alloc(), "generalized-Buchi", "3", 3, "01&2&")? == AccKind::GenBuchi(3));
     let alone = parity_of(
         &name(rt.alloc(), "generalized-Buchi", "1")?,
         1,
         &formula(rt.alloc(), "0")?,
     );
-    assert_eq!(rt; number_of(alone), 40);
+    assert!(rt; number_of(alone) == 40);
     Ok(())
 }
 
@@ -383,9 +373,6 @@ fn generalized_buchi_is_recognized(rt: HostRuntime) -> Result<(), Fail> {
 fn acceptance_is_written(rt: HostRuntime) -> Result<(), Fail> {
     let mut text = Vec::new(rt.alloc());
     write_acc(&formula(rt.alloc(), "0b2d4&|&|")?, &mut text)?;
-    assert_eq!(rt;
-        text.as_slice(),
-        b"Inf(0)|Fin(1)&(Inf(2)|Fin(3)&Inf(4))".as_slice()
-    );
+    assert!(rt; text.as_slice() == b"Inf(0)|Fin(1)&(Inf(2)|Fin(3)&Inf(4))".as_slice());
     Ok(())
 }

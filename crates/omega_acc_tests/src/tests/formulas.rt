@@ -54,11 +54,11 @@ const NONE: [&str; 17] = [
 fn formulas_are_read(rt: HostRuntime) -> Result<(), Fail> {
     for (text, want, end) in READ.iter() {
         let (formula, place) = read(rt.alloc(), text.as_bytes())?;
-        assert_eq!(rt; formula.as_slice(), want.as_bytes());
-        assert_eq!(rt; place, *end);
+        assert!(rt; formula.as_slice() == want.as_bytes());
+        assert!(rt; place == *end);
     }
     for text in NONE.iter() {
-        assert_eq!(rt; number_of(read(rt.alloc(), text.as_bytes())), 3);
+        assert!(rt; number_of(read(rt.alloc(), text.as_bytes())) == 3);
     }
     Ok(())
 }
@@ -81,7 +81,7 @@ const UNKNOWN: [(&str, usize); 4] = [
 #[test]
 fn other_atoms_are_refused(rt: HostRuntime) -> Result<(), Fail> {
     for (text, end) in UNKNOWN.iter() {
-        assert_eq!(rt; refused(rt.alloc(), text.as_bytes())?, (31, *end));
+        assert!(rt; refused(rt.alloc(), text.as_bytes())? == (31, *end));
     }
     Ok(())
 }
@@ -103,16 +103,10 @@ fn nested(alloc: Global, atom: &str, count: usize) -> Result<Vec<u8>, Refusal> {
 fn the_least_refusal_comes(rt: HostRuntime) -> Result<(), Fail> {
     for (atom, count, number) in [("t", 255, 0), ("t", 256, 32), ("Fin(0)", 300, 32)].iter() {
         let text = nested(rt.alloc(), atom, *count)?;
-        assert_eq!(rt;
-            refused(rt.alloc(), text.as_slice())?,
-            (*number, text.len())
-        );
+        assert!(rt; refused(rt.alloc(), text.as_slice())? == (*number, text.len()));
     }
     let unknown = nested(rt.alloc(), "Foo(0)", 300)?;
-    assert_eq!(rt;
-        refused(rt.alloc(), unknown.as_slice())?,
-        (31, unknown.len())
-    );
+    assert!(rt; refused(rt.alloc(), unknown.as_slice())? == (31, unknown.len()));
     Ok(())
 }
 
@@ -129,11 +123,11 @@ fn raw_label(alloc: Global, text: &[u8]) -> Result<RawLabel, Refusal> {
 #[test]
 fn numbers_are_compared(rt: HostRuntime) -> Result<(), Fail> {
     let formula = raw_formula(rt.alloc(), b"Inf(0)&(Foo(!3)|Fin(1))".as_slice())?;
-    assert_eq!(rt; formula.sets_below(4), true);
-    assert_eq!(rt; formula.sets_below(3), false);
+    assert!(rt; formula.sets_below(4));
+    assert!(rt; !formula.sets_below(3));
     let label = raw_label(rt.alloc(), b"0&!(7|@a)|t".as_slice())?;
-    assert_eq!(rt; label.propositions_below(8), true);
-    assert_eq!(rt; label.propositions_below(7), false);
+    assert!(rt; label.propositions_below(8));
+    assert!(rt; !label.propositions_below(7));
     Ok(())
 }
 
@@ -142,11 +136,11 @@ fn depths_are_counted_up_to_the_limit(rt: HostRuntime) -> Result<(), Fail> {
     for (count, depth) in [(0, 1), (255, 256), (256, 257), (300, 257)].iter() {
         let text = nested(rt.alloc(), "t", *count)?;
         let formula = raw_formula(rt.alloc(), text.as_slice())?;
-        assert_eq!(rt; formula.depth(), *depth);
-        assert_eq!(rt; formula.is_too_deep(), *depth == 257);
+        assert!(rt; formula.depth() == *depth);
+        assert!(rt; formula.is_too_deep() == (*depth == 257));
         let label = raw_label(rt.alloc(), text.as_slice())?;
-        assert_eq!(rt; label.depth(), *depth);
-        assert_eq!(rt; label.is_too_deep(), *depth == 257);
+        assert!(rt; label.depth() == *depth);
+        assert!(rt; label.is_too_deep() == (*depth == 257));
     }
     Ok(())
 }
@@ -158,8 +152,8 @@ fn parentheses_and_names_are_kept(rt: HostRuntime) -> Result<(), Fail> {
     let second = RawAcc::atom(rt.alloc(), b"Inf".as_slice(), true, 1)?;
     let both = first.and(second)?.group()?;
     let made = both.or(RawAcc::constant(rt.alloc(), true)?)?;
-    assert_eq!(rt; read == made, true);
+    assert!(rt; (read == made));
     let plain = raw_formula(rt.alloc(), b"Foo(0)&Inf(!1)|t".as_slice())?;
-    assert_eq!(rt; read == plain, false);
+    assert!(rt; !((read == plain)));
     Ok(())
 }

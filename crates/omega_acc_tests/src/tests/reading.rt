@@ -33,11 +33,11 @@ const NONE: [&str; 8] = ["", "|", "0&", "(0", "!", "0|)", "()", "(0 1)"];
 fn labels_are_read(rt: HostRuntime) -> Result<(), Fail> {
     for (text, want, end) in READ.iter() {
         let (label, place) = read(rt.alloc(), text.as_bytes())?;
-        assert_eq!(rt; label.as_slice(), want.as_bytes());
-        assert_eq!(rt; place, *end);
+        assert!(rt; label.as_slice() == want.as_bytes());
+        assert!(rt; place == *end);
     }
     for text in NONE.iter() {
-        assert_eq!(rt; number_of(read(rt.alloc(), text.as_bytes())), 3);
+        assert!(rt; number_of(read(rt.alloc(), text.as_bytes())) == 3);
     }
     Ok(())
 }
@@ -67,14 +67,11 @@ fn refused(alloc: Global, text: &[u8]) -> Result<(u32, usize), Refusal> {
 fn deep_labels_are_refused(rt: HostRuntime) -> Result<(), Fail> {
     for (count, number) in [(255, 0), (256, 32), (600, 32)].iter() {
         let brackets = around(rt.alloc(), b'(', b')', *count)?;
-        assert_eq!(rt;
-            refused(rt.alloc(), brackets.as_slice())?,
-            (*number, 2 * *count + 1)
-        );
+        assert!(rt; refused(rt.alloc(), brackets.as_slice())? == (*number, 2 * *count + 1));
         let bars = around(rt.alloc(), b'!', b' ', *count)?;
-        assert_eq!(rt; refused(rt.alloc(), bars.as_slice())?.0, *number);
+        assert!(rt; refused(rt.alloc(), bars.as_slice())?.0 == *number);
     }
     let unclosed = around(rt.alloc(), b'(', b'!', 600)?;
-    assert_eq!(rt; refused(rt.alloc(), unclosed.as_slice())?.0, 3);
+    assert!(rt; refused(rt.alloc(), unclosed.as_slice())?.0 == 3);
     Ok(())
 }
