@@ -23,10 +23,13 @@ import tempfile
 import threading
 import time
 
+from explaining import EXPLAINED
 from families import FAMILIES
 
 ROOT = os.path.dirname(os.path.dirname(os.path.abspath(__file__)))
 GNU_TIME = shutil.which("time")
+# The exit status of `verify` where the solution does not win.
+NOT_WON = 6
 OMEGA = os.path.join(ROOT, "crates", "omega_tool", "out", "omega_tool")
 TASKS = {
     "solve": [["solve"], ["solve", "--player", "0"], ["solve", "--player", "1"]],
@@ -75,9 +78,10 @@ def lifts_in(output):
 class Figures:
     """What the runs of one command on one input gave."""
 
-    def __init__(self, name, command):
+    def __init__(self, name, command, status=0):
         self.name = name
         self.command = command
+        self.status = status
         self.output = None
         self.fault = None
         self.times = []
@@ -89,7 +93,7 @@ class Figures:
         made = measured(self.command, words, path, seconds)
         if made is None:
             self.fault = f"over {seconds} s"
-        elif made[1] != 0:
+        elif made[1] != self.status:
             self.fault = f"exit status {made[1]}"
         elif self.output is None:
             self.output = made[2]
@@ -132,6 +136,26 @@ def without_lifts(output):
     return output.split(b"\n", 1)[-1] if lifts_in(output) is not None else output
 
 
+def explained(commands, options):
+    """Runs the commands on wrong solutions of games, which they explain. Whether all went well."""
+    all_well = True
+    for family, (quick, full) in EXPLAINED.items():
+        if options.only and family not in options.only:
+            continue
+        game, solution = (quick if options.quick else full)()
+        with tempfile.NamedTemporaryFile("w", suffix=".pg") as file, tempfile.NamedTemporaryFile("w") as given:
+            file.write(game)
+            file.flush()
+            given.write(solution)
+            given.flush()
+            print(f"{family}: {len(game):,} bytes, {game.count(';'):,} nodes, and a solution of {len(solution):,} bytes")
+            print("  verify --explain")
+            figures = [Figures(name, command, NOT_WON) for name, command in commands]
+            well = compared(figures, ["verify", "--explain", "--game", file.name], given.name, options)
+            all_well = all_well and len(well) == len(commands)
+    return all_well
+
+
 def main():
     parser = argparse.ArgumentParser(description=__doc__, formatter_class=argparse.RawDescriptionHelpFormatter)
     parser.add_argument("--quick", action="store_true", help="small games")
@@ -143,8 +167,9 @@ def main():
     options = parser.parse_args()
     if options.runs < 1:
         parser.error("at least one run is counted")
-    if options.only and not set(options.only) <= set(FAMILIES):
-        parser.error("the families are " + ", ".join(FAMILIES))
+    names = [*FAMILIES, *EXPLAINED]
+    if options.only and not set(options.only) <= set(names):
+        parser.error("the families are " + ", ".join(names))
     if not options.omega and not os.path.exists(OMEGA):
         parser.error("the program is not built: ./omega --help builds it")
     commands = [("omega", shlex.split(options.omega or OMEGA))]
@@ -170,6 +195,7 @@ def main():
                     ratio = ours / statistics.median(other.times)
                     ratios[other.name].append((words[0], ratio))
                     print(f"    omega / {other.name}: {ratio:.2f}")
+    all_well = explained(commands, options) and all_well
     for name, found in ratios.items():
         for task in sorted({task for task, _ in found}):
             of_task = [ratio for its, ratio in found if its == task]

@@ -1,11 +1,11 @@
 """`solve --search`: its winners against a plain solver, on games made at random and on hard ones.
 
 A search that gives an answer makes no lift, so that it keeps a budget of 0; where it gave nothing, a game with a lift to
-make would be refused 51. So an answer is seen to be the search's.
+make would be refused 51. So an answer is seen to be the search's, and that it gave up is seen too.
 """
 import random
 
-from program import run_of
+from program import refusal_fault, run_of
 
 
 def friedmann(levels):
@@ -21,6 +21,18 @@ def friedmann(levels):
     number = {name: place for place, name in enumerate(sorted(nodes))}
     return [(priority, owner, [number[name] for name in successors])
             for owner, priority, successors in (nodes[name] for name in sorted(nodes))]
+
+
+def resistant(levels):
+    """Games on which the recursion takes exponential time here too (after Gazda and Willemse 2013): 3 nodes a level, of
+    which one has a great priority and the others priorities 0 and 1 by turns."""
+    nodes = []
+    for k in range(levels):
+        first, low = 3 * k, (k + 1) % 2
+        nodes.append((k + 2, low, [first + 1]))
+        nodes.append((low, 1 - low, [first + 2] + [first + 3] * (k + 1 < levels)))
+        nodes.append((low, low, [first + 1] + [first - 1] * (k > 0) + [first + 5] * (k + 1 < levels)))
+    return nodes
 
 
 def random_game(maker):
@@ -84,3 +96,10 @@ def search_checks():
         yield f"random game {number} by a search without a lift", winners_fault(search + ["--budget", "0"], game)
     for levels in (2, 4, 6, 10, 14):
         yield f"{levels} levels by a search without a lift", winners_fault(search + ["--budget", "0"], friedmann(levels))
+    for levels in (4, 10):
+        yield (f"{levels} resistant levels by a search without a lift",
+               winners_fault(search + ["--budget", "0"], resistant(levels)))
+    for levels in (17, 18, 40):
+        yield (f"{levels} resistant levels, on which the search gives up, and no lift to solve them by",
+               refusal_fault(search + ["--budget", "0"], text_of(resistant(levels)), "51 Budget", 3))
+    yield "17 resistant levels, by lifting where the search gives up", winners_fault(search, resistant(17))
