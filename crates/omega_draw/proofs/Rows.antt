@@ -1,6 +1,7 @@
--- Numbered texts: of one item more, and of two lists.
+-- Texts of items one behind the other, numbered or not: of one item more, and of two lists.
 use Rattle.std.proofs.Common.{◌≡◌, ℕ, ◌+◌, ◌<◌, ◌≤◌, List, [], ◌∷◌, ◌++◌, length, take, get_or, sym, ap, ◌∙◌, append_assoc, arith}
-use Rattle.std.proofs.lemmas.List.{append-nil, length-take-le, take_all, take_more}
+use Rattle.std.proofs.lemmas.List.{append-nil, flat_map_more, length-take-le, take_all, take_more}
+use Rattle.std.specs.List.{flat_map}
 use Rattle.omega_draw.specs.Numbered.{numbered}
 
 -- the texts of some items and then of others
@@ -47,3 +48,12 @@ rows_end text xs i front back before after all so_far step =
     step ∙ ap (λ list. list ++ back) so_far
     ∙ ap (λ list. (front ++ numbered text 0 list) ++ back) (take_all i xs all)
     ∙ append_assoc front (numbered text 0 xs) back
+
+-- the same of texts that are not numbered
+pub text_more : {X : Type 0} (text : X → List ℕ) (xs : List X) (i : ℕ) (d : X) (front before after : List ℕ) → i < length xs
+    → before ≡ front ++ flat_map text (take i xs) → after ≡ before ++ text (get_or xs i d)
+    → after ≡ front ++ flat_map text (take (i + 1) xs)
+text_more text xs i d front before after below so_far step =
+    step ∙ ap (λ list. list ++ text (get_or xs i d)) so_far
+    ∙ flat_map_more text front (take i xs) (get_or xs i d)
+    ∙ ap (λ list. front ++ flat_map text list) (sym (take_more xs i d below))

@@ -5,7 +5,7 @@ use omega_text::Refusal;
 use std::alloc::Global;
 
 /// How an edge stands to a lasso.
-#[derive(Clone, Copy, Debug, PartialEq, Eq)]
+#[derive(Clone, Copy)]
 pub(crate) enum Role {
     /// It is on neither part.
     Plain,

@@ -4,3 +4,4 @@ pub mod Turning
 pub mod Passed
 pub mod Verdicts
 pub mod Entering
+pub mod Lists

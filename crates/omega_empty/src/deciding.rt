@@ -1,9 +1,10 @@
 ghost use Rattle.std.specs.Prelude.{◌≡◌, ◌≤◌, IfErr, IfOk, IsOkUnless, drop, length, take};
+ghost use Rattle.omega_text.specs.Cases.{never, or_memory, or_task};
 ghost use Rattle.omega_game.specs.declared.player.Player.TheVariants.{Zero};
 ghost use Rattle.omega_solve.specs.Headline.{IsExact};
 ghost use Rattle.omega_solve.specs.Limits.{most_lifts};
 ghost use Rattle.omega_empty.specs.EmptinessGame.{IsEmptinessGame};
-ghost use Rattle.omega_empty.specs.Verdict.{IsEmptinessRefusal, IsVerdict};
+ghost use Rattle.omega_empty.specs.Verdict.{IsEmptinessRefusal, IsSolvingFault, IsVerdict};
 ghost use Rattle.omega_empty.specs.layout.Following.{IsWonStart};
 
 use crate::following::follow_choices;
@@ -26,14 +27,54 @@ pub fn emptiness(alloc: Global, automaton: &Automaton, budget: u64) -> Result<Ve
     ensures verdict { IfOk result (IsVerdict automaton.now) }
     ensures refused { IfErr result (IsEmptinessRefusal automaton.now budget) }
 {
+    let game = emptiness_game(alloc, automaton)?;
+    decided(alloc, automaton, &game, budget)
+}
+
+/// The verdict on an automaton of which this is the emptiness game. 50, 51 or 60.
+fn decided(
+    alloc: Global,
+    automaton: &Automaton,
+    game: &Game,
+    budget: u64,
+) -> Result<Verdict, Refusal>
+    requires budget { budget ≤ most_lifts }
+    requires game { IsEmptinessGame automaton.now game.now }
+    ensures verdict { IfOk result (IsVerdict automaton.now) }
+    ensures refused { IfErr result (or_task (IsSolvingFault budget game.now) (or_memory never)) }
+{
+    let found = found_within(alloc, game, budget)?;
+    verdict_of(alloc, automaton, game, &found)
+}
+
+/// What player 0 wins of a game, with at most so many lifts. 50 where the table of lifting would be too wide, 51 where the
+/// budget does not suffice, or 60.
+fn found_within(alloc: Global, game: &Game, budget: u64) -> Result<Found, Refusal>
+    requires { budget ≤ most_lifts }
+    ensures exact { IfOk result (λ found. IsExact game.now Zero found.won.items found.choice.items) }
+    ensures refused { IfErr result (or_task (IsSolvingFault budget game.now) (or_memory never)) }
+{
+    let solver: Solver<'_, PackedTable, Nested> = Solver::prepare(alloc, game, Player::Zero)?;
+    Found::by(alloc, solver, budget)
+}
+
+/// The verdict that what player 0 wins of the emptiness game gives. 60 alone.
+fn verdict_of(
+    alloc: Global,
+    automaton: &Automaton,
+    game: &Game,
+    found: &Found,
+) -> Result<Verdict, Refusal>
+    requires game { IsEmptinessGame automaton.now game.now }
+    requires exact { IsExact game.now Zero found.now.won.items found.now.choice.items }
+    ensures verdict { IfOk result (IsVerdict automaton.now) }
+    ensures memory { IsOkUnless result Refusal.Memory }
+{
     unwon_is_empty();
     automaton.keeps_limits();
-    let game = emptiness_game(alloc, automaton)?;
-    let solver: Solver<'_, PackedTable, Nested> = Solver::prepare(alloc, &game, Player::Zero)?;
-    let found = Found::by(alloc, solver, budget)?;
-    match won_start(automaton, &game, found.won.as_slice()) {
+    match won_start(automaton, game, found.won.as_slice()) {
         None => Ok(Verdict::Empty),
-        Some(start) => lasso_from(alloc, automaton, &game, &found, start),
+        Some(start) => lasso_from(alloc, automaton, game, found, start),
     }
 }
 

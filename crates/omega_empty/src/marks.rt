@@ -33,7 +33,8 @@ pub(crate) fn edge_priority(kind: AccKind, counter: u32, state: &State, edge: &E
 /// The counter behind an edge at a counter.
 pub(crate) fn counter_after(kind: AccKind, counter: u32, state: &State, edge: &Edge) -> u32
     requires { counter < counters kind }
-    ensures { result ≡ counter_after kind counter (state.now.marks ++ edge.now.marks) }
+    ensures value { result ≡ counter_after kind counter (state.now.marks ++ edge.now.marks) }
+    ensures below { result < counters kind }
 {
     match kind {
         AccKind::Parity(_) => counter,

@@ -1,10 +1,10 @@
-ghost use Rattle.std.specs.Prelude.{◌≡◌, ◌+◌, ◌++◌, ◌<◌, ◌≤◌, ◌↔◌, [], ◌∷◌, IfOk, IsOkUnless, IsTrue, OnOk, length, map, filter};
+ghost use Rattle.std.specs.Prelude.{◌≡◌, ◌+◌, ◌++◌, ◌<◌, ◌≤◌, ◌↔◌, [], ◌∷◌, IfOk, IsOkUnless, IsTrue, OnOk, length, map, filter, slice_index};
 ghost use Rattle.std.specs.Bool.{OnTrue};
 ghost use Rattle.std.specs.List.{range_with_len};
 ghost use Rattle.omega_text.specs.Limits.{most_number};
 ghost use Rattle.omega_automaton.specs.Automaton.{edge_count, edges_from, edges_of};
-ghost use Rattle.omega_empty.specs.Counters.{counters};
-ghost use Rattle.omega_empty.specs.EmptinessGame.{edge_node, edge_nodes, is_usable, nodes_at, state_node};
+ghost use Rattle.omega_empty.specs.Counters.{counter_after, counters};
+ghost use Rattle.omega_empty.specs.EmptinessGame.{edge_id, edge_node, edge_nodes, is_usable, nodes_at, state_id, state_node};
 ghost use Rattle.omega_empty.specs.layout.Nodes.{begun, linked};
 ghost use Rattle.omega_empty.specs.layout.Ranges.{usable_in};
 ghost use Rattle.omega_empty.specs.layout.Marks.{AreMarksOf};
@@ -200,10 +200,31 @@ fn add_edge(
     ensures ok { OnOk result (builder.new ≡ builder.old ++ edge_node judged.now.kind judged.now.automaton.now counter number (record { source = state.now; edge = edge.now }) ∷ []) }
     ensures memory { IsOkUnless result Refusal.Memory }
 {
-    let span = judged.span();
-    let id = counter * span + judged.automaton.state_count() + number;
-    let behind = counter_after(judged.kind, counter, state, edge);
-    let target = behind * span + edge.targets.as_slice()[0];
+    let id = edge_id(judged, counter, number);
+    let target = target_id(judged, counter, state, edge);
     let priority = edge_priority(judged.kind, counter, state, edge);
     builder.add_node(id, priority, Player::Zero, target)
+}
+
+/// The identifier of an edge at a counter.
+fn edge_id(judged: &Judged<'_>, counter: u32, number: u32) -> u32
+    requires ready { IsReady judged.now.automaton.now judged.now.kind judged.now.usable.items judged.now.ranges.items }
+    requires counter { counter < counters judged.now.kind }
+    requires number { number < edge_count judged.now.automaton.now }
+    ensures id { result ≡ edge_id judged.now.automaton.now counter number }
+    ensures writable { result ≤ most_number }
+{
+    counter * judged.span() + judged.automaton.state_count() + number
+}
+
+/// The identifier of the state that an edge enters, at the counter that its marks bring.
+fn target_id(judged: &Judged<'_>, counter: u32, state: &State, edge: &Edge) -> u32
+    requires ready { IsReady judged.now.automaton.now judged.now.kind judged.now.usable.items judged.now.ranges.items }
+    requires counter { counter < counters judged.now.kind }
+    requires plain { IsPlainEdge judged.now.automaton.now judged.now.kind edge.now }
+    ensures id { result ≡ state_id judged.now.automaton.now (counter_after judged.now.kind counter (state.now.marks ++ edge.now.marks)) (slice_index edge.now.targets 0) }
+    ensures writable { result ≤ most_number }
+{
+    let behind = counter_after(judged.kind, counter, state, edge);
+    behind * judged.span() + edge.targets.as_slice()[0]
 }

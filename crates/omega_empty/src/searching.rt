@@ -24,8 +24,7 @@ pub fn lasso(alloc: Global, automaton: &Automaton) -> Result<Verdict, Refusal>
     ensures refused { IfErr result (IsGameRefusal automaton.now) }
 {
     let game = emptiness_game(alloc, automaton)?;
-    let verdict = searched(alloc, automaton, &game)?;
-    Ok(verdict)
+    searched(alloc, automaton, &game)
 }
 
 /// The verdict that the emptiness game gives. 60 alone.

@@ -1,8 +1,9 @@
-ghost use Rattle.std.specs.Prelude.{◌≡◌, ◌≤◌, ◌↔◌, IfOk, IsOkUnless, IsTrue, All};
+ghost use Rattle.std.specs.Prelude.{◌≡◌, ◌≤◌, ◌↔◌, IfOk, OnOk, IsOkUnless, IsTrue, All, option_map};
 ghost use Rattle.omega_text.specs.pg.Forms.{IsQuoted};
 ghost use Rattle.omega_text.specs.Limits.{most_number};
 ghost use Rattle.omega_game.specs.Game.{IsNameByte};
 ghost use Rattle.omega_pg.specs.Symbols.{between_quotes};
+ghost use Rattle.omega_pg.specs.game.reader.Automaton.{is_above};
 
 use crate::game::stage::Stage;
 use omega_game::{GameBuilder, Player, Refusal};
@@ -22,7 +23,8 @@ pub(crate) struct Reader {
 }
 
 impl Reader {
-    ghost use Rattle.omega_pg.specs.game.reader.Automaton.{IsReady, Takes, after_comma, after_name, after_number, after_semicolon, after_word, initial};
+    ghost use Rattle.omega_pg.specs.declared.game.stage.Stage.TheVariants.{Owner};
+    ghost use Rattle.omega_pg.specs.game.reader.Automaton.{IsReady, Takes, after_comma, after_name, after_number, after_semicolon, after_word, begun, initial, player_of, to_stage, with_node};
     ghost use Rattle.omega_pg.specs.game.reader.Reader.{state_of};
     ghost use Rattle.omega_game.specs.Game.{IsNameByte};
 
@@ -38,7 +40,7 @@ impl Reader {
     }
 
     /// Takes a number, unless no text goes on so.
-    #[tactic(auto, using(crate::proofs::games::Changes::length_with_last, crate::proofs::games::Players::player_found, crate::proofs::games::Players::no_player_found))]
+    #[tactic(auto, using(crate::proofs::games::Changes::length_with_last))]
     pub(crate) fn take_number(&mut self, number: u32) -> Result<bool, Refusal>
         requires ready { IsReady (state_of self.old) }
         requires number { number ≤ most_number }
@@ -48,43 +50,73 @@ impl Reader {
         match self.stage {
             Stage::Start | Stage::Headed | Stage::Ended => {
                 self.stage = Stage::Identifier { id: number };
+                Ok(true)
             }
             Stage::Word => {
                 self.stage = Stage::Number { header: number };
+                Ok(true)
             }
             Stage::Identifier { id } => {
-                self.stage = Stage::Priority {
-                    id,
-                    priority: number,
-                };
+                let priority = number;
+                self.stage = Stage::Priority { id, priority };
+                Ok(true)
             }
-            Stage::Priority { id, priority } => {
-                let Some(owner) = Player::of_number(number) else {
-                    return Ok(false);
-                };
-                self.stage = Stage::Owner {
-                    id,
-                    priority,
-                    owner,
-                };
-            }
+            Stage::Priority { id, priority } => Ok(self.take_owner(id, priority, number)),
             Stage::Owner {
                 id,
                 priority,
                 owner,
             } => {
-                self.builder.add_node(id, priority, owner, number)?;
-                self.header_too_small = self.header_too_small
-                    || self.header.is_some_and(|header| header < id);
-                self.stage = Stage::Listed;
+                self.begin_node(id, priority, owner, number)?;
+                Ok(true)
             }
             Stage::Comma => {
                 self.builder.add_successor(number)?;
                 self.stage = Stage::Listed;
+                Ok(true)
             }
-            Stage::Number { .. } | Stage::Listed | Stage::Named => return Ok(false),
+            Stage::Number { .. } | Stage::Listed | Stage::Named => Ok(false),
         }
-        Ok(true)
+    }
+
+    /// Takes the number of an owner behind an identifier and a priority, unless no player has it.
+    #[tactic(auto, using(crate::proofs::games::Players::player_found, crate::proofs::games::Players::no_player_found))]
+    fn take_owner(&mut self, id: u32, priority: u32, number: u32) -> bool
+        requires id { id ≤ most_number }
+        requires priority { priority ≤ most_number }
+        ensures { Takes result (option_map (λ owner. to_stage (Owner id priority owner) (state_of self.old)) (player_of number)) (state_of self.new) }
+    {
+        match Player::of_number(number) {
+            None => false,
+            Some(owner) => {
+                self.stage = Stage::Owner {
+                    id,
+                    priority,
+                    owner,
+                };
+                true
+            }
+        }
+    }
+
+    /// Adds a node with its first successor.
+    fn begin_node(
+        &mut self,
+        id: u32,
+        priority: u32,
+        owner: Player,
+        first: u32,
+    ) -> Result<(), Refusal>
+        requires id { id ≤ most_number }
+        requires priority { priority ≤ most_number }
+        requires first { first ≤ most_number }
+        ensures begun { OnOk result (state_of self.new ≡ with_node (begun id priority owner first) (state_of self.old)) }
+        ensures memory { IsOkUnless result Refusal.Memory }
+    {
+        self.builder.add_node(id, priority, owner, first)?;
+        self.header_too_small = self.header_too_small || is_above(self.header, id);
+        self.stage = Stage::Listed;
+        Ok(())
     }
 
     /// Takes the word `parity`, unless no text goes on so.
@@ -187,7 +219,17 @@ impl TokenReader<PgKind> for Reader {
     fn is_complete(&self) -> bool
         ensures { IsTrue result ↔ (self.now.stage ≡ Ended) }
     {
-        self.stage == Stage::Ended
+        matches!(self.stage, Stage::Ended)
+    }
+}
+
+/// Whether an identifier is above the number of a header, if there is one.
+fn is_above(header: Option<u32>, id: u32) -> bool
+    ensures { result ≡ is_above header id }
+{
+    match header {
+        None => false,
+        Some(greatest) => greatest < id,
     }
 }
 

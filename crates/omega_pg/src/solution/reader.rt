@@ -114,7 +114,7 @@ impl TokenReader<PgKind> for Reader<'_> {
     fn is_complete(&self) -> bool
         ensures { IsTrue result ↔ (self.now.stage ≡ Ended) }
     {
-        self.stage == Stage::Ended
+        matches!(self.stage, Stage::Ended)
     }
 }
 

@@ -1,7 +1,7 @@
 use omega_game::Player;
 
 /// Where a solution text stands between two tokens: what was read last, with the parts of a line that has begun.
-#[derive(Clone, Copy, Debug, PartialEq, Eq)]
+#[derive(Clone, Copy)]
 pub(crate) enum Stage {
     /// Nothing.
     Start,
