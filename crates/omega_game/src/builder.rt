@@ -182,8 +182,7 @@ impl GameBuilder {
         ensures rising { IfOk result (λ builder. IsNonDecreasing (ids_of builder)) }
     {
         let order = self.order()?;
-        let builder = self.rearranged_by(order.as_slice())?;
-        Ok(builder)
+        self.rearranged_by(order.as_slice())
     }
 
     /// Whether each identifier is greater than the one before.

@@ -1,5 +1,6 @@
 -- `GameBuilder::rearranged`: the specifications in rising order of identifiers.
 use Rattle.std.proofs.Common.{ℕ, length, map, List, get_or, ap, sym, subst, ◌∙◌}
+use Rattle.std.proofs.lemmas.Result.{IfOk-weaker}
 use Rattle.omega_game.specs.layout.Collected.{ids_of}
 use Rattle.std.specs.List.{range_with_len}
 use Rattle.std.specs.List.Sorted.{IsPermutation, IsNonDecreasing}
@@ -10,4 +11,6 @@ rearranged_by-requires c = subst (λ (order : List ℕ). IsPermutation (range_wi
 
 pub returns-clause-rising : goal.returns-clause-rising
 returns-clause-rising c =
-    subst IsNonDecreasing (sym (c.in_ok-builder.ensures.ids ∙ ap (map (λ i. get_or (ids_of c.args.self) i 0)) c.as_slice.ensures.value)) c.in_ok-order.ensures.rising
+    IfOk-weaker c.rearranged_by.result _ _
+    (λ builder ids. subst IsNonDecreasing (sym (ids ∙ ap (map (λ i. get_or (ids_of c.args.self) i 0)) c.as_slice.ensures.value)) c.in_ok-order.ensures.rising)
+    c.rearranged_by.ensures.ids
