@@ -100,15 +100,15 @@ fn label_of(
     ensures err { IfErr result IsMemory }
 {
     match label {
-        Some(label) => Ok(Some(sound_label(alloc, aliases, &label)?)),
+        Some(label) => Ok(Some(sound_label(alloc, aliases, label)?)),
         None => Ok(None),
     }
 }
 
 /// A label without a fault with its aliases replaced, so that memory alone can be wanting.
-fn sound_label(alloc: Global, aliases: &Aliases, label: &RawLabel) -> Result<Label, Refusal>
-    requires { is_faulty (expansion aliases.now label.now) ≡ false }
-    ensures ok { IfOk result (λ made. IsExpansion aliases.now label.now made) }
+fn sound_label(alloc: Global, aliases: &Aliases, label: RawLabel) -> Result<Label, Refusal>
+    requires { is_faulty (expansion aliases.now label) ≡ false }
+    ensures ok { IfOk result (λ made. IsExpansion aliases.now label made) }
     ensures err { IfErr result IsMemory }
 {
     expand(alloc, label, aliases)
