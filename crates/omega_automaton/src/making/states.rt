@@ -46,12 +46,13 @@ fn state_of(alloc: Global, aliases: &Aliases, state: RawState) -> Result<State, 
         edges,
     } = state;
     let label = label_of(alloc, aliases, label)?;
+    let marks = marks_of(alloc, marks)?;
     let edges = edges_of(alloc, aliases, edges)?;
     Ok(State {
         label,
         number,
         name,
-        marks: marks_of(alloc, marks),
+        marks,
         edges,
     })
 }
@@ -82,10 +83,11 @@ fn edge_of(alloc: Global, aliases: &Aliases, edge: RawEdge) -> Result<Edge, Refu
         marks,
     } = edge;
     let label = label_of(alloc, aliases, label)?;
+    let marks = marks_of(alloc, marks)?;
     Ok(Edge {
         label,
         targets,
-        marks: marks_of(alloc, marks),
+        marks,
     })
 }
 
