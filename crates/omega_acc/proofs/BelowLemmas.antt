@@ -11,7 +11,7 @@ use Rattle.omega_acc.specs.layout.Propositions.{proposition_below}
 use Rattle.omega_acc.specs.layout.RawAcc.{raw_acc_postfix}
 use Rattle.omega_acc.specs.layout.RawLabel.{raw_postfix}
 use Rattle.omega_acc.specs.declared.raw_acc.RawAccNode.TheVariants as acc_node
-use Rattle.omega_acc.specs.declared.raw_label.RawNode.TheVariants.{And, Group, Not, Or}
+use Rattle.omega_acc.specs.declared.label.LabelNode.TheVariants.{And, Group, Not, Or}
 
 and_true : (b : Bool) → (b && true) ≡ b
 and_true true = refl

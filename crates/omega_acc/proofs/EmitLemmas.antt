@@ -10,9 +10,7 @@ use Rattle.omega_acc.specs.layout.Emitting.{AllStand, emitted, nodes_of}
 use Rattle.omega_acc.specs.layout.Joins.{regrouped}
 use Rattle.omega_acc.specs.layout.RawLabel.{alias_names, raw_postfix}
 use Rattle.omega_acc.specs.declared.label.LabelNode.{LabelNode}
-use Rattle.omega_acc.specs.declared.label.LabelNode.TheVariants as plain
-use Rattle.omega_acc.specs.declared.raw_label.RawNode.{RawNode}
-use Rattle.omega_acc.specs.declared.raw_label.RawNode.TheVariants.{Alias, And, Group, Not, Or}
+use Rattle.omega_acc.specs.declared.label.LabelNode.TheVariants.{Alias, And, Group, Not, Or}
 
 -- the meaning under a step that has one
 some-part : (step : Meaning → Meaning) (part : Option Meaning) → IsSome (option_map step part) → IsSome part
@@ -32,24 +30,24 @@ nodes-parentheses : (part : Option Meaning) → nodes_of (option_map in_parenthe
 nodes-parentheses None = refl
 nodes-parentheses (Some meaning) = refl
 
-nodes-negated : (part : Option Meaning) → IsSome part → nodes_of (option_map negated part) ≡ nodes_of part ++ plain.Not ∷ []
+nodes-negated : (part : Option Meaning) → IsSome part → nodes_of (option_map negated part) ≡ nodes_of part ++ Not ∷ []
 nodes-negated None is = absurd (false≢true is)
 nodes-negated (Some meaning) is = refl
 
 nodes-conjunction : (left right : Option Meaning) → IsSome left → IsSome right
-    → nodes_of (both label.conjunction left right) ≡ nodes_of left ++ (nodes_of right ++ plain.And ∷ [])
+    → nodes_of (both label.conjunction left right) ≡ nodes_of left ++ (nodes_of right ++ And ∷ [])
 nodes-conjunction None right one other = absurd (false≢true one)
 nodes-conjunction (Some left) None one other = absurd (false≢true other)
 nodes-conjunction (Some left) (Some right) one other = refl
 
 nodes-disjunction : (left right : Option Meaning) → IsSome left → IsSome right
-    → nodes_of (both label.disjunction left right) ≡ nodes_of left ++ (nodes_of right ++ plain.Or ∷ [])
+    → nodes_of (both label.disjunction left right) ≡ nodes_of left ++ (nodes_of right ++ Or ∷ [])
 nodes-disjunction None right one other = absurd (false≢true one)
 nodes-disjunction (Some left) None one other = absurd (false≢true other)
 nodes-disjunction (Some left) (Some right) one other = refl
 
 -- a label's nodes are emitted as those of what it means
-emitted-postfix : (entries : List Entry) (tree : RawLabelTree) (names : List ℕ) (rest : List RawNode) → IsSome (replaced entries tree)
+emitted-postfix : (entries : List Entry) (tree : RawLabelTree) (names : List ℕ) (rest : List LabelNode) → IsSome (replaced entries tree)
     → emitted entries (alias_names tree ++ names) (raw_postfix tree ++ rest) ≡ nodes_of (replaced entries tree) ++ emitted entries names rest
 emitted-postfix entries (constant value) names rest is = refl
 emitted-postfix entries (proposition number) names rest is = refl
@@ -60,7 +58,7 @@ emitted-postfix entries (alias name) names rest is =
 emitted-postfix entries (negation part) names rest is =
     ap (emitted entries (alias_names part ++ names)) (append_assoc (raw_postfix part) (Not ∷ []) rest)
     ∙ (emitted-postfix entries part names (Not ∷ rest) (some-part negated (replaced entries part) is)
-    ∙ (sym (append_assoc (nodes_of (replaced entries part)) (plain.Not ∷ []) (emitted entries names rest))
+    ∙ (sym (append_assoc (nodes_of (replaced entries part)) (Not ∷ []) (emitted entries names rest))
     ∙ ap (λ nodes. nodes ++ emitted entries names rest) (sym (nodes-negated (replaced entries part) (some-part negated (replaced entries part) is)))))
 emitted-postfix entries (group part) names rest is =
     ap (emitted entries (alias_names part ++ names)) (append_assoc (raw_postfix part) (Group ∷ []) rest)
@@ -73,7 +71,7 @@ emitted-postfix entries (conjunction left right) names rest is =
     ∙ (ap (emitted entries (alias_names left ++ (alias_names right ++ names))) (regrouped (raw_postfix left) (raw_postfix right) And rest)
     ∙ (emitted-postfix entries left (alias_names right ++ names) (raw_postfix right ++ And ∷ rest) one
     ∙ (ap (λ nodes. nodes_of (replaced entries left) ++ nodes) (emitted-postfix entries right names (And ∷ rest) other)
-    ∙ (sym (regrouped (nodes_of (replaced entries left)) (nodes_of (replaced entries right)) plain.And (emitted entries names rest))
+    ∙ (sym (regrouped (nodes_of (replaced entries left)) (nodes_of (replaced entries right)) And (emitted entries names rest))
     ∙ ap (λ nodes. nodes ++ emitted entries names rest) (sym (nodes-conjunction (replaced entries left) (replaced entries right) one other))))))
 emitted-postfix entries (disjunction left right) names rest is =
     let one = some-left label.disjunction (replaced entries left) (replaced entries right) is in
@@ -82,7 +80,7 @@ emitted-postfix entries (disjunction left right) names rest is =
     ∙ (ap (emitted entries (alias_names left ++ (alias_names right ++ names))) (regrouped (raw_postfix left) (raw_postfix right) Or rest)
     ∙ (emitted-postfix entries left (alias_names right ++ names) (raw_postfix right ++ Or ∷ rest) one
     ∙ (ap (λ nodes. nodes_of (replaced entries left) ++ nodes) (emitted-postfix entries right names (Or ∷ rest) other)
-    ∙ (sym (regrouped (nodes_of (replaced entries left)) (nodes_of (replaced entries right)) plain.Or (emitted entries names rest))
+    ∙ (sym (regrouped (nodes_of (replaced entries left)) (nodes_of (replaced entries right)) Or (emitted entries names rest))
     ∙ ap (λ nodes. nodes ++ emitted entries names rest) (sym (nodes-disjunction (replaced entries left) (replaced entries right) one other))))))
 
 -- a label's nodes and names alone are emitted as what it means
@@ -94,7 +92,7 @@ emitted-label entries tree is =
     ∙ (emitted-postfix entries tree [] [] is ∙ append-nil (nodes_of (replaced entries tree))))
 
 -- where a label means something, each of its aliases stands for something
-stand-postfix : (entries : List Entry) (tree : RawLabelTree) (names : List ℕ) (rest : List RawNode) → IsSome (replaced entries tree)
+stand-postfix : (entries : List Entry) (tree : RawLabelTree) (names : List ℕ) (rest : List LabelNode) → IsSome (replaced entries tree)
     → AllStand entries names rest → AllStand entries (alias_names tree ++ names) (raw_postfix tree ++ rest)
 stand-postfix entries (constant value) names rest is all = all
 stand-postfix entries (proposition number) names rest is all = all
@@ -126,7 +124,7 @@ stand-label entries tree is =
     (subst (AllStand entries (alias_names tree ++ [])) (append-nil (raw_postfix tree)) (stand-postfix entries tree [] [] is tt))
 
 -- the next node at a place is emitted first
-pub emitted-at : (entries : List Entry) (names : List ℕ) (nodes : List RawNode) (place : ℕ) (node d : RawNode) → place < length nodes → get_or nodes place d ≡ node
+pub emitted-at : (entries : List Entry) (names : List ℕ) (nodes : List LabelNode) (place : ℕ) (node d : LabelNode) → place < length nodes → get_or nodes place d ≡ node
     → emitted entries names (drop place nodes) ≡ emitted entries names (node ∷ drop (place + 1) nodes)
 emitted-at entries names nodes place node d within here =
     let next : suc place ≡ place + 1 = omega arith in
@@ -134,7 +132,7 @@ emitted-at entries names nodes place node d within here =
     ∙ (ap (λ first. emitted entries names (first ∷ drop (suc place) nodes)) here ∙ ap (λ n. emitted entries names (node ∷ drop n nodes)) next)
 
 -- and stands for something first
-pub stand-at : (entries : List Entry) (names : List ℕ) (nodes : List RawNode) (place : ℕ) (node d : RawNode) → place < length nodes → get_or nodes place d ≡ node
+pub stand-at : (entries : List Entry) (names : List ℕ) (nodes : List LabelNode) (place : ℕ) (node d : LabelNode) → place < length nodes → get_or nodes place d ≡ node
     → AllStand entries names (drop place nodes) → AllStand entries names (node ∷ drop (place + 1) nodes)
 stand-at entries names nodes place node d within here all =
     let next : suc place ≡ place + 1 = omega arith in
@@ -143,7 +141,7 @@ stand-at entries names nodes place node d within here all =
     (subst (AllStand entries names) (drop-cons nodes place d within) all))
 
 -- a node that is put out is one of those to come
-pub emitted-push : (entries : List Entry) (names more : List ℕ) (nodes : List RawNode) (place : ℕ) (node d : RawNode) (plainly : LabelNode) (before out whole : List LabelNode)
+pub emitted-push : (entries : List Entry) (names more : List ℕ) (nodes : List LabelNode) (place : ℕ) (node d : LabelNode) (plainly : LabelNode) (before out whole : List LabelNode)
     → place < length nodes → get_or nodes place d ≡ node
     → emitted entries names (node ∷ drop (place + 1) nodes) ≡ plainly ∷ emitted entries names (drop (place + 1) nodes)
     → before ++ emitted entries names (drop place nodes) ≡ whole → out ≡ before ++ plainly ∷ [] → more ≡ names
@@ -155,7 +153,7 @@ emitted-push entries names more nodes place node d plainly before out whole with
     ∙ (ap (λ back. before ++ back) (sym (emitted-at entries names nodes place node d within here ∙ first)) ∙ so_far)))
 
 -- and so are the nodes of an alias
-pub emitted-alias : (entries : List Entry) (names more : List ℕ) (nodes : List RawNode) (place count : ℕ) (d : RawNode) (meaning : Option Meaning) (before out whole : List LabelNode)
+pub emitted-alias : (entries : List Entry) (names more : List ℕ) (nodes : List LabelNode) (place count : ℕ) (d : LabelNode) (meaning : Option Meaning) (before out whole : List LabelNode)
     → place < length nodes → get_or nodes place d ≡ Alias count → stands_for entries (take count names) ≡ meaning
     → before ++ emitted entries names (drop place nodes) ≡ whole → out ≡ before ++ nodes_of meaning → more ≡ drop count names
     → out ++ emitted entries more (drop (place + 1) nodes) ≡ whole
@@ -169,7 +167,7 @@ emitted-alias entries names more nodes place count d meaning before out whole wi
     ∙ so_far)))
 
 -- parentheses put nothing out
-pub emitted-group : (entries : List Entry) (names more : List ℕ) (nodes : List RawNode) (place : ℕ) (d : RawNode) (before out whole : List LabelNode)
+pub emitted-group : (entries : List Entry) (names more : List ℕ) (nodes : List LabelNode) (place : ℕ) (d : LabelNode) (before out whole : List LabelNode)
     → place < length nodes → get_or nodes place d ≡ Group
     → before ++ emitted entries names (drop place nodes) ≡ whole → out ≡ before → more ≡ names
     → out ++ emitted entries more (drop (place + 1) nodes) ≡ whole
@@ -179,5 +177,5 @@ emitted-group entries names more nodes place d before out whole within here so_f
     ∙ (ap (λ back. before ++ back) (sym (emitted-at entries names nodes place Group d within here)) ∙ so_far))
 
 -- the aliases behind stand for something too
-pub stand-moved : (entries : List Entry) (names more : List ℕ) (nodes : List RawNode) → AllStand entries names nodes → more ≡ names → AllStand entries more nodes
+pub stand-moved : (entries : List Entry) (names more : List ℕ) (nodes : List LabelNode) → AllStand entries names nodes → more ≡ names → AllStand entries more nodes
 stand-moved entries names more nodes all same = subst (λ ns. AllStand entries ns nodes) (sym same) all

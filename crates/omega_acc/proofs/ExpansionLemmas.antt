@@ -13,7 +13,7 @@ use Rattle.omega_acc.specs.declared.label.LabelNode.{LabelNode}
 some-none : {fault : AutomatonFault} → Some fault ≡ None → ⊥
 some-none e = cc
 
-deep-none : (b : Bool) (rest : Option AutomatonFault) → cond b (Some TooDeep) rest ≡ None → b ≡ false
+pub deep-none : (b : Bool) (rest : Option AutomatonFault) → cond b (Some TooDeep) rest ≡ None → b ≡ false
 deep-none true rest e = absurd (some-none e)
 deep-none false rest e = refl
 

@@ -9,8 +9,8 @@ use Rattle.omega_acc.specs.layout.Extents.{atom_extent, both_extents, deeper_ext
 use Rattle.omega_acc.specs.layout.Joins.{regrouped}
 use Rattle.omega_acc.specs.layout.RawLabel.{alias_names, raw_postfix}
 use Rattle.omega_acc.specs.declared.extents.Extent.{Extent}
-use Rattle.omega_acc.specs.declared.raw_label.RawNode.{RawNode}
-use Rattle.omega_acc.specs.declared.raw_label.RawNode.TheVariants.{And, Group, Not, Or}
+use Rattle.omega_acc.specs.declared.label.LabelNode.{LabelNode}
+use Rattle.omega_acc.specs.declared.label.LabelNode.TheVariants.{And, Group, Not, Or}
 
 -- the extent of a label, where names have these extents
 abbrev measured : (List ℕ → Option Extent) → RawLabelTree → Option Extent
@@ -23,7 +23,7 @@ measured named (disjunction left right) = both_extents (measured named left) (me
 measured named (group part) = option_map deeper_extent (measured named part)
 
 -- a label's nodes leave its extent
-extents_behind-postfix : (named : List ℕ → Option Extent) (tree : RawLabelTree) (stack : List (Option Extent)) (names : List ℕ) (rest : List RawNode)
+extents_behind-postfix : (named : List ℕ → Option Extent) (tree : RawLabelTree) (stack : List (Option Extent)) (names : List ℕ) (rest : List LabelNode)
     → extents_behind named stack (alias_names tree ++ names) (raw_postfix tree ++ rest) ≡ extents_behind named (measured named tree ∷ stack) names rest
 extents_behind-postfix named (constant value) stack names rest = refl
 extents_behind-postfix named (proposition number) stack names rest = refl

@@ -3,21 +3,21 @@ use Rattle.std.proofs.Common.{◌≡◌, ℕ, List, [], ◌∷◌, ◌++◌, ap,
 use Rattle.omega_acc.specs.RawLabel.{RawLabelTree, conjunction, disjunction, group, negation, raw_depth}
 use Rattle.omega_acc.specs.Depth.{counted}
 use Rattle.omega_acc.specs.layout.RawLabel.{IsRawLabel, alias_names, raw_postfix, raw_tree_of, raw_tree_of-postfix}
-use Rattle.omega_acc.specs.declared.raw_label.RawNode.{RawNode}
-use Rattle.omega_acc.specs.declared.raw_label.RawNode.TheVariants.{And, Group, Not, Or}
+use Rattle.omega_acc.specs.declared.label.LabelNode.{LabelNode}
+use Rattle.omega_acc.specs.declared.label.LabelNode.TheVariants.{And, Group, Not, Or}
 
 -- nodes and names are those of a tree
-pub record AreOf (tree : RawLabelTree) (nodes : List RawNode) (names : List ℕ) : Type 0 where
+pub record AreOf (tree : RawLabelTree) (nodes : List LabelNode) (names : List ℕ) : Type 0 where
   pub flat : nodes ≡ raw_postfix tree
   pub named : names ≡ alias_names tree
 
 -- a tree's nodes and names give that tree
-pub raw_tree-is : (tree : RawLabelTree) (nodes : List RawNode) (names : List ℕ) → AreOf tree nodes names → raw_tree_of nodes names ≡ tree
+pub raw_tree-is : (tree : RawLabelTree) (nodes : List LabelNode) (names : List ℕ) → AreOf tree nodes names → raw_tree_of nodes names ≡ tree
 raw_tree-is tree nodes names are =
     ap (λ more. raw_tree_of more names) are.flat ∙ (ap (λ more. raw_tree_of (raw_postfix tree) more) are.named ∙ raw_tree_of-postfix tree)
 
 -- a tree's nodes, names and depth are a label
-pub IsRawLabel-of : (tree : RawLabelTree) (nodes : List RawNode) (names : List ℕ) (deep : ℕ)
+pub IsRawLabel-of : (tree : RawLabelTree) (nodes : List LabelNode) (names : List ℕ) (deep : ℕ)
     → AreOf tree nodes names → deep ≡ counted (raw_depth tree) → IsRawLabel nodes names deep
 IsRawLabel-of tree nodes names deep are depth_is =
     let is : raw_tree_of nodes names ≡ tree = raw_tree-is tree nodes names are in
@@ -28,22 +28,22 @@ IsRawLabel-of tree nodes names deep are depth_is =
     }
 
 -- a label's nodes and names are those of the tree that is seen
-pub AreOf-seen : (tree : RawLabelTree) (nodes : List RawNode) (names : List ℕ) (deep : ℕ)
+pub AreOf-seen : (tree : RawLabelTree) (nodes : List LabelNode) (names : List ℕ) (deep : ℕ)
     → IsRawLabel nodes names deep → raw_tree_of nodes names ≡ tree → AreOf tree nodes names
 AreOf-seen tree nodes names deep is seen = record { flat = sym is.flat ∙ ap raw_postfix seen; named = sym is.named ∙ ap alias_names seen }
 
 -- the nodes of a label and `!`
-pub AreOf-negation : (part : RawLabelTree) (one all : List RawNode) (names : List ℕ)
+pub AreOf-negation : (part : RawLabelTree) (one all : List LabelNode) (names : List ℕ)
     → AreOf part one names → all ≡ one ++ Not ∷ [] → AreOf (negation part) all names
 AreOf-negation part one all names are ended = record { flat = ended ∙ ap (λ nodes. nodes ++ Not ∷ []) are.flat; named = are.named }
 
 -- the nodes of a label in parentheses
-pub AreOf-group : (part : RawLabelTree) (one all : List RawNode) (names : List ℕ)
+pub AreOf-group : (part : RawLabelTree) (one all : List LabelNode) (names : List ℕ)
     → AreOf part one names → all ≡ one ++ Group ∷ [] → AreOf (group part) all names
 AreOf-group part one all names are ended = record { flat = ended ∙ ap (λ nodes. nodes ++ Group ∷ []) are.flat; named = are.named }
 
 -- the nodes and names of two labels and `&`
-pub AreOf-conjunction : (left right : RawLabelTree) (one other both all : List RawNode) (these those names : List ℕ)
+pub AreOf-conjunction : (left right : RawLabelTree) (one other both all : List LabelNode) (these those names : List ℕ)
     → AreOf left one these → AreOf right other those → both ≡ one ++ other → all ≡ both ++ And ∷ [] → names ≡ these ++ those
     → AreOf (conjunction left right) all names
 AreOf-conjunction left right one other both all these those names is_left is_right joined ended named =
@@ -55,7 +55,7 @@ AreOf-conjunction left right one other both all these those names is_left is_rig
     record { flat = cc; named = cc }
 
 -- the nodes and names of two labels and `|`
-pub AreOf-disjunction : (left right : RawLabelTree) (one other both all : List RawNode) (these those names : List ℕ)
+pub AreOf-disjunction : (left right : RawLabelTree) (one other both all : List LabelNode) (these those names : List ℕ)
     → AreOf left one these → AreOf right other those → both ≡ one ++ other → all ≡ both ++ Or ∷ [] → names ≡ these ++ those
     → AreOf (disjunction left right) all names
 AreOf-disjunction left right one other both all these those names is_left is_right joined ended named =

@@ -6,8 +6,8 @@ use Rattle.omega_acc.specs.Reading.{IsOf, Reads, ReadsNone, spelled}
 use Rattle.omega_acc.specs.Symbols.{EndsThere, IsNoOperator, Rank, Symbol, conjunctive, disjunctive, name, number, seen_as, sign, symbol_of, truth_kind, unary}
 use Rattle.omega_acc.specs.declared.pending.Pending.{Pending}
 use Rattle.omega_acc.specs.declared.pending.Pending.TheVariants.{And, Not, Open, Or}
-use Rattle.omega_acc.specs.declared.raw_label.RawNode.{RawNode}
-use Rattle.omega_acc.specs.declared.raw_label.RawNode.TheVariants as node
+use Rattle.omega_acc.specs.declared.label.LabelNode.{LabelNode}
+use Rattle.omega_acc.specs.declared.label.LabelNode.TheVariants as node
 use Rattle.omega_acc.specs.layout.Building.{Before, Fits, Has, IsOpen, Wants, anded, before_names, before_nodes, before_pending, before_symbols, capped, denied, opened, ored, start}
 use Rattle.omega_acc.specs.layout.Passing.{NextIsNot, Passed, PassesOne}
 use Rattle.omega_acc.specs.layout.RawLabel.{alias_names, raw_postfix}
@@ -29,7 +29,7 @@ wants_first whole = record {
 }
 
 -- `(` is passed
-pub wants_opened : (whole old left : List (Lexeme HoaKind)) (lexeme : Lexeme HoaKind) (nodes : List RawNode) (names : List ℕ) (pending : List Pending)
+pub wants_opened : (whole old left : List (Lexeme HoaKind)) (lexeme : Lexeme HoaKind) (nodes : List LabelNode) (names : List ℕ) (pending : List Pending)
     → Wants whole old nodes names pending → old ≡ lexeme ∷ left → symbol_of lexeme ≡ sign kind.OpenParenthesis
     → Wants whole left nodes names (Open ∷ pending)
 wants_opened whole old left lexeme nodes names pending wants next is = record {
@@ -42,7 +42,7 @@ wants_opened whole old left lexeme nodes names pending wants next is = record {
 }
 
 -- `!` is passed
-pub wants_denied : (whole old left : List (Lexeme HoaKind)) (lexeme : Lexeme HoaKind) (nodes : List RawNode) (names : List ℕ) (pending : List Pending)
+pub wants_denied : (whole old left : List (Lexeme HoaKind)) (lexeme : Lexeme HoaKind) (nodes : List LabelNode) (names : List ℕ) (pending : List Pending)
     → Wants whole old nodes names pending → old ≡ lexeme ∷ left → symbol_of lexeme ≡ sign kind.Not
     → Wants whole left nodes names (Not ∷ pending)
 wants_denied whole old left lexeme nodes names pending wants next is = record {
@@ -84,8 +84,8 @@ fits_unary (anded before left) = tt
 fits_unary (ored before left) = tt
 
 -- an atom is passed
-pub has_atom : (whole old left : List (Lexeme HoaKind)) (lexeme : Lexeme HoaKind) (nodes : List RawNode) (names : List ℕ) (pending : List Pending)
-    (tree : RawLabelTree) (all_nodes : List RawNode) (all_names : List ℕ) (all_pending : List Pending)
+pub has_atom : (whole old left : List (Lexeme HoaKind)) (lexeme : Lexeme HoaKind) (nodes : List LabelNode) (names : List ℕ) (pending : List Pending)
+    (tree : RawLabelTree) (all_nodes : List LabelNode) (all_names : List ℕ) (all_pending : List Pending)
     → old ≡ lexeme ∷ left → IsAtom tree (symbol_of lexeme)
     → all_nodes ≡ nodes ++ raw_postfix tree → all_names ≡ names ++ alias_names tree → all_pending ≡ pending
     → Wants whole old nodes names pending → Has unary whole left 1 all_nodes all_names all_pending
@@ -103,7 +103,7 @@ has_atom whole old left lexeme nodes names pending tree all_nodes all_names all_
 }
 
 -- `!` and a part
-negated_before : (before : Before) (whole left : List (Lexeme HoaKind)) (depth deeper : ℕ) (nodes : List RawNode) (names : List ℕ) (rest : List Pending) (part : RawLabelTree)
+negated_before : (before : Before) (whole left : List (Lexeme HoaKind)) (depth deeper : ℕ) (nodes : List LabelNode) (names : List ℕ) (rest : List Pending) (part : RawLabelTree)
     → IsOf unary part → IsOpen before → depth ≡ capped part → deeper ≡ min (depth + 1) 257 → nodes ≡ before_nodes before ++ raw_postfix part
     → names ≡ before_names before ++ alias_names part → Not ∷ rest ≡ before_pending before → Passed whole (before_symbols before ++ spelled part) left
     → Has unary whole left deeper (nodes ++ node.Not ∷ []) names rest
@@ -124,7 +124,7 @@ negated_before (denied before) whole left depth deeper nodes names rest part is 
   passed = passed_same whole left _ _ passed (sym (append_assoc (before_symbols before) (sign kind.Not ∷ []) (spelled part)));
 }
 
-pub has_negated : (whole left : List (Lexeme HoaKind)) (depth deeper : ℕ) (nodes all : List RawNode) (names : List ℕ) (pending rest : List Pending)
+pub has_negated : (whole left : List (Lexeme HoaKind)) (depth deeper : ℕ) (nodes all : List LabelNode) (names : List ℕ) (pending rest : List Pending)
     → pending ≡ Not ∷ rest → all ≡ nodes ++ node.Not ∷ [] → deeper ≡ min (depth + 1) 257
     → Has unary whole left depth nodes names pending → Has unary whole left deeper all names rest
 has_negated whole left depth deeper nodes all names pending rest waits ended more has =
@@ -132,7 +132,7 @@ has_negated whole left depth deeper nodes all names pending rest waits ended mor
     (negated_before has.before whole left depth deeper nodes names rest has.part has.is has.sound has.deep more has.flat has.named (sym waits ∙ has.pends) has.passed)
 
 -- a part behind `&`
-conjoined_before : (before : Before) (whole left : List (Lexeme HoaKind)) (depth other deeper : ℕ) (nodes : List RawNode) (names : List ℕ) (rest : List Pending) (part : RawLabelTree)
+conjoined_before : (before : Before) (whole left : List (Lexeme HoaKind)) (depth other deeper : ℕ) (nodes : List LabelNode) (names : List ℕ) (rest : List Pending) (part : RawLabelTree)
     → IsOf unary part → IsOpen before → depth ≡ capped part → deeper ≡ min (max depth other + 1) 257 → nodes ≡ before_nodes before ++ raw_postfix part
     → names ≡ before_names before ++ alias_names part → And other ∷ rest ≡ before_pending before → Passed whole (before_symbols before ++ spelled part) left
     → Has conjunctive whole left deeper (nodes ++ node.And ∷ []) names rest
@@ -155,7 +155,7 @@ conjoined_before (anded before first) whole left depth other deeper nodes names 
       passed = passed_same whole left _ _ passed (joined_lists (before_symbols before) (spelled first) (spelled part) (sign kind.And));
     }
 
-pub has_conjoined : (whole left : List (Lexeme HoaKind)) (depth other deeper : ℕ) (nodes all : List RawNode) (names : List ℕ) (pending rest : List Pending)
+pub has_conjoined : (whole left : List (Lexeme HoaKind)) (depth other deeper : ℕ) (nodes all : List LabelNode) (names : List ℕ) (pending rest : List Pending)
     → pending ≡ And other ∷ rest → all ≡ nodes ++ node.And ∷ [] → deeper ≡ min (max depth other + 1) 257
     → Has unary whole left depth nodes names pending → Has conjunctive whole left deeper all names rest
 has_conjoined whole left depth other deeper nodes all names pending rest waits ended more has =
@@ -163,7 +163,7 @@ has_conjoined whole left depth other deeper nodes all names pending rest waits e
     (conjoined_before has.before whole left depth other deeper nodes names rest has.part has.is has.sound has.deep more has.flat has.named (sym waits ∙ has.pends) has.passed)
 
 -- a part behind `|`
-disjoined_before : (before : Before) (whole left : List (Lexeme HoaKind)) (depth other deeper : ℕ) (nodes : List RawNode) (names : List ℕ) (rest : List Pending) (part : RawLabelTree)
+disjoined_before : (before : Before) (whole left : List (Lexeme HoaKind)) (depth other deeper : ℕ) (nodes : List LabelNode) (names : List ℕ) (rest : List Pending) (part : RawLabelTree)
     → IsOf conjunctive part → IsOpen before → depth ≡ capped part → deeper ≡ min (max depth other + 1) 257 → nodes ≡ before_nodes before ++ raw_postfix part
     → names ≡ before_names before ++ alias_names part → Or other ∷ rest ≡ before_pending before → Passed whole (before_symbols before ++ spelled part) left
     → Has disjunctive whole left deeper (nodes ++ node.Or ∷ []) names rest
@@ -186,7 +186,7 @@ disjoined_before (ored before first) whole left depth other deeper nodes names r
       passed = passed_same whole left _ _ passed (joined_lists (before_symbols before) (spelled first) (spelled part) (sign kind.Or));
     }
 
-pub has_disjoined : (whole left : List (Lexeme HoaKind)) (depth other deeper : ℕ) (nodes all : List RawNode) (names : List ℕ) (pending rest : List Pending)
+pub has_disjoined : (whole left : List (Lexeme HoaKind)) (depth other deeper : ℕ) (nodes all : List LabelNode) (names : List ℕ) (pending rest : List Pending)
     → pending ≡ Or other ∷ rest → all ≡ nodes ++ node.Or ∷ [] → deeper ≡ min (max depth other + 1) 257
     → Has conjunctive whole left depth nodes names pending → Has disjunctive whole left deeper all names rest
 has_disjoined whole left depth other deeper nodes all names pending rest waits ended more has =
@@ -227,7 +227,7 @@ fits_free (anded before left) free = free
 fits_free (ored before left) free = free
 
 -- a unary part that no `!` or `&` waits for
-pub has_loose : (whole left : List (Lexeme HoaKind)) (depth : ℕ) (nodes : List RawNode) (names : List ℕ) (pending : List Pending)
+pub has_loose : (whole left : List (Lexeme HoaKind)) (depth : ℕ) (nodes : List LabelNode) (names : List ℕ) (pending : List Pending)
     → Has unary whole left depth nodes names pending → IsLoose pending → Has conjunctive whole left depth nodes names pending
 has_loose whole left depth nodes names pending has loose = record {
   before = has.before;
@@ -243,7 +243,7 @@ has_loose whole left depth nodes names pending has loose = record {
 }
 
 -- a part that no operator waits for
-pub has_free : (whole left : List (Lexeme HoaKind)) (depth : ℕ) (nodes : List RawNode) (names : List ℕ) (pending : List Pending)
+pub has_free : (whole left : List (Lexeme HoaKind)) (depth : ℕ) (nodes : List LabelNode) (names : List ℕ) (pending : List Pending)
     → Has conjunctive whole left depth nodes names pending → IsFree pending → Has disjunctive whole left depth nodes names pending
 has_free whole left depth nodes names pending has free = record {
   before = has.before;
@@ -266,7 +266,7 @@ loose_of (denied before) fits = fits
 loose_of (anded before left) fits = fits
 loose_of (ored before left) fits = tt
 
-pub has_is_loose : (whole left : List (Lexeme HoaKind)) (depth : ℕ) (nodes : List RawNode) (names : List ℕ) (pending : List Pending)
+pub has_is_loose : (whole left : List (Lexeme HoaKind)) (depth : ℕ) (nodes : List LabelNode) (names : List ℕ) (pending : List Pending)
     → Has conjunctive whole left depth nodes names pending → IsLoose pending
 has_is_loose whole left depth nodes names pending has = subst IsLoose (sym has.pends) (loose_of has.before has.fits)
 
@@ -278,12 +278,12 @@ free_of (denied before) fits = fits
 free_of (anded before left) fits = fits
 free_of (ored before left) fits = fits
 
-pub has_is_free : (whole left : List (Lexeme HoaKind)) (depth : ℕ) (nodes : List RawNode) (names : List ℕ) (pending : List Pending)
+pub has_is_free : (whole left : List (Lexeme HoaKind)) (depth : ℕ) (nodes : List LabelNode) (names : List ℕ) (pending : List Pending)
     → Has disjunctive whole left depth nodes names pending → IsFree pending
 has_is_free whole left depth nodes names pending has = subst IsFree (sym has.pends) (free_of has.before has.fits)
 
 -- `&` is passed behind a part
-pub wants_conjunct : (whole old left : List (Lexeme HoaKind)) (lexeme : Lexeme HoaKind) (depth : ℕ) (nodes : List RawNode) (names : List ℕ) (pending : List Pending)
+pub wants_conjunct : (whole old left : List (Lexeme HoaKind)) (lexeme : Lexeme HoaKind) (depth : ℕ) (nodes : List LabelNode) (names : List ℕ) (pending : List Pending)
     → Has conjunctive whole old depth nodes names pending → old ≡ lexeme ∷ left → symbol_of lexeme ≡ sign kind.And
     → Wants whole left nodes names (And depth ∷ pending)
 wants_conjunct whole old left lexeme depth nodes names pending has next is = record {
@@ -296,7 +296,7 @@ wants_conjunct whole old left lexeme depth nodes names pending has next is = rec
 }
 
 -- `|` is passed behind a part
-pub wants_disjunct : (whole old left : List (Lexeme HoaKind)) (lexeme : Lexeme HoaKind) (depth : ℕ) (nodes : List RawNode) (names : List ℕ) (pending : List Pending)
+pub wants_disjunct : (whole old left : List (Lexeme HoaKind)) (lexeme : Lexeme HoaKind) (depth : ℕ) (nodes : List LabelNode) (names : List ℕ) (pending : List Pending)
     → Has disjunctive whole old depth nodes names pending → old ≡ lexeme ∷ left → symbol_of lexeme ≡ sign kind.Or
     → Wants whole left nodes names (Or depth ∷ pending)
 wants_disjunct whole old left lexeme depth nodes names pending has next is = record {
@@ -308,7 +308,7 @@ wants_disjunct whole old left lexeme depth nodes names pending has next is = rec
   passed = passed_next whole old left lexeme _ _ _ has.passed next is (sym (append_assoc (before_symbols has.before) (spelled has.part) (sign kind.Or ∷ [])));
 }
 
-grouped_before : (before : Before) (whole old left : List (Lexeme HoaKind)) (lexeme : Lexeme HoaKind) (depth deeper : ℕ) (nodes : List RawNode) (names : List ℕ) (rest : List Pending) (part : RawLabelTree)
+grouped_before : (before : Before) (whole old left : List (Lexeme HoaKind)) (lexeme : Lexeme HoaKind) (depth deeper : ℕ) (nodes : List LabelNode) (names : List ℕ) (rest : List Pending) (part : RawLabelTree)
     → IsOf disjunctive part → IsOpen before → depth ≡ capped part → deeper ≡ min (depth + 1) 257 → nodes ≡ before_nodes before ++ raw_postfix part
     → names ≡ before_names before ++ alias_names part → Open ∷ rest ≡ before_pending before → Passed whole (before_symbols before ++ spelled part) old
     → old ≡ lexeme ∷ left → symbol_of lexeme ≡ sign kind.CloseParenthesis
@@ -330,7 +330,7 @@ grouped_before (opened before) whole old left lexeme depth deeper nodes names re
   passed = passed_next whole old left lexeme _ _ _ passed next closes (enclosed_list (before_symbols before) (spelled part) (sign kind.OpenParenthesis) (sign kind.CloseParenthesis));
 }
 
-pub has_grouped : (whole old left : List (Lexeme HoaKind)) (lexeme : Lexeme HoaKind) (depth deeper : ℕ) (nodes all : List RawNode) (names : List ℕ) (pending rest : List Pending)
+pub has_grouped : (whole old left : List (Lexeme HoaKind)) (lexeme : Lexeme HoaKind) (depth deeper : ℕ) (nodes all : List LabelNode) (names : List ℕ) (pending rest : List Pending)
     → pending ≡ Open ∷ rest → all ≡ nodes ++ node.Group ∷ [] → deeper ≡ min (depth + 1) 257
     → old ≡ lexeme ∷ left → symbol_of lexeme ≡ sign kind.CloseParenthesis
     → Has disjunctive whole old depth nodes names pending → Has unary whole left deeper all names rest
@@ -339,14 +339,14 @@ has_grouped whole old left lexeme depth deeper nodes all names pending rest wait
     (grouped_before has.before whole old left lexeme depth deeper nodes names rest has.part has.is has.sound has.deep more has.flat has.named (sym waits ∙ has.pends) has.passed next closes)
 
 -- with nothing left open the whole is read
-pub record IsRead (whole left : List (Lexeme HoaKind)) (depth : ℕ) (nodes : List RawNode) (names : List ℕ) : Type 0 where
+pub record IsRead (whole left : List (Lexeme HoaKind)) (depth : ℕ) (nodes : List LabelNode) (names : List ℕ) : Type 0 where
   pub tree : RawLabelTree
   pub reads : Reads whole tree left
   pub flat : nodes ≡ raw_postfix tree
   pub named : names ≡ alias_names tree
   pub deep : depth ≡ capped tree
 
-read_before : (before : Before) (whole left : List (Lexeme HoaKind)) (depth : ℕ) (nodes : List RawNode) (names : List ℕ) (part : RawLabelTree)
+read_before : (before : Before) (whole left : List (Lexeme HoaKind)) (depth : ℕ) (nodes : List LabelNode) (names : List ℕ) (part : RawLabelTree)
     → IsOf disjunctive part → depth ≡ capped part → nodes ≡ before_nodes before ++ raw_postfix part
     → names ≡ before_names before ++ alias_names part → [] ≡ before_pending before → Passed whole (before_symbols before ++ spelled part) left → EndsThere left
     → IsRead whole left depth nodes names
@@ -362,7 +362,7 @@ read_before start whole left depth nodes names part is deep flat named pends pas
   deep = deep;
 }
 
-pub has_read : (whole left : List (Lexeme HoaKind)) (depth : ℕ) (nodes : List RawNode) (names : List ℕ)
+pub has_read : (whole left : List (Lexeme HoaKind)) (depth : ℕ) (nodes : List LabelNode) (names : List ℕ)
     → Has disjunctive whole left depth nodes names [] → EndsThere left → IsRead whole left depth nodes names
 has_read whole left depth nodes names has ends =
     read_before has.before whole left depth nodes names has.part has.is has.deep has.flat has.named has.pends has.passed ends
@@ -523,7 +523,7 @@ not-through-had (lexeme ∷ rest) count none through =
     subst IsThrough (ap (λ state. run state (map symbol_of rest)) (stuck-kind lexeme.kind count lexeme.value lexeme.text none) ∙ run-failed (map symbol_of rest)) through
 
 -- where a part is wanted and none begins, nothing is read
-pub none_wanted : (whole left : List (Lexeme HoaKind)) (nodes : List RawNode) (names : List ℕ) (pending : List Pending)
+pub none_wanted : (whole left : List (Lexeme HoaKind)) (nodes : List LabelNode) (names : List ℕ) (pending : List Pending)
     → Wants whole left nodes names pending → BeginNone left → ReadsNone whole
 none_wanted whole left nodes names pending wants none tree rest reads =
     not-through-wanted left (opens wants.before) none
@@ -545,7 +545,7 @@ unclosed_before (opened before) whole left rest part pends passed none tree behi
     (through-reads whole tree behind reads))
 
 -- where a parenthesis is open and neither an operator nor `)` follows, nothing is read
-pub none_closed : (whole left : List (Lexeme HoaKind)) (depth : ℕ) (nodes : List RawNode) (names : List ℕ) (rest : List Pending)
+pub none_closed : (whole left : List (Lexeme HoaKind)) (depth : ℕ) (nodes : List LabelNode) (names : List ℕ) (rest : List Pending)
     → Has disjunctive whole left depth nodes names (Open ∷ rest) → GoOnNone left → ReadsNone whole
 none_closed whole left depth nodes names rest has none =
     unclosed_before has.before whole left rest has.part has.pends has.passed none
@@ -561,21 +561,21 @@ begins_others kind.OpenParenthesis a b c d e f = f refl
 begins_others other a b c d e f = tt
 
 -- `&` is passed and waits
-pub after_and : (whole old left : List (Lexeme HoaKind)) (depth : ℕ) (nodes : List RawNode) (names : List ℕ) (pending more : List Pending)
+pub after_and : (whole old left : List (Lexeme HoaKind)) (depth : ℕ) (nodes : List LabelNode) (names : List ℕ) (pending more : List Pending)
     → PassesOne kind.And old left → more ≡ And depth ∷ pending → Has conjunctive whole old depth nodes names pending → Wants whole left nodes names more
 after_and whole old left depth nodes names pending more one pushed has =
     subst (Wants whole left nodes names) (sym pushed)
     (wants_conjunct whole old left one.lexeme depth nodes names pending has one.next (ap (λ k. seen_as k one.lexeme.value one.lexeme.text) one.is))
 
 -- `|` is passed and waits
-pub after_or : (whole old same left : List (Lexeme HoaKind)) (depth : ℕ) (nodes : List RawNode) (names : List ℕ) (pending more : List Pending)
+pub after_or : (whole old same left : List (Lexeme HoaKind)) (depth : ℕ) (nodes : List LabelNode) (names : List ℕ) (pending more : List Pending)
     → same ≡ old → PassesOne kind.Or same left → more ≡ Or depth ∷ pending → Has disjunctive whole old depth nodes names pending → Wants whole left nodes names more
 after_or whole old same left depth nodes names pending more stays one pushed has =
     subst (Wants whole left nodes names) (sym pushed)
     (wants_disjunct whole old left one.lexeme depth nodes names pending has (sym stays ∙ one.next) (ap (λ k. seen_as k one.lexeme.value one.lexeme.text) one.is))
 
 -- nothing waits, and no operator follows
-pub whole_read : (whole old same left : List (Lexeme HoaKind)) (depth : ℕ) (nodes : List RawNode) (names : List ℕ) (pending : List Pending)
+pub whole_read : (whole old same left : List (Lexeme HoaKind)) (depth : ℕ) (nodes : List LabelNode) (names : List ℕ) (pending : List Pending)
     → same ≡ old → NextIsNot kind.And old → left ≡ same → NextIsNot kind.Or same → pending ≡ []
     → Has disjunctive whole old depth nodes names pending → IsRead whole left depth nodes names
 whole_read whole old same left depth nodes names pending stays not_and rests not_or none has =
@@ -585,7 +585,7 @@ whole_read whole old same left depth nodes names pending stays not_and rests not
     (subst EndsThere (sym at_left) (end_others old not_and (subst (NextIsNot kind.Or) stays not_or)))
 
 -- a parenthesis waits, and nothing that goes on follows
-pub unclosed_none : (whole old same left : List (Lexeme HoaKind)) (depth : ℕ) (nodes : List RawNode) (names : List ℕ) (pending : List Pending) (first : Pending) (rest : List Pending)
+pub unclosed_none : (whole old same left : List (Lexeme HoaKind)) (depth : ℕ) (nodes : List LabelNode) (names : List ℕ) (pending : List Pending) (first : Pending) (rest : List Pending)
     → same ≡ old → NextIsNot kind.And old → left ≡ same → NextIsNot kind.Or same → NextIsNot kind.CloseParenthesis left → pending ≡ first ∷ rest
     → Has disjunctive whole old depth nodes names pending → ReadsNone whole
 unclosed_none whole old same left depth nodes names pending first rest stays not_and rests not_or not_close waits has =
@@ -595,7 +595,7 @@ unclosed_none whole old same left depth nodes names pending first rest stays not
     (go_on_others old not_and (subst (NextIsNot kind.Or) stays not_or) (subst (NextIsNot kind.CloseParenthesis) (rests ∙ stays) not_close))
 
 -- a parenthesis waits, and `)` is passed
-pub after_close : (whole old same still left : List (Lexeme HoaKind)) (depth deeper : ℕ) (nodes all : List RawNode) (names : List ℕ) (pending : List Pending) (first : Pending) (rest : List Pending)
+pub after_close : (whole old same still left : List (Lexeme HoaKind)) (depth deeper : ℕ) (nodes all : List LabelNode) (names : List ℕ) (pending : List Pending) (first : Pending) (rest : List Pending)
     → same ≡ old → still ≡ same → PassesOne kind.CloseParenthesis still left → pending ≡ first ∷ rest → all ≡ nodes ++ node.Group ∷ [] → deeper ≡ min (depth + 1) 257
     → Has disjunctive whole old depth nodes names pending → Has unary whole left deeper all names rest
 after_close whole old same still left depth deeper nodes all names pending first rest stays rests one waits joined more has =

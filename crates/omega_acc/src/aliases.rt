@@ -6,7 +6,8 @@ ghost use Rattle.omega_acc.specs.Expanding.{IsAdded, IsBodyAt, IsRepeated, entri
 ghost use Rattle.omega_acc.specs.layout.Extents.{extent_named, extent_of};
 
 use crate::extents::{Extent, Extents, atom, bare, both, in_parentheses, negated};
-use crate::raw_label::{RawLabel, RawNode};
+use crate::label::LabelNode;
+use crate::raw_label::RawLabel;
 use indexmap::IndexSet;
 use omega_text::{AutomatonFault, Refusal, Seq};
 use std::alloc::Global;
@@ -99,10 +100,10 @@ impl Aliases {
         ensures ok { IfOk result (λ extent. extent ≡ option_map extent_of (expansion self.now raw.now)) }
         ensures err { IfErr result IsMemory }
     {
-        if raw.has_alias() {
-            return self.measure_nodes(alloc, raw);
+        match raw.bare_size() {
+            Some(size) => Ok(Some(bare(raw.depth(), size))),
+            None => self.measure_nodes(alloc, raw),
         }
-        Ok(Some(bare(raw.depth(), raw.bare_size())))
     }
 
     /// The same, node by node.
@@ -114,15 +115,15 @@ impl Aliases {
         let mut names = raw.names();
         for node in raw.nodes() {
             let extent = match node {
-                RawNode::Constant(_) | RawNode::Proposition(_) => atom(),
-                RawNode::Alias(count) => {
+                LabelNode::Constant(_) | LabelNode::Proposition(_) => atom(),
+                LabelNode::Alias(count) => {
                     let extent = self.extent(front(names, *count as usize));
                     names = behind(names, *count as usize);
                     in_parentheses(extent)
                 }
-                RawNode::Not => negated(stack.pop()),
-                RawNode::Group => in_parentheses(stack.pop()),
-                RawNode::And | RawNode::Or => {
+                LabelNode::Not => negated(stack.pop()),
+                LabelNode::Group => in_parentheses(stack.pop()),
+                LabelNode::And | LabelNode::Or => {
                     let right = stack.pop();
                     both(stack.pop(), right)
                 }

@@ -6,19 +6,38 @@ ghost use Rattle.omega_acc.specs.layout.Emitting.{nodes_of};
 use crate::aliases::{Aliases, behind, front};
 use crate::label::{Label, LabelNode};
 use crate::limits::{MOST_DEPTH, MOST_SIZE};
-use crate::raw_label::{RawLabel, RawNode};
+use crate::raw_label::RawLabel;
 use omega_text::{AutomatonFault, Refusal};
 use std::alloc::Global;
 
 /// A label with its aliases replaced by their definitions and its parentheses gone.
 ///
 /// Refusal 27 where it reaches an undefined alias, else 32 where it is over 256 deep, an alias counting as its definition
-/// between parentheses, else 33 where it has over 65,536 tree nodes; all before anything is copied.
-pub fn expand(alloc: Global, raw: &RawLabel, aliases: &Aliases) -> Result<Label, Refusal>
-    ensures ok { IfOk result (λ label. IsExpansion aliases.now raw.now label) }
-    ensures err { IfErr result (IsUnexpanded aliases.now raw.now) }
+/// between parentheses, else 33 where it has over 65,536 tree nodes; all before anything is copied. A label without aliases
+/// keeps its memory, and nothing is copied.
+pub fn expand(alloc: Global, raw: RawLabel, aliases: &Aliases) -> Result<Label, Refusal>
+    ensures ok { IfOk result (λ label. IsExpansion aliases.now raw label) }
+    ensures err { IfErr result (IsUnexpanded aliases.now raw) }
 {
-    let size = expanded_size(alloc, raw, aliases)?;
+    let size = expanded_size(alloc, &raw, aliases)?;
+    if raw.has_alias() {
+        replace_aliases(alloc, &raw, aliases, size)
+    } else {
+        Ok(raw.without_parentheses())
+    }
+}
+
+/// The label with its aliases replaced by their definitions and its parentheses gone, which has so many tree nodes.
+fn replace_aliases(
+    alloc: Global,
+    raw: &RawLabel,
+    aliases: &Aliases,
+    size: u32,
+) -> Result<Label, Refusal>
+    requires { IsExpanded aliases.now raw.now size }
+    ensures ok { IfOk result (λ label. IsExpansion aliases.now raw.now label) }
+    ensures err { IfErr result IsMemory }
+{
     let mut nodes = Vec::with_capacity(alloc, size as usize)?;
     emit(aliases, raw, aliases.len(), &mut nodes)?;
     Ok(Label::of_nodes(nodes))
@@ -70,13 +89,13 @@ fn emit(
     };
     for node in raw.nodes() {
         match node {
-            RawNode::Constant(value) => out.push(LabelNode::Constant(*value))?,
-            RawNode::Proposition(number) => out.push(LabelNode::Proposition(*number))?,
-            RawNode::Not => out.push(LabelNode::Not)?,
-            RawNode::And => out.push(LabelNode::And)?,
-            RawNode::Or => out.push(LabelNode::Or)?,
-            RawNode::Group => {}
-            RawNode::Alias(count) => {
+            LabelNode::Constant(value) => out.push(LabelNode::Constant(*value))?,
+            LabelNode::Proposition(number) => out.push(LabelNode::Proposition(*number))?,
+            LabelNode::Not => out.push(LabelNode::Not)?,
+            LabelNode::And => out.push(LabelNode::And)?,
+            LabelNode::Or => out.push(LabelNode::Or)?,
+            LabelNode::Group => {}
+            LabelNode::Alias(count) => {
                 let place = aliases.place(front(names, *count as usize));
                 names = behind(names, *count as usize);
                 if place < before {

@@ -3,14 +3,18 @@ ghost use Rattle.std.specs.Prelude.{◌≡◌, ◌≤◌};
 use omega_text::Seq;
 use std::marker::Model;
 
-/// A node of a label. Its parts stand before it.
+/// A node of a label, expanded or as it is written. Its parts stand before it; of an alias it has the length of the name.
+///
+/// Both kinds of labels have the same nodes, so that one without aliases is expanded in the memory that it has.
 #[derive(Clone, Copy, Debug, PartialEq, Eq)]
 pub(crate) enum LabelNode {
     Constant(bool),
     Proposition(u32),
+    Alias(u32),
     Not,
     And,
     Or,
+    Group,
 }
 
 /// A label without aliases and parentheses, at most 256 deep, in one allocation.

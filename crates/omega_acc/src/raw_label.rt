@@ -1,36 +1,26 @@
-ghost use Rattle.std.specs.Prelude.{◌≡◌, ◌<◌, ◌≤◌, ◌↔◌, IsTrue, count_by, length, max, nat_lt, IfErr, IfOk};
+ghost use Rattle.std.specs.Prelude.{◌≡◌, ◌<◌, ◌≤◌, ◌↔◌, IsTrue, count_by, false, filter, length, max, nat_lt, IfErr, IfOk};
 ghost use Rattle.std.specs.List.{list_all, list_any};
+ghost use Rattle.std.specs.Option.{SomeIff};
 ghost use Rattle.omega_acc.specs.RawLabel.{alias as alias_tree, conjunction, constant as constant_tree, disjunction, group as group_tree, negation, proposition as proposition_tree, raw_depth, raw_propositions};
 ghost use Rattle.omega_acc.specs.Depth.{IsDeeper, IsMemory, counted};
 ghost use Rattle.omega_acc.specs.Limits.{most_depth};
-ghost use Rattle.omega_acc.specs.layout.Bare.{is_alias, is_bare};
+ghost use Rattle.omega_acc.specs.layout.Bare.{bare, is_alias, is_bare};
 ghost use Rattle.omega_acc.specs.layout.Propositions.{proposition_below};
 
 use crate::depth::deeper;
+use crate::label::{Label, LabelNode};
 use crate::limits::MOST_DEPTH;
 use crate::postfix::{alone, with_all, with_one};
 use omega_text::{Refusal, Seq};
 use std::alloc::Global;
 use std::marker::Model;
 
-/// A node of a label as it is written. Its parts stand before it; of an alias it has the length of the name.
-#[derive(Clone, Copy, Debug, PartialEq, Eq)]
-pub(crate) enum RawNode {
-    Constant(bool),
-    Proposition(u32),
-    Alias(u32),
-    Not,
-    And,
-    Or,
-    Group,
-}
-
 /// A label as it is written, with alias names and parentheses, of any depth, where an alias name has depth 1.
 ///
 /// Contracts see its tree. Reading, measuring, comparing and dropping it need no recursion.
 #[derive(Debug, PartialEq, Eq, Drop)]
 pub struct RawLabel {
-    nodes: Seq<RawNode>,
+    nodes: Seq<LabelNode>,
     names: Seq<u8>,
     depth: u32,
 }
@@ -64,7 +54,7 @@ impl RawLabel {
         ensures err { IfErr result IsMemory }
     {
         Ok(RawLabel {
-            nodes: alone(alloc, RawNode::Constant(value))?,
+            nodes: alone(alloc, LabelNode::Constant(value))?,
             names: Seq::new(alloc),
             depth: 1,
         })
@@ -76,7 +66,7 @@ impl RawLabel {
         ensures err { IfErr result IsMemory }
     {
         Ok(RawLabel {
-            nodes: alone(alloc, RawNode::Proposition(number))?,
+            nodes: alone(alloc, LabelNode::Proposition(number))?,
             names: Seq::new(alloc),
             depth: 1,
         })
@@ -91,7 +81,7 @@ impl RawLabel {
         let mut names = Vec::new(alloc);
         names.extend_from_slice(name)?;
         Ok(RawLabel {
-            nodes: alone(alloc, RawNode::Alias(count))?,
+            nodes: alone(alloc, LabelNode::Alias(count))?,
             names: Seq::from_vec(names),
             depth: 1,
         })
@@ -105,7 +95,7 @@ impl RawLabel {
     {
         let depth = deeper(self.depth)?;
         Ok(RawLabel {
-            nodes: with_one(self.nodes, RawNode::Not)?,
+            nodes: with_one(self.nodes, LabelNode::Not)?,
             names: self.names,
             depth,
         })
@@ -119,7 +109,7 @@ impl RawLabel {
     {
         let depth = deeper(self.depth)?;
         Ok(RawLabel {
-            nodes: with_one(self.nodes, RawNode::Group)?,
+            nodes: with_one(self.nodes, LabelNode::Group)?,
             names: self.names,
             depth,
         })
@@ -134,7 +124,7 @@ impl RawLabel {
         let depth = deeper(self.depth.max(other.depth))?;
         let nodes = with_all(self.nodes, other.nodes)?;
         Ok(RawLabel {
-            nodes: with_one(nodes, RawNode::And)?,
+            nodes: with_one(nodes, LabelNode::And)?,
             names: with_all(self.names, other.names)?,
             depth,
         })
@@ -149,7 +139,7 @@ impl RawLabel {
         let depth = deeper(self.depth.max(other.depth))?;
         let nodes = with_all(self.nodes, other.nodes)?;
         Ok(RawLabel {
-            nodes: with_one(nodes, RawNode::Or)?,
+            nodes: with_one(nodes, LabelNode::Or)?,
             names: with_all(self.names, other.names)?,
             depth,
         })
@@ -183,15 +173,24 @@ impl RawLabel {
         any_alias(self.nodes())
     }
 
-    /// How many atoms and operators it has, parentheses left out.
-    pub(crate) fn bare_size(&self) -> usize
-        ensures { result ≡ count_by is_bare (raw_postfix self.now) }
+    /// How many atoms and operators it has, parentheses left out, where no alias stands in it.
+    pub(crate) fn bare_size(&self) -> Option<usize>
+        ensures { SomeIff result (list_any is_alias (raw_postfix self.now) ≡ false) (count_by is_bare (raw_postfix self.now)) }
     {
         count_bare(self.nodes())
     }
 
+    /// The label without its parentheses, in the memory that it has.
+    pub(crate) fn without_parentheses(self) -> Label
+        requires no_alias { list_any is_alias (raw_postfix self) ≡ false }
+        requires shallow { raw_depth self ≤ most_depth }
+        ensures { result ≡ bare self }
+    {
+        Label::of_nodes(bare_nodes(self.nodes.into_vec()))
+    }
+
     /// The label of nodes in postfix order, alias names and a depth.
-    pub(crate) fn of_nodes(nodes: Vec<RawNode>, names: Vec<u8>, depth: u32) -> RawLabel
+    pub(crate) fn of_nodes(nodes: Vec<LabelNode>, names: Vec<u8>, depth: u32) -> RawLabel
         requires { IsRawLabel nodes.items names.items depth }
         ensures { result ≡ raw_tree_of nodes.items names.items }
     {
@@ -203,7 +202,7 @@ impl RawLabel {
     }
 
     /// Its nodes, parts before their operators.
-    pub(crate) fn nodes(&self) -> &[RawNode]
+    pub(crate) fn nodes(&self) -> &[LabelNode]
         ensures { result.now ≡ raw_postfix self.now }
     {
         self.nodes.as_slice()
@@ -230,52 +229,69 @@ pub(crate) fn name_length(name: &[u8]) -> Result<u32, Refusal>
 }
 
 /// Whether one of the nodes is an alias.
-fn any_alias(nodes: &[RawNode]) -> bool
+fn any_alias(nodes: &[LabelNode]) -> bool
     ensures { result ≡ list_any is_alias nodes.now }
 {
     nodes.iter().any(|node| stands_for_more(*node))
 }
 
 /// Whether a node is an alias.
-fn stands_for_more(node: RawNode) -> bool
+fn stands_for_more(node: LabelNode) -> bool
     ensures { result ≡ is_alias node }
 {
     match node {
-        RawNode::Alias(_) => true,
+        LabelNode::Alias(_) => true,
         _ => false,
     }
 }
 
-/// How many of the nodes are no parentheses.
-fn count_bare(nodes: &[RawNode]) -> usize
-    ensures { result ≡ count_by is_bare nodes.now }
+/// How many of the nodes are no parentheses, where none is an alias.
+fn count_bare(nodes: &[LabelNode]) -> Option<usize>
+    ensures { SomeIff result (list_any is_alias nodes.now ≡ false) (count_by is_bare nodes.now) }
 {
-    nodes.iter().filter(|node| stays(**node)).count()
+    let mut count = 0;
+    for node in nodes {
+        match node {
+            LabelNode::Alias(_) => return None,
+            LabelNode::Group => {}
+            _ => count += 1,
+        }
+    }
+    Some(count)
+}
+
+/// The nodes that are no parentheses, in the memory that all have.
+fn bare_nodes(nodes: Vec<LabelNode>) -> Vec<LabelNode>
+    ensures { result.items ≡ filter is_bare nodes.items }
+{
+    let mut nodes = nodes;
+    nodes.retain(|node| stays(*node));
+    nodes
 }
 
 /// Whether a node stays where parentheses are left out.
-fn stays(node: RawNode) -> bool
+fn stays(node: LabelNode) -> bool
     ensures { result ≡ is_bare node }
 {
     match node {
-        RawNode::Group => false,
+        LabelNode::Group => false,
         _ => true,
     }
 }
 
 /// Whether the propositions of nodes are all below a count.
-fn all_propositions_below(nodes: &[RawNode], count: u32) -> bool
+fn all_propositions_below(nodes: &[LabelNode], count: u32) -> bool
     ensures { result ≡ list_all (λ node. proposition_below count node) nodes.now }
 {
     nodes.iter().all(|node| is_proposition_below(*node, count))
 }
 
 /// Whether the proposition of a node is below a count, if it has one.
-fn is_proposition_below(node: RawNode, count: u32) -> bool
+fn is_proposition_below(node: LabelNode, count: u32) -> bool
     ensures { result ≡ proposition_below count node }
 {
     match node {
-        RawNode::Proposition(number) => number < count,
+        LabelNode::Proposition(number) => number < count,
         _ => true,
     }
 }

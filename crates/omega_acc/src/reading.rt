@@ -9,10 +9,11 @@ ghost use Rattle.omega_acc.specs.layout.Building.{HasIn, IsWhole, WantsIn};
 ghost use Rattle.omega_text.specs.Lexeme.{Lexeme};
 ghost use Rattle.omega_text.specs.declared.hoa.kind.HoaKind.{HoaKind as Kind};
 
+use crate::label::LabelNode;
 use crate::passing::is_passed;
 use crate::pending::Pending;
 use crate::postfix::fitted;
-use crate::raw_label::{RawLabel, RawNode, name_length};
+use crate::raw_label::{RawLabel, name_length};
 use crate::unfinished::{Unfinished, deeper};
 use omega_text::{AutomatonFault, HoaKind, Refusal, TextFault, TokenSource};
 use std::alloc::Global;
@@ -86,12 +87,12 @@ fn is_prefix<'a, S: TokenSource<'a, HoaKind>>(
             unfinished.pending.push(Pending::Open)?;
             return Ok(true);
         }
-        HoaKind::True => unfinished.nodes.push(RawNode::Constant(true))?,
-        HoaKind::False => unfinished.nodes.push(RawNode::Constant(false))?,
-        HoaKind::Int => unfinished.nodes.push(RawNode::Proposition(token.value))?,
+        HoaKind::True => unfinished.nodes.push(LabelNode::Constant(true))?,
+        HoaKind::False => unfinished.nodes.push(LabelNode::Constant(false))?,
+        HoaKind::Int => unfinished.nodes.push(LabelNode::Proposition(token.value))?,
         HoaKind::AliasName => {
             let count = name_length(token.text)?;
-            unfinished.nodes.push(RawNode::Alias(count))?;
+            unfinished.nodes.push(LabelNode::Alias(count))?;
             unfinished.names.extend_from_slice(token.text)?;
         }
         _ => return Err(Refusal::Text(TextFault::Syntax { at })),
@@ -128,7 +129,7 @@ fn goes_on<'a, S: TokenSource<'a, HoaKind>>(
         let at = source.place();
         return Err(Refusal::Text(TextFault::Syntax { at }));
     }
-    unfinished.nodes.push(RawNode::Group)?;
+    unfinished.nodes.push(LabelNode::Group)?;
     unfinished.depth = deeper(unfinished.depth);
     unfinished.bind_tightly()?;
     Ok(true)

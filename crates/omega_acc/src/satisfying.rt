@@ -76,6 +76,7 @@ fn word_of(nodes: &[LabelNode], found: &Mentioned, block: u64) -> u64
                 let left = words.pop();
                 words.push(left | right);
             }
+            LabelNode::Alias(_) | LabelNode::Group => {}
         }
     }
     words.pop()

@@ -2,8 +2,8 @@ ghost use Rattle.std.specs.Prelude.{◌≡◌, ◌∷◌, [], IfErr, IfOk, OnOk,
 ghost use Rattle.std.specs.Prelude.{List};
 ghost use Rattle.omega_acc.specs.Depth.{IsMemory};
 
+use crate::label::LabelNode;
 use crate::pending::{Pending, PendingStack};
-use crate::raw_label::RawNode;
 use omega_text::Refusal;
 use std::alloc::Global;
 
@@ -16,7 +16,7 @@ const FIRST_ROOM: usize = 16;
 /// A label that is being read: the nodes and alias names so far, what waits, and the depth of the part that stands last.
 #[derive(Drop)]
 pub(crate) struct Unfinished {
-    pub(crate) nodes: Vec<RawNode>,
+    pub(crate) nodes: Vec<LabelNode>,
     pub(crate) names: Vec<u8>,
     pub(crate) pending: PendingStack,
     pub(crate) depth: u32,
@@ -50,11 +50,11 @@ impl Unfinished {
         while let Some(pending) = self.pending.pop() {
             match pending {
                 Pending::Not => {
-                    self.nodes.push(RawNode::Not)?;
+                    self.nodes.push(LabelNode::Not)?;
                     self.depth = deeper(self.depth);
                 }
                 Pending::And(left) => {
-                    self.nodes.push(RawNode::And)?;
+                    self.nodes.push(LabelNode::And)?;
                     self.depth = deeper(self.depth.max(left));
                     return Ok(());
                 }
@@ -75,7 +75,7 @@ impl Unfinished {
         if let Some(pending) = self.pending.pop() {
             match pending {
                 Pending::Or(left) => {
-                    self.nodes.push(RawNode::Or)?;
+                    self.nodes.push(LabelNode::Or)?;
                     self.depth = deeper(self.depth.max(left));
                 }
                 _ => self.pending.push(pending)?,

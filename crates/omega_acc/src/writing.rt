@@ -50,6 +50,7 @@ fn texts_of_label(alloc: Global, label: &Label) -> Result<Texts, Refusal>
             LabelNode::Not => stack.negate()?,
             LabelNode::And => stack.join(2, b'&')?,
             LabelNode::Or => stack.join(1, b'|')?,
+            LabelNode::Alias(_) | LabelNode::Group => {}
         }
     }
     Ok(stack)

@@ -48,7 +48,7 @@ fn label(alloc: Global, postfix: &str) -> Result<RawLabel, Refusal> {
 }
 
 // The text of a label once expanded.
-fn text_of(alloc: Global, raw: &RawLabel, aliases: &Aliases) -> Result<Vec<u8>, Refusal> {
+fn text_of(alloc: Global, raw: RawLabel, aliases: &Aliases) -> Result<Vec<u8>, Refusal> {
     let label = expand(alloc, raw, aliases)?;
     let mut text = Vec::new(alloc);
     write_label(&label, &mut text)?;
@@ -69,7 +69,7 @@ const LABELS: [(&str, &str); 7] = [
 fn labels_are_written(rt: HostRuntime) -> Result<(), Fail> {
     let none = Aliases::new(rt.alloc());
     for (postfix, want) in LABELS.iter() {
-        let text = text_of(rt.alloc(), &label(rt.alloc(), postfix)?, &none)?;
+        let text = text_of(rt.alloc(), label(rt.alloc(), postfix)?, &none)?;
         assert!(rt; text.as_slice() == want.as_bytes());
     }
     Ok(())
@@ -156,14 +156,14 @@ fn all_of(alloc: Global, count: u32) -> Result<RawLabel, Refusal> {
     Ok(label)
 }
 
-fn judged(alloc: Global, raw: &RawLabel) -> Result<bool, Refusal> {
+fn judged(alloc: Global, raw: RawLabel) -> Result<bool, Refusal> {
     satisfiable(&expand(alloc, raw, &Aliases::new(alloc))?)
 }
 
 #[test]
 fn twelve_propositions_are_judged(rt: HostRuntime) -> Result<(), Fail> {
-    assert!(rt; judged(rt.alloc(), &all_of(rt.alloc(), 12)?)?);
-    assert!(rt; number_of(judged(rt.alloc(), &all_of(rt.alloc(), 13)?)) == 42);
+    assert!(rt; judged(rt.alloc(), all_of(rt.alloc(), 12)?)?);
+    assert!(rt; number_of(judged(rt.alloc(), all_of(rt.alloc(), 13)?)) == 42);
     Ok(())
 }
 
@@ -178,7 +178,7 @@ const JUDGED: [(&str, bool); 5] = [
 #[test]
 fn labels_are_judged(rt: HostRuntime) -> Result<(), Fail> {
     for (postfix, want) in JUDGED.iter() {
-        assert!(rt; judged(rt.alloc(), &label(rt.alloc(), postfix)?)? == *want);
+        assert!(rt; judged(rt.alloc(), label(rt.alloc(), postfix)?)? == *want);
     }
     Ok(())
 }

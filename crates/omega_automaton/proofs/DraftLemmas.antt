@@ -16,7 +16,7 @@ use Rattle.omega_automaton.specs.declared.state.State.{State}
 use Rattle.omega_automaton.specs.layout.Definitions.{IsUnnoted}
 use Rattle.omega_automaton.specs.layout.Draft.{IsDraftOf, IsSoundAcceptance, described}
 use Rattle.omega_automaton.specs.layout.Order.{early_fault}
-use Rattle.omega_automaton.specs.layout.Trials.{is_faulty, labels_pass}
+use Rattle.omega_automaton.specs.layout.Findings.{is_faulty, labels_pass}
 use Rattle.omega_automaton.proofs.OrderLemmas.{alias_is}
 use Rattle.omega_automaton.proofs.SoundLemmas.{acceptance_sound, body_sound}
 use Rattle.omega_automaton.proofs.validity.Automata.{means_is_automaton}

@@ -4,6 +4,7 @@ pub mod DraftLemmas
 pub mod EdgeLemmas
 pub mod ExpansionLemmas
 pub mod FaultLemmas
+pub mod FindingLemmas
 pub mod GatheringLemmas
 pub mod Greatest
 pub mod MarkLemmas
@@ -11,7 +12,6 @@ pub mod OrderLemmas
 pub mod Powers
 pub mod Repeats
 pub mod Said
-pub mod SizeLemmas
 pub mod SoundLemmas
 pub mod Uniqueness
 pub mod Zipped

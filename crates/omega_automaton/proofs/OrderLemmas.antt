@@ -17,7 +17,7 @@ use Rattle.omega_automaton.specs.Items.{Accepted, acceptance_in}
 use Rattle.omega_automaton.specs.declared.making.definitions.Definitions.{Definitions}
 use Rattle.omega_automaton.specs.layout.Definitions.{AreNoted, has_wrong_definition}
 use Rattle.omega_automaton.specs.layout.Order.{early_fault, is_any_deep, is_any_large, last_fault, late_fault}
-use Rattle.omega_automaton.specs.layout.Trials.{labels_pass}
+use Rattle.omega_automaton.specs.layout.Findings.{labels_pass}
 
 -- what is found among some and others is found among the first, or else among the others
 find-append : {X : Type 0} (test : X → Bool) (xs ys : List X) → find test (xs ++ ys) ≡ option_or (find test xs) (find test ys)

@@ -18,11 +18,11 @@ use Rattle.omega_raw.specs.declared.raw_state.RawState.{RawState}
 use Rattle.omega_automaton.specs.Faults.{applies, definitions_of, fault_of, has_deep_expression, has_large_expression, has_wrong_alias, has_wrong_atom, is_deep, is_labelled, is_large, lacks_acceptance, passes}
 use Rattle.omega_automaton.specs.Items.{Accepted, acceptance_in, first_said}
 use Rattle.omega_automaton.specs.layout.Draft.{IsSoundAcceptance}
-use Rattle.omega_automaton.specs.layout.Trials.{is_faulty, labels_pass}
+use Rattle.omega_automaton.specs.layout.Findings.{is_faulty, labels_pass}
 use Rattle.omega_automaton.proofs.FaultLemmas.{no_fault_passes}
 
 -- the first of two tests that both fail
-or_first : (a b : Bool) → (a || b) ≡ false → a ≡ false
+pub or_first : (a b : Bool) → (a || b) ≡ false → a ≡ false
 or_first true b h = absurd (false≢true (sym h))
 or_first false b h = refl
 
@@ -83,7 +83,7 @@ sound_meaning (Some known) one two three = by_tests (nat_lt most_depth known.dep
     by_tests false false h k = refl
 
 -- where no label is undefined, too deep or too large, none has a fault
-labels_sound : (definitions : List Defined) (states : List RawState)
+pub labels_sound : (definitions : List Defined) (states : List RawState)
     → labels_pass is_none definitions states ≡ false → labels_pass is_deep definitions states ≡ false → labels_pass is_large definitions states ≡ false
     → labels_pass is_faulty definitions states ≡ false
 labels_sound definitions states one two three =

@@ -1,6 +1,6 @@
 -- How automata lie in memory: cited by private contracts alone.
 pub mod Automaton
-pub mod Trials
+pub mod Findings
 pub mod Gathered
 pub mod Order
 pub mod Definitions

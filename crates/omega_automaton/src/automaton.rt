@@ -7,7 +7,7 @@ use crate::making::Gathered;
 use crate::state::State;
 use crate::tool::Tool;
 use omega_acc::{Acc, AccName};
-use omega_text::Seq;
+use omega_text::{Numbers, Seq};
 use std::alloc::Global;
 use std::marker::Model;
 
@@ -20,7 +20,7 @@ pub struct Automaton {
     tool: Option<Tool>,
     name: Option<Seq<u8>>,
     state_count: u32,
-    starts: Seq<Seq<u32>>,
+    starts: Seq<Numbers>,
     propositions: Seq<Seq<u8>>,
     acc_name: Option<AccName>,
     set_count: u32,
@@ -126,7 +126,7 @@ impl Automaton {
     }
 
     /// The initial choices in the order written, each with the states that it begins in at once.
-    pub fn starts(&self) -> &[Seq<u32>]
+    pub fn starts(&self) -> &[Numbers]
         ensures { result.now ≡ self.now.starts }
     {
         self.starts.as_slice()

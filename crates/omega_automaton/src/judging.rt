@@ -2,6 +2,7 @@
 
 mod acceptance;
 mod expansions;
+mod findings;
 mod header;
 mod implicit;
 mod labels;
@@ -10,13 +11,11 @@ mod propositions;
 mod repeats;
 mod sets;
 mod states;
-mod total;
-mod trial;
 mod version;
 
 pub(crate) use acceptance::has_deep_acceptance;
 pub(crate) use expansions::last_fault;
+pub(crate) use findings::findings_of;
 pub(crate) use order::{early_fault, late_fault};
 pub(crate) use sets::set_count;
 pub(crate) use states::state_count;
-pub(crate) use trial::{Trial, fails};

@@ -1,6 +1,6 @@
 use crate::edge::Edge;
 use omega_acc::Label;
-use omega_text::Seq;
+use omega_text::{Numbers, Seq};
 
 /// A state that an automaton defines, with its edges (HOA v1, *Body*).
 #[derive(Debug, Drop)]
@@ -12,7 +12,7 @@ pub struct State {
     /// The bytes of the name between its quotes, as they are, or none. An empty name differs from none.
     pub name: Option<Seq<u8>>,
     /// The sets that each of its edges is in, rising, each once.
-    pub marks: Seq<u32>,
+    pub marks: Numbers,
     /// The edges in the order written.
     pub edges: Seq<Edge>,
 }

@@ -5,9 +5,9 @@ ghost use Rattle.omega_raw.specs.steps.Parts.{EndsConj, is_and};
 ghost use Rattle.omega_raw.specs.Symbols.{FirstIs};
 ghost use Rattle.omega_raw.specs.steps.Reading.{Finds, Gives, IsAny, IsKind, IsRefusal};
 
-use crate::part::{Part, read_each};
+use crate::part::{Part, read_numbers};
 use crate::taking::{take_int, take_sign};
-use omega_text::{HoaKind, Refusal, Seq, TokenSource};
+use omega_text::{HoaKind, Numbers, Refusal, TokenSource};
 use std::alloc::Global;
 
 /// A further state of a conj, behind `&`.
@@ -42,24 +42,26 @@ impl<'a, S: TokenSource<'a, HoaKind>> Part<'a, S> for Joined {
 pub(crate) fn conj<'a, S: TokenSource<'a, HoaKind>>(
     alloc: Global,
     source: &mut S,
-) -> Result<Seq<u32>, Refusal>
+) -> Result<Numbers, Refusal>
     ensures gives { Gives IsConj conj_row (S.left source.old) (S.left source.new) result }
     ensures finds { Finds IsConj conj_row (FirstIs EndsConj) (S.left source.old) (S.left source.new) result }
     ensures err { IfErr result IsRefusal }
 {
     let first = take_int(source)?;
-    let others = read_each::<Joined, S>(alloc, source)?;
+    let others = read_numbers::<Joined, S>(alloc, source)?;
     let states = with_first(alloc, first, others)?;
     Ok(states)
 }
 
 /// A number and others behind it.
-fn with_first(alloc: Global, first: u32, others: Seq<u32>) -> Result<Seq<u32>, Refusal>
+fn with_first(alloc: Global, first: u32, others: Numbers) -> Result<Numbers, Refusal>
     ensures ok { IfOk result (λ numbers. numbers ≡ first ∷ others) }
     ensures err { IfErr result IsMemory }
 {
-    let mut numbers = Vec::new(alloc);
-    numbers.push(first)?;
-    numbers.extend_from_slice(others.as_slice())?;
-    Ok(Seq::from_vec(numbers))
+    let mut numbers = Numbers::one(first);
+    let rest = others.as_slice();
+    for other in rest {
+        numbers.push(alloc, *other)?;
+    }
+    Ok(numbers)
 }

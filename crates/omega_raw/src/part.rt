@@ -4,7 +4,7 @@ ghost use Rattle.omega_raw.specs.Grammar.{each, optional};
 ghost use Rattle.omega_raw.specs.Symbols.{FirstIs};
 ghost use Rattle.omega_raw.specs.steps.Reading.{EndsList, Finds, Gives, IsRefusal, NextIs, NextMayBe};
 
-use omega_text::{HoaKind, Refusal, Seq, TokenSource};
+use omega_text::{HoaKind, Numbers, Refusal, Seq, TokenSource};
 use std::alloc::Global;
 
 /// A part of a text, which is known by the kind of its first token.
@@ -71,7 +71,7 @@ pub(crate) fn read_if<'a, P: Part<'a, S>, S: TokenSource<'a, HoaKind>>(
     Ok(Some(value))
 }
 
-/// Reads as many parts as stand there.
+/// Reads as many parts as stand there, into as much memory as they need.
 pub(crate) fn read_each<'a, P: Part<'a, S>, S: TokenSource<'a, HoaKind>>(
     alloc: Global,
     source: &mut S,
@@ -85,5 +85,23 @@ pub(crate) fn read_each<'a, P: Part<'a, S>, S: TokenSource<'a, HoaKind>>(
         let value = P::read(alloc, source)?;
         values.push(value)?;
     }
+    values.shrink_to_fit();
     Ok(Seq::from_vec(values))
+}
+
+/// Reads as many numbers as stand there.
+pub(crate) fn read_numbers<'a, P: Part<'a, S, Value = u32>, S: TokenSource<'a, HoaKind>>(
+    alloc: Global,
+    source: &mut S,
+) -> Result<Numbers, Refusal>
+    ensures gives { Gives (AllByRecursion P.valid) (each P.written) (S.left source.old) (S.left source.new) result }
+    ensures finds { Finds (AllByRecursion P.valid) (each P.written) (FirstIs (EndsList P.first P.next)) (S.left source.old) (S.left source.new) result }
+    ensures err { IfErr result IsRefusal }
+{
+    let mut numbers = Numbers::new();
+    while is_next::<P, S>(source) {
+        let number = P::read(alloc, source)?;
+        numbers.push(alloc, number)?;
+    }
+    Ok(numbers)
 }

@@ -1,5 +1,5 @@
 use omega_acc::RawLabel;
-use omega_text::Seq;
+use omega_text::Numbers;
 
 /// An edge as it is written (HOA v1, *Body*).
 #[derive(Debug, Drop)]
@@ -7,7 +7,7 @@ pub struct RawEdge {
     /// The label between brackets, or none.
     pub label: Option<RawLabel>,
     /// The states that are joined by `&`, at least one.
-    pub targets: Seq<u32>,
+    pub targets: Numbers,
     /// The sets between braces in the order written, repeats kept, or none where no braces stand. `{}` differs from none.
-    pub marks: Option<Seq<u32>>,
+    pub marks: Option<Numbers>,
 }

@@ -1,6 +1,6 @@
 use crate::header_value::HeaderValue;
 use omega_acc::{AccName, RawAcc, RawLabel};
-use omega_text::Seq;
+use omega_text::{Numbers, Seq};
 
 /// An item of a header as it is written (HOA v1, *Header*). Numbers are at most 2,147,483,647; strings are the bytes between
 /// their quotes, as they are.
@@ -9,7 +9,7 @@ pub enum RawItem {
     /// `States:` and the count.
     States(u32),
     /// `Start:` and the states that are joined by `&`, at least one.
-    Start(Seq<u32>),
+    Start(Numbers),
     /// `AP:`, the count and the names, which may be more or fewer.
     Propositions {
         count: u32,

@@ -6,7 +6,7 @@ use Rattle.omega_acc.specs.Reading.{IsOf, Reads, spelled}
 use Rattle.omega_acc.specs.Symbols.{Rank, Symbol, conjunctive, disjunctive, sign}
 use Rattle.omega_acc.specs.declared.pending.Pending.{Pending}
 use Rattle.omega_acc.specs.declared.pending.Pending.TheVariants.{And, Not, Open, Or}
-use Rattle.omega_acc.specs.declared.raw_label.RawNode.{RawNode}
+use Rattle.omega_acc.specs.declared.label.LabelNode.{LabelNode}
 use Rattle.omega_acc.specs.layout.Passing.{FitsOr, FitsTight, Passed}
 use Rattle.omega_acc.specs.layout.RawLabel.{alias_names, raw_postfix}
 use Rattle.omega_acc.specs.declared.unfinished.Unfinished.{Unfinished}
@@ -35,7 +35,7 @@ before_symbols (anded before left) = before_symbols before ++ (spelled left ++ s
 before_symbols (ored before left) = before_symbols before ++ (spelled left ++ sign kind.Or ∷ [])
 
 -- the nodes of its left parts
-abbrev pub before_nodes : Before → List RawNode
+abbrev pub before_nodes : Before → List LabelNode
 before_nodes start = []
 before_nodes (opened before) = before_nodes before
 before_nodes (denied before) = before_nodes before
@@ -75,7 +75,7 @@ IsOpen (anded before left) = IsOf conjunctive left × (Fits conjunctive before �
 IsOpen (ored before left) = IsOf disjunctive left × (Fits disjunctive before × IsOpen before)
 
 -- a part is wanted, behind what these hold
-pub record Wants (whole left : List (Lexeme HoaKind)) (nodes : List RawNode) (names : List ℕ) (pending : List Pending) : Type 0 where
+pub record Wants (whole left : List (Lexeme HoaKind)) (nodes : List LabelNode) (names : List ℕ) (pending : List Pending) : Type 0 where
   pub before : Before
   pub sound : IsOpen before
   pub flat : nodes ≡ before_nodes before
@@ -84,7 +84,7 @@ pub record Wants (whole left : List (Lexeme HoaKind)) (nodes : List RawNode) (na
   pub passed : Passed whole (before_symbols before) left
 
 -- a part of this case and depth stands last in what these hold
-pub record Has (rank : Rank) (whole left : List (Lexeme HoaKind)) (depth : ℕ) (nodes : List RawNode) (names : List ℕ) (pending : List Pending) : Type 0 where
+pub record Has (rank : Rank) (whole left : List (Lexeme HoaKind)) (depth : ℕ) (nodes : List LabelNode) (names : List ℕ) (pending : List Pending) : Type 0 where
   pub before : Before
   pub part : RawLabelTree
   pub is : IsOf rank part

@@ -4,9 +4,7 @@ use Rattle.omega_acc.specs.Expanding.{Defined, Entry, IsBodyAt, Meaning, entries
 use Rattle.omega_acc.specs.RawLabel.{RawLabelTree}
 use Rattle.omega_acc.specs.layout.Label.{postfix}
 use Rattle.omega_acc.specs.declared.label.LabelNode.{LabelNode}
-use Rattle.omega_acc.specs.declared.label.LabelNode.TheVariants as plain
-use Rattle.omega_acc.specs.declared.raw_label.RawNode.{RawNode}
-use Rattle.omega_acc.specs.declared.raw_label.RawNode.TheVariants.{Alias, And, Constant, Group, Not, Or, Proposition}
+use Rattle.omega_acc.specs.declared.label.LabelNode.TheVariants.{Alias, And, Constant, Group, Not, Or, Proposition}
 
 -- the nodes of what a name stands for
 abbrev pub nodes_of : Option Meaning → List LabelNode
@@ -14,18 +12,18 @@ nodes_of None = []
 nodes_of (Some meaning) = postfix meaning.tree
 
 -- the nodes with aliases replaced and parentheses gone, where these names are left
-abbrev pub emitted : List Entry → List ℕ → List RawNode → List LabelNode
+abbrev pub emitted : List Entry → List ℕ → List LabelNode → List LabelNode
 emitted entries names [] = []
-emitted entries names (Constant value ∷ nodes) = plain.Constant value ∷ emitted entries names nodes
-emitted entries names (Proposition number ∷ nodes) = plain.Proposition number ∷ emitted entries names nodes
+emitted entries names (Constant value ∷ nodes) = Constant value ∷ emitted entries names nodes
+emitted entries names (Proposition number ∷ nodes) = Proposition number ∷ emitted entries names nodes
 emitted entries names (Alias count ∷ nodes) = nodes_of (stands_for entries (take count names)) ++ emitted entries (drop count names) nodes
-emitted entries names (Not ∷ nodes) = plain.Not ∷ emitted entries names nodes
-emitted entries names (And ∷ nodes) = plain.And ∷ emitted entries names nodes
-emitted entries names (Or ∷ nodes) = plain.Or ∷ emitted entries names nodes
+emitted entries names (Not ∷ nodes) = Not ∷ emitted entries names nodes
+emitted entries names (And ∷ nodes) = And ∷ emitted entries names nodes
+emitted entries names (Or ∷ nodes) = Or ∷ emitted entries names nodes
 emitted entries names (Group ∷ nodes) = emitted entries names nodes
 
 -- each alias of the nodes stands for something
-abbrev pub AllStand : List Entry → List ℕ → List RawNode → Type 0
+abbrev pub AllStand : List Entry → List ℕ → List LabelNode → Type 0
 AllStand entries names [] = Unit {0}
 AllStand entries names (Constant value ∷ nodes) = AllStand entries names nodes
 AllStand entries names (Proposition number ∷ nodes) = AllStand entries names nodes

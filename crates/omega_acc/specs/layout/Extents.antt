@@ -3,8 +3,8 @@ use Rattle.std.specs.Prelude.{ℕ, ◌+◌, List, [], ◌∷◌, Option, Some, N
 use Rattle.omega_acc.specs.Expanding.{Entry, Meaning, stands_for}
 use Rattle.omega_acc.specs.Label.{label_size}
 use Rattle.omega_acc.specs.declared.extents.Extent.{Extent}
-use Rattle.omega_acc.specs.declared.raw_label.RawNode.{RawNode}
-use Rattle.omega_acc.specs.declared.raw_label.RawNode.TheVariants.{Alias, And, Constant, Group, Not, Or, Proposition}
+use Rattle.omega_acc.specs.declared.label.LabelNode.{LabelNode}
+use Rattle.omega_acc.specs.declared.label.LabelNode.TheVariants.{Alias, And, Constant, Group, Not, Or, Proposition}
 
 -- the extent of a meaning
 abbrev pub extent_of : Meaning → Extent
@@ -40,7 +40,7 @@ extents_below [] = []
 extents_below (extent ∷ extents) = extents
 
 -- the extents that nodes leave of those before them, where these names are left and names have these extents
-abbrev pub extents_behind : (List ℕ → Option Extent) → List (Option Extent) → List ℕ → List RawNode → List (Option Extent)
+abbrev pub extents_behind : (List ℕ → Option Extent) → List (Option Extent) → List ℕ → List LabelNode → List (Option Extent)
 extents_behind named stack names [] = stack
 extents_behind named stack names (Constant value ∷ nodes) = extents_behind named (atom_extent ∷ stack) names nodes
 extents_behind named stack names (Proposition number ∷ nodes) = extents_behind named (atom_extent ∷ stack) names nodes

@@ -6,7 +6,7 @@ use Rattle.omega_acc.specs.Limits.{most_depth}
 use Rattle.omega_acc.specs.layout.Joins.{regrouped}
 use Rattle.omega_acc.specs.contracts.label.LabelNode as node
 use Rattle.omega_acc.specs.declared.label.LabelNode.{LabelNode}
-use Rattle.omega_acc.specs.declared.label.LabelNode.TheVariants.{And, Constant, Not, Or, Proposition}
+use Rattle.omega_acc.specs.declared.label.LabelNode.TheVariants.{Alias, And, Constant, Group, Not, Or, Proposition}
 use Rattle.std.proofs.Common.{append_assoc, append-nil, ap, refl, sym, ◌∙◌}
 
 -- a tree in postfix order: its parts, and then its operator
@@ -27,13 +27,15 @@ abbrev pub below : List LabelTree → List LabelTree
 below [] = []
 below (tree ∷ trees) = trees
 
--- the trees that a node leaves of those before it
+-- the trees that a node leaves of those before it; an alias or parentheses, which no label has, leave them as they are
 abbrev pub joined : List LabelTree → LabelNode → List LabelTree
 joined trees (Constant value) = constant value ∷ trees
 joined trees (Proposition number) = proposition number ∷ trees
 joined trees Not = negation (top trees) ∷ below trees
 joined trees And = conjunction (top (below trees)) (top trees) ∷ below (below trees)
 joined trees Or = disjunction (top (below trees)) (top trees) ∷ below (below trees)
+joined trees (Alias count) = trees
+joined trees Group = trees
 
 -- the trees that nodes leave of those before them
 abbrev pub trees_of : List LabelTree → List LabelNode → List LabelTree

@@ -4,14 +4,14 @@ use Rattle.std.specs.Coded.{Coded, code_by, coded_list, coded×, coded_ℕ}
 use Rattle.omega_acc.specs.RawLabel.{RawLabelTree, alias, conjunction, constant, disjunction, group, negation, proposition, raw_depth}
 use Rattle.omega_acc.specs.Depth.{counted}
 use Rattle.omega_acc.specs.layout.Joins.{regrouped}
-use Rattle.omega_acc.specs.contracts.raw_label.RawNode as node
-use Rattle.omega_acc.specs.declared.raw_label.RawNode.{RawNode}
-use Rattle.omega_acc.specs.declared.raw_label.RawNode.TheVariants.{Alias, And, Constant, Group, Not, Or, Proposition}
+use Rattle.omega_acc.specs.contracts.label.LabelNode as node
+use Rattle.omega_acc.specs.declared.label.LabelNode.{LabelNode}
+use Rattle.omega_acc.specs.declared.label.LabelNode.TheVariants.{Alias, And, Constant, Group, Not, Or, Proposition}
 use Rattle.std.proofs.Common.{append_assoc, append-nil, ap, refl, sym, ◌∙◌}
 use Rattle.std.proofs.Math.Seq.{drop-append_seam, take-append_seam}
 
 -- a tree in postfix order: its parts, and then its operator; of an alias the length of its name
-abbrev pub raw_postfix : RawLabelTree → List RawNode
+abbrev pub raw_postfix : RawLabelTree → List LabelNode
 raw_postfix (constant value) = Constant value ∷ []
 raw_postfix (proposition number) = Proposition number ∷ []
 raw_postfix (alias name) = Alias (length name) ∷ []
@@ -41,7 +41,7 @@ raw_below [] = []
 raw_below (tree ∷ trees) = trees
 
 -- the trees that nodes leave of those before them, where these names are left
-abbrev pub raw_trees_of : List RawLabelTree → List ℕ → List RawNode → List RawLabelTree
+abbrev pub raw_trees_of : List RawLabelTree → List ℕ → List LabelNode → List RawLabelTree
 raw_trees_of trees names [] = trees
 raw_trees_of trees names (Constant value ∷ nodes) = raw_trees_of (constant value ∷ trees) names nodes
 raw_trees_of trees names (Proposition number ∷ nodes) = raw_trees_of (proposition number ∷ trees) names nodes
@@ -54,11 +54,11 @@ raw_trees_of trees names (Or ∷ nodes) =
 raw_trees_of trees names (Group ∷ nodes) = raw_trees_of (group (raw_top trees) ∷ raw_below trees) names nodes
 
 -- the tree of nodes in postfix order and their names
-abbrev pub raw_tree_of : List RawNode → List ℕ → RawLabelTree
+abbrev pub raw_tree_of : List LabelNode → List ℕ → RawLabelTree
 raw_tree_of nodes names = raw_top (raw_trees_of [] names nodes)
 
 -- a tree in postfix order leaves that tree, and the names behind its own
-pub raw_trees_of-postfix : (tree : RawLabelTree) (trees : List RawLabelTree) (names : List ℕ) (rest : List RawNode)
+pub raw_trees_of-postfix : (tree : RawLabelTree) (trees : List RawLabelTree) (names : List ℕ) (rest : List LabelNode)
     → raw_trees_of trees (alias_names tree ++ names) (raw_postfix tree ++ rest) ≡ raw_trees_of (tree ∷ trees) names rest
 raw_trees_of-postfix (constant value) trees names rest = refl
 raw_trees_of-postfix (proposition number) trees names rest = refl
@@ -92,11 +92,11 @@ raw_tree_of-postfix tree =
 -- a tree is stored as its nodes and names
 abbrev pub raw_label_code : Coded RawLabelTree
 raw_label_code =
-    code_by (List RawNode × List ℕ) (coded× (coded_list node.the_row.coded) (coded_list coded_ℕ))
+    code_by (List LabelNode × List ℕ) (coded× (coded_list node.the_row.coded) (coded_list coded_ℕ))
     (λ tree. (raw_postfix tree, alias_names tree)) (λ stored. raw_tree_of stored.0 stored.1) raw_tree_of-postfix
 
 -- nodes and names that are a tree in postfix order, with its depth as it is counted
-pub record IsRawLabel (nodes : List RawNode) (names : List ℕ) (deep : ℕ) : Type 0 where
+pub record IsRawLabel (nodes : List LabelNode) (names : List ℕ) (deep : ℕ) : Type 0 where
   pub flat : raw_postfix (raw_tree_of nodes names) ≡ nodes
   pub named : alias_names (raw_tree_of nodes names) ≡ names
   pub depth_is : counted (raw_depth (raw_tree_of nodes names)) ≡ deep

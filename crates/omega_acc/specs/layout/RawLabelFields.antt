@@ -4,11 +4,11 @@ use Rattle.std.proofs.Common.{ap, ◌∙◌}
 use Rattle.omega_acc.specs.Depth.{counted}
 use Rattle.omega_acc.specs.RawLabel.{raw_depth}
 use Rattle.omega_acc.specs.layout.RawLabel.{IsRawLabel, alias_names, raw_postfix, raw_tree_of}
-use Rattle.omega_acc.specs.declared.raw_label.RawNode.{RawNode}
+use Rattle.omega_acc.specs.declared.label.LabelNode.{LabelNode}
 use Rattle.omega_acc.specs.declared.raw_label.RawLabel.TheInside.{Inside}
 
 -- the fields with these nodes, names and depth
-abbrev pub fields : List RawNode → List ℕ → ℕ → Inside
+abbrev pub fields : List LabelNode → List ℕ → ℕ → Inside
 fields nodes names deep = record { nodes = nodes; names = names; depth = deep }
 
 -- the tree of a label's fields gives them back

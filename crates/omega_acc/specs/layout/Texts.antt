@@ -5,7 +5,7 @@ use Rattle.omega_acc.specs.declared.texts.Part.{Part}
 use Rattle.omega_acc.specs.declared.acc.AccNode.{AccNode}
 use Rattle.omega_acc.specs.declared.acc.AccNode.TheVariants as acc
 use Rattle.omega_acc.specs.declared.label.LabelNode.{LabelNode}
-use Rattle.omega_acc.specs.declared.label.LabelNode.TheVariants.{And, Constant, Not, Or, Proposition}
+use Rattle.omega_acc.specs.declared.label.LabelNode.TheVariants.{Alias, And, Constant, Group, Not, Or, Proposition}
 
 -- the texts of parts, the last first, in the bytes of all
 abbrev pub texts_in : List ℕ → List Part → List Text
@@ -42,6 +42,8 @@ texts_behind stack (And ∷ nodes) =
     texts_behind (joined_text 2 38 (top_text (texts_below stack)) (top_text stack) ∷ texts_below (texts_below stack)) nodes
 texts_behind stack (Or ∷ nodes) =
     texts_behind (joined_text 1 124 (top_text (texts_below stack)) (top_text stack) ∷ texts_below (texts_below stack)) nodes
+texts_behind stack (Alias count ∷ nodes) = texts_behind stack nodes
+texts_behind stack (Group ∷ nodes) = texts_behind stack nodes
 
 -- the texts that a formula's nodes leave of those before them
 abbrev pub acc_texts_behind : List Text → List AccNode → List Text

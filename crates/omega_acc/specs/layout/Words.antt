@@ -3,7 +3,7 @@ use Rattle.std.specs.Prelude.{ℕ, ◌+◌, ◌-◌, suc, Bool, ◌==◌, nat_lt
 use Rattle.std.specs.Int.{bit_at}
 use Rattle.omega_acc.specs.Label.{LabelTree, conjunction, constant, disjunction, negation, proposition}
 use Rattle.omega_acc.specs.declared.label.LabelNode.{LabelNode}
-use Rattle.omega_acc.specs.declared.label.LabelNode.TheVariants.{And, Constant, Not, Or, Proposition}
+use Rattle.omega_acc.specs.declared.label.LabelNode.TheVariants.{Alias, And, Constant, Group, Not, Or, Proposition}
 
 -- the word of all ones
 abbrev pub ones : ℕ
@@ -21,6 +21,8 @@ propositions_of (Proposition number ∷ nodes) = number ∷ propositions_of node
 propositions_of (Not ∷ nodes) = propositions_of nodes
 propositions_of (And ∷ nodes) = propositions_of nodes
 propositions_of (Or ∷ nodes) = propositions_of nodes
+propositions_of (Alias count ∷ nodes) = propositions_of nodes
+propositions_of (Group ∷ nodes) = propositions_of nodes
 
 -- the word of a label, where each proposition has a word
 abbrev pub word_of : (ℕ → ℕ) → LabelTree → ℕ
@@ -47,6 +49,8 @@ words_with words stack (Proposition number) = words number ∷ stack
 words_with words stack Not = bit_xor (top_word stack) ones ∷ words_below stack
 words_with words stack And = bit_and (top_word (words_below stack)) (top_word stack) ∷ words_below (words_below stack)
 words_with words stack Or = bit_or (top_word (words_below stack)) (top_word stack) ∷ words_below (words_below stack)
+words_with words stack (Alias count) = stack
+words_with words stack Group = stack
 
 -- the words that nodes leave of those before them
 abbrev pub words_behind : (ℕ → ℕ) → List ℕ → List LabelNode → List ℕ
@@ -60,6 +64,8 @@ height_with height (Proposition number) = height + 1
 height_with height Not = height - 1 + 1
 height_with height And = height - 1 - 1 + 1
 height_with height Or = height - 1 - 1 + 1
+height_with height (Alias count) = height
+height_with height Group = height
 
 -- the most words that stand at once
 abbrev pub peak : ℕ → List LabelNode → ℕ

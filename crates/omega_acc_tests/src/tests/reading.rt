@@ -9,10 +9,7 @@ fn read(alloc: Global, text: &[u8]) -> Result<(Vec<u8>, usize), Refusal> {
     let tokens = hoa_tokens(alloc, text)?;
     let mut cursor = Cursor::new(tokens.as_slice(), text.len());
     let label = read_label(alloc, &mut cursor)?;
-    Ok((
-        text_of(alloc, &label, &Aliases::new(alloc))?,
-        cursor.place(),
-    ))
+    Ok((text_of(alloc, label, &Aliases::new(alloc))?, cursor.place()))
 }
 
 const READ: [(&str, &str, usize); 9] = [

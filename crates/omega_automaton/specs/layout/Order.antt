@@ -8,8 +8,9 @@ use Rattle.omega_raw.specs.declared.raw_automaton.RawAutomaton.{RawAutomaton}
 use Rattle.omega_raw.specs.declared.raw_state.RawState.{RawState}
 use Rattle.omega_automaton.specs.Faults.{applies, is_deep, is_large, label_total}
 use Rattle.omega_automaton.specs.Limits.{most_total_size}
+use Rattle.omega_automaton.specs.declared.judging.findings.Findings.{Findings}
 use Rattle.omega_automaton.specs.declared.making.definitions.Definitions.{Definitions}
-use Rattle.omega_automaton.specs.layout.Trials.{labels_pass}
+use Rattle.omega_automaton.specs.layout.Findings.{labels_pass}
 
 -- the least fault before that of aliases
 abbrev pub early_fault : RawAutomaton → Option AutomatonFault
@@ -38,3 +39,11 @@ last_fault definitions states late acceptance =
     else option_or late
     (if is_any_deep definitions states acceptance then Some TooDeep
     else (if is_any_large definitions states then Some Expansion else None))
+
+-- the same by what is found of the labels
+abbrev pub fault_found : Definitions → Findings → Option AutomatonFault → Bool → Option AutomatonFault
+fault_found definitions found late acceptance =
+    if found.undefined then Some Alias
+    else option_or late
+    (if acceptance || (definitions.deep || found.deep) then Some TooDeep
+    else (if (definitions.large || found.large) || nat_lt most_total_size found.size then Some Expansion else None))

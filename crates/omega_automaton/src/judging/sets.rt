@@ -5,7 +5,7 @@ ghost use Rattle.omega_automaton.specs.Items.{acceptance_in, first_said};
 
 use crate::judging::states::any_beyond;
 use omega_raw::{RawAutomaton, RawEdge, RawItem, RawState};
-use omega_text::Seq;
+use omega_text::Numbers;
 
 /// Whether a mark of a state or an edge, or a set of an acceptance, is not below the count of sets (refusal 25).
 #[tactic(auto, unfolding(crate::specs::Faults::has_set_out_of_range))]
@@ -75,7 +75,7 @@ fn edges_beyond(edges: &[RawEdge], count: u32) -> bool
 }
 
 /// Whether there are marks and one of them is not below a count.
-fn marks_beyond(marks: &Option<Seq<u32>>, count: u32) -> bool
+fn marks_beyond(marks: &Option<Numbers>, count: u32) -> bool
     ensures { result ≡ passes (list_any (nat_le count)) marks.now }
 {
     match marks {

@@ -1,7 +1,7 @@
 ghost use Rattle.std.specs.Prelude.{◌≡◌, [], false, IfErr, OnOk};
 ghost use Rattle.omega_automaton.specs.layout.Definitions.{HasDefined, IsUndefinable};
 
-use crate::judging::{Trial, fails};
+use crate::judging::findings_of;
 use omega_acc::{Aliases, RawLabel};
 use omega_text::{AutomatonFault, Refusal, Seq};
 use std::alloc::Global;
@@ -39,13 +39,12 @@ pub(crate) fn define(
     ensures ok { OnOk result (HasDefined definitions.old name.now body definitions.new) }
     ensures err { IfErr result (IsUndefinable definitions.old name.now body) }
 {
-    if fails(alloc, Trial::Undefined, &body, &definitions.aliases)? {
+    let found = findings_of(alloc, &body, &definitions.aliases)?;
+    if found.undefined {
         return Err(Refusal::Automaton(AutomatonFault::Alias));
     }
-    let deep = fails(alloc, Trial::Deep, &body, &definitions.aliases)?;
-    let large = fails(alloc, Trial::Large, &body, &definitions.aliases)?;
     definitions.aliases.add(name, body)?;
-    definitions.deep = definitions.deep || deep;
-    definitions.large = definitions.large || large;
+    definitions.deep = definitions.deep || found.deep;
+    definitions.large = definitions.large || found.large;
     Ok(())
 }

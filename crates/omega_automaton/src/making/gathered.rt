@@ -7,7 +7,7 @@ use crate::header::Header;
 use crate::tool::Tool;
 use omega_acc::{AccName, RawAcc};
 use omega_raw::RawItem;
-use omega_text::{Refusal, Seq};
+use omega_text::{Numbers, Refusal, Seq};
 use std::alloc::Global;
 
 /// What the items of a header say, but for the count of states and the aliases: of an item that may not repeat what the
@@ -16,7 +16,7 @@ use std::alloc::Global;
 pub(crate) struct Gathered {
     pub tool: Option<Tool>,
     pub name: Option<Seq<u8>>,
-    pub starts: Vec<Seq<u32>>,
+    pub starts: Vec<Numbers>,
     pub propositions: Option<Seq<Seq<u8>>>,
     pub acc_name: Option<AccName>,
     pub acceptance: Option<RawAcc>,

@@ -4,7 +4,7 @@ ghost use Rattle.omega_acc.specs.Depth.{IsMemory};
 ghost use Rattle.omega_acc.specs.Expanding.{IsExpansion, expansion};
 ghost use Rattle.omega_automaton.specs.Faults.{is_labelled, passes};
 ghost use Rattle.omega_automaton.specs.Meaning.{IsEdgeOf, IsLabelOf, IsStateOf};
-ghost use Rattle.omega_automaton.specs.layout.Trials.{is_faulty, labels_pass};
+ghost use Rattle.omega_automaton.specs.layout.Findings.{is_faulty, labels_pass};
 
 use crate::edge::Edge;
 use crate::making::marks::marks_of;
@@ -46,12 +46,13 @@ fn state_of(alloc: Global, aliases: &Aliases, state: RawState) -> Result<State, 
         edges,
     } = state;
     let label = label_of(alloc, aliases, label)?;
+    let marks = marks_of(alloc, marks)?;
     let edges = edges_of(alloc, aliases, edges)?;
     Ok(State {
         label,
         number,
         name,
-        marks: marks_of(alloc, marks),
+        marks,
         edges,
     })
 }
@@ -82,10 +83,11 @@ fn edge_of(alloc: Global, aliases: &Aliases, edge: RawEdge) -> Result<Edge, Refu
         marks,
     } = edge;
     let label = label_of(alloc, aliases, label)?;
+    let marks = marks_of(alloc, marks)?;
     Ok(Edge {
         label,
         targets,
-        marks: marks_of(alloc, marks),
+        marks,
     })
 }
 
@@ -100,15 +102,15 @@ fn label_of(
     ensures err { IfErr result IsMemory }
 {
     match label {
-        Some(label) => Ok(Some(sound_label(alloc, aliases, &label)?)),
+        Some(label) => Ok(Some(sound_label(alloc, aliases, label)?)),
         None => Ok(None),
     }
 }
 
 /// A label without a fault with its aliases replaced, so that memory alone can be wanting.
-fn sound_label(alloc: Global, aliases: &Aliases, label: &RawLabel) -> Result<Label, Refusal>
-    requires { is_faulty (expansion aliases.now label.now) ≡ false }
-    ensures ok { IfOk result (λ made. IsExpansion aliases.now label.now made) }
+fn sound_label(alloc: Global, aliases: &Aliases, label: RawLabel) -> Result<Label, Refusal>
+    requires { is_faulty (expansion aliases.now label) ≡ false }
+    ensures ok { IfOk result (λ made. IsExpansion aliases.now label made) }
     ensures err { IfErr result IsMemory }
 {
     expand(alloc, label, aliases)

@@ -1,30 +1,16 @@
--- What is put out is the label of the meaning, which has no fault.
-use Rattle.std.proofs.Common.{◌++◌, [], Some, take, ap, subst, sym, ◌∙◌, IsSome}
-use Rattle.omega_acc.specs.Expanding.{entries_of, expansion, replaced}
-use Rattle.omega_acc.specs.layout.Emitting.{nodes_of}
-use Rattle.omega_acc.proofs.EntryLemmas.{shallow-entries, shallow-replaced, take-entries_of}
-use Rattle.omega_acc.proofs.ExpansionLemmas.{IsLabel-sound, sound-some, tree-sound}
+-- A label without aliases is its own expansion, but for its parentheses.
+use Rattle.std.proofs.Common.{[], sym, ◌∙◌}
+use Rattle.omega_acc.specs.Expanding.{entries_of}
+use Rattle.omega_acc.proofs.BareLemmas.{expansion-bare, shallow-bare}
 use Rattle.omega_acc.proofs.expansion.expand.Goals as goal
 
-pub emit-requires-clause-defined : goal.emit-requires-clause-defined
-emit-requires-clause-defined c =
-    subst (λ entries. IsSome (replaced entries c.args.raw.now)) (sym (take-entries_of c.args.aliases.now c.len.result c.len.ensures))
-    (sound-some (expansion c.args.aliases.now c.args.raw.now) c.in_ok-size.ensures.ok.sound)
+pub without_parentheses-requires-clause-no_alias : goal.without_parentheses-requires-clause-no_alias
+without_parentheses-requires-clause-no_alias c = sym c.has_alias.ensures ∙ c.if-has_alias.false
 
-pub of_nodes-requires : goal.of_nodes-requires
-of_nodes-requires c =
-    IsLabel-sound (expansion c.args.aliases.now c.args.raw.now) _ c.in_ok-size.ensures.ok.sound
-    (shallow-replaced (entries_of [] c.args.aliases.now) (shallow-entries [] c.args.aliases.now tt) c.args.raw.now)
-    (c.in_ok-emit.ensures.ok
-    ∙ (ap (λ front. front ++ nodes_of (replaced (take c.len.result (entries_of [] c.args.aliases.now)) c.args.raw.now)) c.in_ok-nodes.ensures.items
-    ∙ ap (λ entries. nodes_of (replaced entries c.args.raw.now)) (take-entries_of c.args.aliases.now c.len.result c.len.ensures)))
+pub without_parentheses-requires-clause-shallow : goal.without_parentheses-requires-clause-shallow
+without_parentheses-requires-clause-shallow c =
+    shallow-bare (entries_of [] c.args.aliases.now) c.args.raw (sym c.has_alias.ensures ∙ c.if-has_alias.false) c.in_ok-size.ensures.ok.sound
 
-pub returns-clause-ok : goal.returns-clause-ok
-returns-clause-ok c = record {
-  sound = c.in_ok-size.ensures.ok.sound;
-  tree_is = tree-sound (expansion c.args.aliases.now c.args.raw.now) c.emit.new.out.items c.in_ok-size.ensures.ok.sound
-      (c.in_ok-emit.ensures.ok
-      ∙ (ap (λ front. front ++ nodes_of (replaced (take c.len.result (entries_of [] c.args.aliases.now)) c.args.raw.now)) c.in_ok-nodes.ensures.items
-      ∙ ap (λ entries. nodes_of (replaced entries c.args.raw.now)) (take-entries_of c.args.aliases.now c.len.result c.len.ensures)))
-      ∙ ap Some (sym c.of_nodes.ensures);
-}
+pub returns-else-has_alias-clause-ok : goal.returns-else-has_alias-clause-ok
+returns-else-has_alias-clause-ok c =
+    expansion-bare c.args.aliases.now c.args.raw _ (sym c.has_alias.ensures ∙ c.if-has_alias.false) c.in_ok-size.ensures.ok.sound c.without_parentheses.ensures

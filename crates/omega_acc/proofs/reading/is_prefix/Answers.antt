@@ -4,7 +4,7 @@ use Rattle.omega_acc.specs.RawLabel.{alias, constant, proposition}
 use Rattle.omega_acc.specs.Symbols.{seen_as}
 use Rattle.omega_acc.specs.layout.Building.{Wants}
 use Rattle.omega_acc.proofs.ReadingLemmas.{BeginNone, IsAtom, begins_others, called, has_atom, none_wanted, numbered, truth, wants_denied, wants_opened}
-use Rattle.omega_acc.specs.declared.raw_label.RawNode.TheVariants.{Alias}
+use Rattle.omega_acc.specs.declared.label.LabelNode.TheVariants.{Alias}
 use Rattle.omega_acc.proofs.reading.is_prefix.Goals as goal
 use Rattle.omega_acc.proofs.reading.is_prefix.Goals.{in-True+in_ok-push-in-True, in-False+in_ok-push-in-False, in-Int+in_ok-push-in-Int, in-AliasName+in_ok-count-in-AliasName+in_ok-push-in-AliasName+in_ok-extend_from_slice-in-AliasName}
 

@@ -30,7 +30,7 @@ returns-clause-gives g c = conj_given _ _ _ _ _ c.in_ok-states.ensures.ok (λ ot
 
 pub returns-clause-finds : goal.returns-clause-finds
 returns-clause-finds g c =
-    conj_found (g.S.TokenSource.left c.args.source.now) (g.S.TokenSource.left c.read_each.new.source) (Ok (c.in_ok-states.states)) (λ first more others rest follow spells.
+    conj_found (g.S.TokenSource.left c.args.source.now) (g.S.TokenSource.left c.read_numbers.new.source) (Ok (c.in_ok-states.states)) (λ first more others rest follow spells.
     let s1 = c.in_ok-first.ensures.finds first (each joined_row more others) rest tt tt spells in
     let s2 = c.in_ok-others.ensures.finds more others rest (all_any more) (joined_end others follow) s1.1 in
     (c.in_ok-states.ensures.ok ∙ (ap (λ x. x ∷ c.in_ok-others.others) s1.0 ∙ ap (λ x. first ∷ x) s2.0), s2.1))

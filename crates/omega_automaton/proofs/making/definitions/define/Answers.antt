@@ -14,13 +14,13 @@ pub returns-clause-ok : goal.returns-clause-ok
 returns-clause-ok c = record {
   aliases = c.in_ok-add.ensures.ok.1;
   fresh = unnamed_by_place c.args.definitions.now.aliases c.args.name.now c.in_ok-add.ensures.ok.0;
-  defined = sym c.in_ok-fails.ensures.ok ∙ c.if-branch.false;
+  defined = sym c.in_ok-found.ensures.ok.undefined ∙ c.if-found.false;
   deep = elim c.if-definitions.branch [
     | then-definitions w ↦ w.definitions-is ∙ sym (rw w.if-definitions.true refl)
-    | else-definitions w ↦ w.definitions-is ∙ (c.in_ok-deep.ensures.ok ∙ sym (rw w.if-definitions.false refl))
+    | else-definitions w ↦ w.definitions-is ∙ (c.in_ok-found.ensures.ok.deep ∙ sym (rw w.if-definitions.false refl))
   ];
   large = elim c.if-definitions-2.branch [
     | then-definitions-2 w ↦ w.definitions-is ∙ sym (rw w.if-definitions-2.true refl)
-    | else-definitions-2 w ↦ w.definitions-is ∙ (c.in_ok-large.ensures.ok ∙ sym (rw w.if-definitions-2.false refl))
+    | else-definitions-2 w ↦ w.definitions-is ∙ (c.in_ok-found.ensures.ok.large ∙ sym (rw w.if-definitions-2.false refl))
   ];
 }

@@ -1,0 +1,19 @@
+-- `findings_of_state`: of its own label and of its edges.
+use Rattle.std.proofs.Common.{List, subst, sum_by}
+use Rattle.std.specs.List.{list_any}
+use Rattle.omega_acc.specs.Expanding.{expansion}
+use Rattle.omega_raw.specs.declared.raw_edge.RawEdge.{RawEdge}
+use Rattle.omega_automaton.specs.Faults.{passes, size_under}
+use Rattle.omega_automaton.specs.layout.Findings.{AreFound}
+use Rattle.omega_automaton.proofs.FindingLemmas.{found-joined}
+use Rattle.omega_automaton.proofs.judging.findings.findings_of_state.Goals as goal
+
+pub returns-clause-ok : goal.returns-clause-ok
+returns-clause-ok c =
+    let of_edges =
+    subst (λ (edges : List RawEdge). AreFound (λ test. list_any (λ (edge : RawEdge). passes (λ label. test (expansion c.args.aliases.now label)) edge.label) edges)
+    (sum_by (λ (edge : RawEdge). size_under c.args.aliases.now edge.label) edges) c.in_ok-edges.edges) c.as_slice.ensures c.in_ok-edges.ensures.ok in
+    found-joined (λ test. passes (λ label. test (expansion c.args.aliases.now label)) c.args.state.now.label)
+    (λ test. list_any (λ (edge : RawEdge). passes (λ label. test (expansion c.args.aliases.now label)) edge.label) c.args.state.now.edges)
+    (size_under c.args.aliases.now c.args.state.now.label) (sum_by (λ (edge : RawEdge). size_under c.args.aliases.now edge.label) c.args.state.now.edges)
+    c.in_ok-own.own c.in_ok-edges.edges c.with.result c.in_ok-own.ensures.ok of_edges c.with.ensures

@@ -1,0 +1,137 @@
+ghost use Rattle.std.specs.Prelude.{◌≡◌, ◌≤◌, ◌+◌, Some, false, sum_by, IfErr, IfOk};
+ghost use Rattle.std.specs.List.{list_any};
+ghost use Rattle.omega_acc.specs.Depth.{IsMemory};
+ghost use Rattle.omega_acc.specs.Expanding.{expansion};
+ghost use Rattle.omega_automaton.specs.Faults.{is_labelled, label_total, passes, size_under};
+ghost use Rattle.omega_automaton.specs.Limits.{most_total_size};
+ghost use Rattle.omega_automaton.specs.layout.Findings.{AreFound, AreJoined, labels_pass};
+
+use crate::limits::MOST_TOTAL_SIZE;
+use omega_acc::{Aliases, RawLabel, expanded_size};
+use omega_raw::{RawEdge, RawState};
+use omega_text::{AutomatonFault, Refusal};
+use std::alloc::Global;
+
+/// What is found of labels with their aliases replaced.
+#[derive(Clone, Copy)]
+pub(crate) struct Findings {
+    /// Whether one reaches an undefined alias.
+    pub undefined: bool,
+    /// Whether one is too deep.
+    pub deep: bool,
+    /// Whether one is too large, and not too deep besides.
+    pub large: bool,
+    /// The tree nodes of all together, counted up to one more than the limit, where none has a fault.
+    pub size: u64,
+}
+
+impl Findings {
+    /// Of no labels.
+    fn none() -> Findings
+        ensures { AreFound (λ test. false) 0 result }
+    {
+        Findings {
+            undefined: false,
+            deep: false,
+            large: false,
+            size: 0,
+        }
+    }
+
+    /// Of these labels and of others.
+    fn with(self, other: Findings) -> Findings
+        requires one { self.size ≤ most_total_size + 1 }
+        requires other { other.size ≤ most_total_size + 1 }
+        ensures { AreJoined self other result }
+    {
+        Findings {
+            undefined: self.undefined || other.undefined,
+            deep: self.deep || other.deep,
+            large: self.large || other.large,
+            size: (self.size + other.size).min(MOST_TOTAL_SIZE + 1),
+        }
+    }
+}
+
+/// What is found of the labels of the body, each of which is measured once.
+pub(crate) fn findings_of_states(
+    alloc: Global,
+    states: &[RawState],
+    aliases: &Aliases,
+) -> Result<Findings, Refusal>
+    ensures ok { IfOk result (AreFound (λ test. labels_pass test aliases.now states.now) (sum_by (label_total aliases.now) states.now)) }
+    ensures err { IfErr result IsMemory }
+{
+    let mut found = Findings::none();
+    for state in states {
+        let more = findings_of_state(alloc, state, aliases)?;
+        found = found.with(more);
+    }
+    Ok(found)
+}
+
+/// What is found of the labels of a state and of its edges.
+fn findings_of_state(
+    alloc: Global,
+    state: &RawState,
+    aliases: &Aliases,
+) -> Result<Findings, Refusal>
+    ensures ok { IfOk result (AreFound (λ test. is_labelled (λ label. test (expansion aliases.now label)) state.now) (label_total aliases.now state.now)) }
+    ensures err { IfErr result IsMemory }
+{
+    let own = findings_of_label(alloc, &state.label, aliases)?;
+    let edges = findings_of_edges(alloc, state.edges.as_slice(), aliases)?;
+    Ok(own.with(edges))
+}
+
+/// What is found of the labels of edges.
+fn findings_of_edges(
+    alloc: Global,
+    edges: &[RawEdge],
+    aliases: &Aliases,
+) -> Result<Findings, Refusal>
+    ensures ok { IfOk result (AreFound (λ test. list_any (λ edge. passes (λ label. test (expansion aliases.now label)) edge.label) edges.now) (sum_by (λ edge. size_under aliases.now edge.label) edges.now)) }
+    ensures err { IfErr result IsMemory }
+{
+    let mut found = Findings::none();
+    for edge in edges {
+        let more = findings_of_label(alloc, &edge.label, aliases)?;
+        found = found.with(more);
+    }
+    Ok(found)
+}
+
+/// What is found of a label that may be there.
+fn findings_of_label(
+    alloc: Global,
+    label: &Option<RawLabel>,
+    aliases: &Aliases,
+) -> Result<Findings, Refusal>
+    ensures ok { IfOk result (AreFound (λ test. passes (λ label. test (expansion aliases.now label)) label.now) (size_under aliases.now label.now)) }
+    ensures err { IfErr result IsMemory }
+{
+    match label {
+        Some(label) => findings_of(alloc, label, aliases),
+        None => Ok(Findings::none()),
+    }
+}
+
+/// What is found of one label.
+pub(crate) fn findings_of(
+    alloc: Global,
+    label: &RawLabel,
+    aliases: &Aliases,
+) -> Result<Findings, Refusal>
+    ensures ok { IfOk result (AreFound (λ test. test (expansion aliases.now label.now)) (size_under aliases.now (Some label.now))) }
+    ensures err { IfErr result IsMemory }
+{
+    let mut found = Findings::none();
+    match expanded_size(alloc, label, aliases) {
+        Ok(size) => found.size = u64::from(size).min(MOST_TOTAL_SIZE + 1),
+        Err(Refusal::Automaton(AutomatonFault::Alias)) => found.undefined = true,
+        Err(Refusal::Automaton(AutomatonFault::TooDeep)) => found.deep = true,
+        Err(Refusal::Automaton(AutomatonFault::Expansion)) => found.large = true,
+        Err(_) => return Err(Refusal::Memory),
+    }
+    Ok(found)
+}

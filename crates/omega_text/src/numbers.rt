@@ -1,0 +1,149 @@
+ghost use Rattle.std.specs.Prelude.{◌≡◌, ◌≤◌, [], ◌∷◌, ◌++◌, length, take, IfOk, OnErr, OnOk};
+ghost use Rattle.omega_text.specs.Numbers.{fits_in_place, numbers_in};
+
+use std::alloc::{AllocError, Global};
+use std::marker::Model;
+
+/// How many numbers stand in place.
+const MOST_IN_PLACE: u8 = 3;
+
+/// A list of numbers that contracts see as a list and nothing else. Up to three numbers stand in place and take no memory.
+///
+/// Lists of marks and of targets are nearly always so short: they take 16 bytes, where a vector takes 24 and an allocation.
+#[derive(Debug, Drop)]
+pub struct Numbers {
+    held: Held,
+}
+
+/// Where the numbers stand.
+#[derive(Debug, Drop)]
+enum Held {
+    /// In place: the first so many of the values.
+    Short { count: u8, values: [u32; 3] },
+    /// In memory.
+    Long(Box<Vec<u32>>),
+}
+
+impl Model for Numbers {
+    ghost use Rattle.std.specs.Prelude.{List, ℕ};
+    ghost use Rattle.omega_text.specs.Numbers.{fits_in_place, numbers_in};
+
+    ghost Value = { List ℕ };
+
+    ghost view = { λ n. numbers_in n.held };
+
+    ghost invariant = { λ n. fits_in_place n.held };
+}
+
+impl Numbers {
+    /// The empty list.
+    pub fn new() -> Self
+        ensures { result ≡ [] }
+    {
+        Numbers {
+            held: Held::Short {
+                count: 0,
+                values: [0; 3],
+            },
+        }
+    }
+
+    /// A list of one number.
+    pub fn one(number: u32) -> Self
+        ensures { result ≡ number ∷ [] }
+    {
+        Numbers {
+            held: Held::Short {
+                count: 1,
+                values: [number; 3],
+            },
+        }
+    }
+
+    /// The same numbers. Memory is taken for more than three.
+    pub fn from_slice(alloc: Global, numbers: &[u32]) -> Result<Self, AllocError>
+        ensures { IfOk result (λ list. list ≡ numbers.now) }
+    {
+        let mut list = Numbers::new();
+        for number in numbers {
+            list.push(alloc, *number)?;
+        }
+        Ok(list)
+    }
+
+    /// Adds a number at the end. Memory is taken from the fourth on.
+    pub fn push(&mut self, alloc: Global, number: u32) -> Result<(), AllocError>
+        ensures ok { OnOk result (self.new ≡ self.old ++ number ∷ []) }
+        ensures err { OnErr result (self.new ≡ self.old) }
+    {
+        match &mut self.held {
+            &mut Held::Short { count, values } => {
+                self.held = with_one_more(alloc, count, values, number)?;
+            }
+            Held::Long(numbers) => numbers.push(number)?,
+        }
+        Ok(())
+    }
+
+    pub fn as_slice(&self) -> &[u32]
+        ensures { result.now ≡ self.now }
+    {
+        match &self.held {
+            Held::Short { count, values } => &values[..*count as usize],
+            Held::Long(numbers) => numbers.as_slice(),
+        }
+    }
+
+    pub fn len(&self) -> usize
+        ensures { result ≡ length self.now }
+    {
+        self.as_slice().len()
+    }
+}
+
+/// The first so many of the values, and a number behind them: in memory where there is no room in place.
+fn with_one_more(
+    alloc: Global,
+    count: u8,
+    values: [u32; 3],
+    number: u32,
+) -> Result<Held, AllocError>
+    requires { count ≤ 3 }
+    ensures held { IfOk result (λ held. numbers_in held ≡ take count values ++ number ∷ []) }
+    ensures fits { IfOk result fits_in_place }
+{
+    if count < MOST_IN_PLACE {
+        let mut values = values;
+        values[count as usize] = number;
+        return Ok(Held::Short {
+            count: count + 1,
+            values,
+        });
+    }
+    let mut numbers = Vec::with_capacity(alloc, 8)?;
+    numbers.extend_from_slice(values.as_slice())?;
+    numbers.push(number)?;
+    Ok(Held::Long(Box::new(alloc, numbers)?))
+}
+
+impl PartialEq for Numbers {
+    ghost use Rattle.std.specs.Prelude.{nat_eq};
+    ghost use Rattle.std.specs.Cmp.Lexicographic.{pointwise};
+    ghost use Rattle.std.proofs.Common.{rules};
+    ghost use Rattle.std.specs.Cmp.Rules.{comparing};
+
+    ghost eq = { pointwise nat_eq };
+
+    ghost laws = { Prim.search (comparing, rules) };
+
+    fn eq(&self, other: &Numbers) -> bool {
+        self.as_slice() == other.as_slice()
+    }
+}
+
+impl Eq for Numbers {
+    ghost use Rattle.std.proofs.Common.{rules};
+    ghost use Rattle.std.specs.Cmp.Rules.{comparing};
+
+    ghost laws = { Prim.search (comparing, rules) };
+}
