@@ -17,23 +17,38 @@ use omega_solve::{Found, Nested, PackedTable, Solver};
 use omega_text::Seq;
 use std::alloc::Global;
 
-/// Whether an automaton is empty, or an accepting lasso, found with at most so many lifts in its emptiness game. The
-/// lasso begins at the first start that player 0 wins, and follows the choices until a state comes again at the same
-/// counter. Refused as `emptiness_game` refuses, or else with 50 where the table of lifting would be too wide, with 51
-/// where the budget does not suffice, or with 60.
+/// Whether an automaton is empty, or an accepting lasso, found with at most so many lifts in its emptiness game. Refused
+/// as `emptiness_game` refuses, or else with 50 where the table of lifting would be too wide, with 51 where the budget
+/// does not suffice, or with 60.
 pub fn emptiness(alloc: Global, automaton: &Automaton, budget: u64) -> Result<Verdict, Refusal>
     requires { budget ≤ most_lifts }
     ensures verdict { IfOk result (IsVerdict automaton.now) }
     ensures refused { IfErr result (IsEmptinessRefusal automaton.now budget) }
 {
-    unwon_is_empty();
-    automaton.keeps_limits();
     let game = emptiness_game(alloc, automaton)?;
     let solver: Solver<'_, PackedTable, Nested> = Solver::prepare(alloc, &game, Player::Zero)?;
     let found = Found::by(alloc, solver, budget)?;
-    match won_start(automaton, &game, found.won.as_slice()) {
+    verdict_of(alloc, automaton, &game, &found)
+}
+
+/// What an exact answer for player 0 in the emptiness game of an automaton says of it. The lasso begins at the first start
+/// that player 0 wins, and follows the choices until a state comes again at the same counter. 60 alone.
+pub fn verdict_of(
+    alloc: Global,
+    automaton: &Automaton,
+    game: &Game,
+    found: &Found,
+) -> Result<Verdict, Refusal>
+    requires game { IsEmptinessGame automaton.now game.now }
+    requires exact { IsExact game.now Zero found.now.won.items found.now.choice.items }
+    ensures verdict { IfOk result (IsVerdict automaton.now) }
+    ensures memory { IsOkUnless result Refusal.Memory }
+{
+    unwon_is_empty();
+    automaton.keeps_limits();
+    match won_start(automaton, game, found.won.as_slice()) {
         None => Ok(Verdict::Empty),
-        Some(start) => lasso_from(alloc, automaton, &game, &found, start),
+        Some(start) => lasso_from(alloc, automaton, game, found, start),
     }
 }
 

@@ -5,8 +5,6 @@ use Rattle.omega_automaton.specs.Automaton.{Description, IsAutomaton}
 use Rattle.omega_game.specs.Game.{Node}
 use Rattle.omega_game.specs.declared.player.Player.TheVariants.{Zero}
 use Rattle.omega_solve.specs.Headline.{IsExact}
-use Rattle.omega_solve.specs.Solver.{State, start_of}
-use Rattle.omega_solve.specs.Within.{IsFound}
 use Rattle.omega_solve.specs.declared.found.Found.{Found}
 use Rattle.omega_empty.specs.EmptinessGame.{IsEmptinessGame}
 use Rattle.omega_empty.specs.GameLaws.{UnwonIsEmpty}
@@ -25,19 +23,14 @@ knot_is_right a edges list knot (Ok verdict) knotted same is =
     subst (λ (l : List ℕ). IsAcceptingLasso a (take knot l) (drop knot l)) (sym same) knotted.accepting in
     subst (λ (v : Verdict). IsVerdict a v) (sym is) accepting
 
--- what a new solver finds is exact
-found_exact : (solver : State) (game : List Node) (budget : ℕ) (found : Found) → solver ≡ start_of game Zero
-    → IsFound solver.nodes solver.player budget found → IsExact game Zero found.won.items found.choice.items
-found_exact solver game budget found same is = (subst (λ (s : State). IsFound s.nodes s.player budget found) same is).exact
-
--- where it finds no start won, no lasso accepts
-pub none_accepts : UnwonIsEmpty → (a : Description) (game : List Node) (solver : State) (budget : ℕ) (found : Found) (won : List Bool)
-    → IsAutomaton a → IsEmptinessGame a game → solver ≡ start_of game Zero → IsFound solver.nodes solver.player budget found
+-- where an exact answer has no start won, no lasso accepts
+pub none_accepts : UnwonIsEmpty → (a : Description) (game : List Node) (found : Found) (won : List Bool)
+    → IsAutomaton a → IsEmptinessGame a game → IsExact game Zero found.won.items found.choice.items
     → won ≡ found.won.items → HasNoWonStart a game won → (stem cycle : List ℕ) → IsAcceptingLasso a stem cycle → ⊥
-none_accepts law a game solver budget found won automaton is same is_found won_is lost =
+none_accepts law a game found won automaton is exact won_is lost =
     (law a game automaton is).0
     (λ start v begins below named region. lost start v begins (record {
       node = below;
       named = named;
-      is_won = subst (λ (w : List Bool). slice_get w v ≡ Some true) (sym won_is) (((found_exact solver game budget found same is_found).exactly v).1 region);
+      is_won = subst (λ (w : List Bool). slice_get w v ≡ Some true) (sym won_is) ((exact.exactly v).1 region);
     }))
