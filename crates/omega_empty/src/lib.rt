@@ -18,7 +18,7 @@ mod turning;
 mod usable;
 mod verdict;
 
-pub use deciding::emptiness;
+pub use deciding::{emptiness, verdict_of};
 pub use game_laws::{unwon_is_empty, won_walks_accept};
 pub use games::emptiness_game;
 pub use laws::{
