@@ -1,5 +1,18 @@
-//! Tests of the public calls of `omega_automaton`, apart from it, so that the library is proved once.
+//! Tests of the public calls of `omega_acc`, `omega_raw`, `omega_automaton`, `omega_hoa` and `omega_canon`, apart from them,
+//! so that each library is proved once. They stand in one crate, since each crate of tests has to load what it tests.
 #![tactic(auto)]
 
 #[cfg(test)]
-mod tests;
+mod acc;
+#[cfg(test)]
+mod automaton;
+#[cfg(test)]
+mod canon;
+#[cfg(test)]
+mod hoa;
+#[cfg(test)]
+mod outcomes;
+#[cfg(test)]
+mod raw;
+#[cfg(test)]
+mod texts;

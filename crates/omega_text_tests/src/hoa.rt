@@ -1,14 +1,14 @@
 ghost use Rattle.std.specs.Prelude.{◌+◌, ◌<◌, ◌≤◌, ◌^◌, length, IfOk};
 ghost use Rattle.omega_text_tests.specs.Read.{HasReadTo};
 
+use crate::rows::assert_row;
 use omega_text::{HoaKind, HoaTokenizer, PlacedToken, Settled, TextFault, hoa_tokens};
 use std::alloc::{AllocError, Global};
-use std::test::Fail;
 
 pub(crate) type Part = (HoaKind, usize, usize);
 
 // Texts, the kinds and places of their tokens, and the number and the place of the fault behind them.
-pub(crate) const TEXTS: [(&[u8], &[Part], Option<(u32, usize)>); 42] = [
+pub(crate) static TEXTS: [(&[u8], &[Part], Option<(u32, usize)>); 42] = [
     (b"", &[], None),
     (b" \t\r\n", &[], None),
     (b"t", &[(HoaKind::True, 0, 1)], None),
@@ -105,7 +105,7 @@ pub(crate) const TEXTS: [(&[u8], &[Part], Option<(u32, usize)>); 42] = [
 ];
 
 // Texts, and how many of their tokens are settled by each byte; 9 from the fault on.
-const SETTLED: [(&str, &[usize]); 12] = [
+static SETTLED: [(&str, &[usize]); 12] = [
     ("a b", &[0, 1, 1]),
     ("ab:", &[0, 0, 1]),
     ("t(0)", &[0, 2, 2, 4]),
@@ -121,7 +121,7 @@ const SETTLED: [(&str, &[usize]); 12] = [
 ];
 
 // Texts, the places of the bytes of theirs by which a mark or a fault is settled, and the number and the place of the fault.
-const STOPS: [(&str, &[usize], Option<(u32, usize)>); 8] = [
+static STOPS: [(&str, &[usize], Option<(u32, usize)>); 8] = [
     (
         "HOA: v1 \"a\" 12 --BODY-- State: 0 {1} --END--\n",
         &[22, 43],
@@ -304,33 +304,52 @@ fn is_cut(alloc: Global, text: &[u8], parts: &[Part], fault: Option<(u32, usize)
 
 const LONGEST: usize = 100;
 
-#[test]
-fn texts_are_cut_whole_and_in_two_pieces(rt: HostRuntime) -> Result<(), Fail> {
-    for (text, parts, fault) in TEXTS.iter() {
-        assert_eq!(rt; text.len() < LONGEST, true);
-        assert_eq!(rt; is_cut(rt.alloc(), *text, *parts, *fault), true);
-        assert_eq!(rt; wrong_cut(rt.alloc(), *text, *parts, *fault)?, None);
+// Whether nothing wrong was found.
+fn is_nowhere(found: Result<Option<usize>, AllocError>) -> bool {
+    match found {
+        Ok(place) => place.is_none(),
+        Err(_) => false,
     }
-    Ok(())
+}
+
+// Whether a text is cut into these parts as a whole and in two pieces.
+fn is_cut_alike(alloc: Global, text: &[u8], parts: &[Part], fault: Option<(u32, usize)>) -> bool {
+    text.len() < LONGEST
+        && is_cut(alloc, text, parts, fault)
+        && is_nowhere(wrong_cut(alloc, text, parts, fault))
 }
 
 #[test]
-fn each_token_is_settled_at_its_byte(rt: HostRuntime) -> Result<(), Fail> {
-    for (text, counts) in SETTLED.iter() {
-        assert_eq!(rt; text.len() < LONGEST, true);
-        assert_eq!(rt; wrong_byte(rt.alloc(), text.as_bytes(), *counts)?, None);
+fn texts_are_cut_whole_and_in_two_pieces(rt: HostRuntime) {
+    for (row, (text, parts, fault)) in TEXTS.iter().enumerate() {
+        assert_row(&rt, row, is_cut_alike(rt.alloc(), text, parts, *fault));
     }
-    Ok(())
+}
+
+// Whether so many tokens are settled by each byte of a text.
+fn are_settled(alloc: Global, text: &[u8], counts: &[usize]) -> bool {
+    text.len() < LONGEST && is_nowhere(wrong_byte(alloc, text, counts))
 }
 
 #[test]
-fn bytes_are_passed_up_to_marks_and_faults(rt: HostRuntime) -> Result<(), Fail> {
-    for (text, stops, fault) in STOPS.iter() {
-        assert_eq!(rt; text.len() < LONGEST, true);
-        assert_eq!(rt;
-            wrong_stop(rt.alloc(), text.as_bytes(), *stops, *fault)?,
-            None
+fn each_token_is_settled_at_its_byte(rt: HostRuntime) {
+    for (row, (text, counts)) in SETTLED.iter().enumerate() {
+        assert_row(&rt, row, are_settled(rt.alloc(), text.as_bytes(), counts));
+    }
+}
+
+// Whether a tokenizer stops at these places of a text.
+fn are_stops(alloc: Global, text: &[u8], stops: &[usize], fault: Option<(u32, usize)>) -> bool {
+    text.len() < LONGEST && is_nowhere(wrong_stop(alloc, text, stops, fault))
+}
+
+#[test]
+fn bytes_are_passed_up_to_marks_and_faults(rt: HostRuntime) {
+    for (row, (text, stops, fault)) in STOPS.iter().enumerate() {
+        assert_row(
+            &rt,
+            row,
+            are_stops(rt.alloc(), text.as_bytes(), stops, *fault),
         );
     }
-    Ok(())
 }

@@ -14,6 +14,8 @@ mod reading;
 #[cfg(test)]
 mod refusal;
 #[cfg(test)]
+mod rows;
+#[cfg(test)]
 mod seq;
 #[cfg(test)]
 mod source;

@@ -1,4 +1,6 @@
-use omega_text::{PgKind, TextFault, next_pg_token, pg_tokens};
+use crate::rows::assert_row;
+use crate::source::{has_kind, has_value};
+use omega_text::{PgKind, TextFault, Token, next_pg_token, pg_tokens};
 use std::alloc::Global;
 use std::test::Fail;
 
@@ -10,7 +12,7 @@ fn answer(alloc: Global, text: &[u8]) -> Result<usize, (u32, Option<usize>)> {
     }
 }
 
-const TOKENS: [(PgKind, &str, u32, usize, usize); 16] = [
+static TOKENS: [(PgKind, &str, u32, usize, usize); 16] = [
     (PgKind::Parity, "parity", 0, 0, 6),
     (PgKind::Number, "9", 9, 7, 8),
     (PgKind::Semicolon, ";", 0, 8, 9),
@@ -29,24 +31,37 @@ const TOKENS: [(PgKind, &str, u32, usize, usize); 16] = [
     (PgKind::Semicolon, ";", 0, 32, 33),
 ];
 
+fn is_token(token: &Token<'_, PgKind>, want: &(PgKind, &str, u32, usize, usize)) -> bool {
+    let (kind, bytes, value, start, end) = *want;
+    token.kind == kind
+        && token.text == bytes.as_bytes()
+        && token.value == value
+        && token.span.start == start
+        && token.span.end == end
+}
+
+fn are_tokens(tokens: &[Token<'_, PgKind>], want: &[(PgKind, &str, u32, usize, usize)]) -> bool {
+    for (place, token) in tokens.iter().enumerate() {
+        match want.get(place) {
+            Some(want) => if !is_token(token, want) {
+                return false;
+            },
+            None => return false,
+        }
+    }
+    tokens.len() == want.len()
+}
+
 #[test]
 fn a_game_text_is_cut(rt: HostRuntime) -> Result<(), Fail> {
     let text = b"parity 9; 9 3 1 4;\t4 2 0 9,4 \"a\";\r\n".as_slice();
     let tokens = pg_tokens(rt.alloc(), text)?;
-    assert_eq!(rt; tokens.len(), TOKENS.len());
-    for (token, want) in tokens.iter().zip(TOKENS.iter()) {
-        let (kind, bytes, value, start, end) = *want;
-        assert_eq!(rt; token.kind, kind);
-        assert_eq!(rt; token.text, bytes.as_bytes());
-        assert_eq!(rt; token.value, value);
-        assert_eq!(rt; token.span.start, start);
-        assert_eq!(rt; token.span.end, end);
-    }
+    assert!(rt; are_tokens(tokens.as_slice(), TOKENS.as_slice()));
     Ok(())
 }
 
 // How many tokens texts have, or the number and the place of their refusal.
-const TEXTS: [(&str, Result<usize, (u32, Option<usize>)>); 31] = [
+static TEXTS: [(&str, Result<usize, (u32, Option<usize>)>); 31] = [
     ("", Ok(0)),
     (" \t\n\r", Ok(0)),
     ("12 34", Ok(2)),
@@ -85,24 +100,27 @@ const TEXTS: [(&str, Result<usize, (u32, Option<usize>)>); 31] = [
 
 #[test]
 fn texts_are_cut_into_longest_tokens_or_refused(rt: HostRuntime) {
-    for (text, want) in TEXTS.iter() {
-        assert_eq!(rt; answer(rt.alloc(), text.as_bytes()), *want, "for {text:?}");
+    for (row, (text, want)) in TEXTS.iter().enumerate() {
+        assert_row(&rt, row, answer(rt.alloc(), text.as_bytes()) == *want);
     }
 }
 
 #[test]
 fn tokens_come_one_at_a_time(rt: HostRuntime) -> Result<(), Fail> {
     let text = b" 7;x".as_slice();
-    let number = next_pg_token(text, 0)?.ok_or("a number")?;
-    assert_eq!(rt; number.value, 7);
-    let sign = next_pg_token(text, 2)?.ok_or("a sign")?;
-    assert_eq!(rt; sign.kind, PgKind::Semicolon);
-    assert_eq!(rt; next_pg_token(text, 4)?.is_none(), true);
-    assert_eq!(rt;
-        next_pg_token(text, 3).err(),
-        Some(TextFault::Lex { at: 3 })
-    );
+    assert!(rt; has_value(next_pg_token(text, 0)?, 7));
+    assert!(rt; has_kind(next_pg_token(text, 2)?, PgKind::Semicolon));
+    assert!(rt; next_pg_token(text, 4)?.is_none());
+    assert!(rt; next_pg_token(text, 3).err() == Some(TextFault::Lex { at: 3 }));
     Ok(())
+}
+
+// Whether a text is one name.
+fn is_name(text: &[u8]) -> bool {
+    match next_pg_token(text, 0) {
+        Ok(Some(token)) => token.kind == PgKind::Name && token.text == text,
+        _ => false,
+    }
 }
 
 #[test]
@@ -110,16 +128,11 @@ fn names_are_cut_at_each_length(rt: HostRuntime) -> Result<(), Fail> {
     let mut text = vec![in rt.alloc(); b'"']?;
     for length in 0..300usize {
         text.push(b'"')?;
-        let name = next_pg_token(text.as_slice(), 0)?.ok_or("a name")?;
-        assert_eq!(rt; name.kind, PgKind::Name);
-        assert_eq!(rt; name.text, text.as_slice());
+        assert_row(&rt, length, is_name(text.as_slice()));
         text.pop();
         text.push(b'a')?;
-        assert_eq!(rt;
-            answer(rt.alloc(), text.as_slice()),
-            Err((1, Some(0))),
-            "after {length}"
-        );
+        let open = answer(rt.alloc(), text.as_slice());
+        assert_row(&rt, length, open == Err((1, Some(0))));
     }
     Ok(())
 }

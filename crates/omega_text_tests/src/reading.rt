@@ -1,3 +1,4 @@
+use crate::rows::assert_row;
 use omega_text::{PgKind, Refusal, Token, TokenReader, read_text};
 
 // Takes two tokens.
@@ -39,7 +40,7 @@ fn answer(text: &str) -> Result<bool, (u32, Option<usize>)> {
     }
 }
 
-const READ: [(&str, Result<bool, (u32, Option<usize>)>); 7] = [
+static READ: [(&str, Result<bool, (u32, Option<usize>)>); 7] = [
     (" 7;", Ok(true)),
     ("", Err((3, Some(0)))),
     ("7 ", Err((3, Some(2)))),
@@ -51,7 +52,7 @@ const READ: [(&str, Result<bool, (u32, Option<usize>)>); 7] = [
 
 #[test]
 fn texts_are_read_to_their_end_or_refused(rt: HostRuntime) {
-    for (text, want) in READ.iter() {
-        assert_eq!(rt; answer(text), *want, "for {text:?}");
+    for (row, (text, want)) in READ.iter().enumerate() {
+        assert_row(&rt, row, answer(text) == *want);
     }
 }

@@ -1,7 +1,9 @@
 use crate::hoa::{Part, TEXTS, number_and_place};
+use crate::rows::assert_row;
 use omega_text::{
-    Cursor, HoaKind, PgKind, TextCursor, TokenSource, check_tokens, hoa_tokens, pg_tokens,
+    Cursor, HoaKind, PgKind, TextCursor, Token, TokenSource, check_tokens, hoa_tokens,
 };
+use std::alloc::Global;
 use std::test::Fail;
 
 // Whether a source gives tokens of these parts, and then no more of a text of this length.
@@ -12,6 +14,27 @@ fn gives<'a, S: TokenSource<'a, HoaKind>>(source: &mut S, parts: &[Part], length
         }
     }
     source.place() == length && source.look().is_none() && source.take().is_none()
+}
+
+/// Whether a token was given that has this value.
+pub(crate) fn has_value(token: Option<Token<'_, PgKind>>, value: u32) -> bool {
+    match token {
+        Some(token) => token.value == value,
+        None => false,
+    }
+}
+
+/// Whether a token of this kind was given.
+pub(crate) fn has_kind(token: Option<Token<'_, PgKind>>, kind: PgKind) -> bool {
+    match token {
+        Some(token) => token.kind == kind,
+        None => false,
+    }
+}
+
+/// Whether a source gives no more, and stands at the end of a text of this length.
+pub(crate) fn is_at_end<'a, S: TokenSource<'a, PgKind>>(source: &mut S, length: usize) -> bool {
+    source.look().is_none() && source.take().is_none() && source.place() == length
 }
 
 // Whether a source shows a token of this part, and then gives it.
@@ -43,41 +66,61 @@ fn is_gone_over(text: &[u8], parts: &[Part], fault: Option<(u32, usize)>) -> boo
 }
 
 #[test]
-fn texts_are_gone_over_with_no_list(rt: HostRuntime) -> Result<(), Fail> {
-    for (text, parts, fault) in TEXTS.iter() {
-        assert_eq!(rt; is_gone_over(*text, *parts, *fault), true);
+fn texts_are_gone_over_with_no_list(rt: HostRuntime) {
+    for (row, (text, parts, fault)) in TEXTS.iter().enumerate() {
+        assert_row(&rt, row, is_gone_over(text, parts, *fault));
     }
-    Ok(())
+}
+
+// Whether a list of the tokens of a text gives these parts.
+fn is_gone_over_alike(alloc: Global, text: &[u8], parts: &[Part]) -> bool {
+    match hoa_tokens(alloc, text) {
+        Ok(tokens) => gives(
+            &mut Cursor::new(tokens.as_slice(), text.len()),
+            parts,
+            text.len(),
+        ),
+        Err(_) => false,
+    }
 }
 
 #[test]
-fn lists_are_gone_over_alike(rt: HostRuntime) -> Result<(), Fail> {
-    for (text, parts, fault) in TEXTS.iter() {
+fn lists_are_gone_over_alike(rt: HostRuntime) {
+    for (row, (text, parts, fault)) in TEXTS.iter().enumerate() {
         if fault.is_none() {
-            let tokens = hoa_tokens(rt.alloc(), *text)?;
-            let mut source = Cursor::new(tokens.as_slice(), text.len());
-            assert_eq!(rt; gives(&mut source, *parts, text.len()), true);
+            assert_row(&rt, row, is_gone_over_alike(rt.alloc(), text, parts));
         }
     }
-    Ok(())
+}
+
+// Whether a source gives `parity`, 12 and `;` of a text of 11 bytes, the number from byte 7 on.
+fn gives_header<'a, S: TokenSource<'a, PgKind>>(source: &mut S) -> bool {
+    has_kind(source.take(), PgKind::Parity)
+        && has_value(source.look(), 12)
+        && source.place() == 7
+        && has_value(source.take(), 12)
+        && has_kind(source.take(), PgKind::Semicolon)
+        && is_at_end(source, 11)
+}
+
+// Whether a cursor over a text gives such a header.
+fn is_header(text: &[u8]) -> bool {
+    match check_tokens::<PgKind>(text) {
+        Ok(()) => gives_header(&mut TextCursor::<PgKind>::new(text)),
+        Err(_) => false,
+    }
+}
+
+// The fault of a text of a game.
+fn fault_of(text: &[u8]) -> Option<(u32, usize)> {
+    match check_tokens::<PgKind>(text) {
+        Ok(()) => None,
+        Err(fault) => Some(number_and_place(fault)),
+    }
 }
 
 #[test]
-fn game_texts_are_gone_over(rt: HostRuntime) -> Result<(), Fail> {
-    let text = b"parity 12; ".as_slice();
-    assert_eq!(rt;
-        check_tokens::<PgKind>(b"0 01;").map_err(number_and_place),
-        Err((2, 2))
-    );
-    if check_tokens::<PgKind>(text).is_ok() {
-        let mut source = TextCursor::<PgKind>::new(text);
-        assert_eq!(rt; source.take().ok_or("a word")?.kind, PgKind::Parity);
-        assert_eq!(rt; source.look().ok_or("a number")?.value, 12);
-        assert_eq!(rt; source.place(), 7);
-        assert_eq!(rt; source.take().ok_or("a number")?.value, 12);
-        assert_eq!(rt; source.take().ok_or("a sign")?.kind, PgKind::Semicolon);
-        assert_eq!(rt; source.take().is_none(), true);
-        assert_eq!(rt; source.place(), 11);
-    }
-    Ok(())
+fn game_texts_are_gone_over(rt: HostRuntime) {
+    assert!(rt; is_header(b"parity 12; ".as_slice()));
+    assert!(rt; fault_of(b"0 01;".as_slice()) == Some((2, 2)));
 }

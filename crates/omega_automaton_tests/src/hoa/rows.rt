@@ -1,9 +1,11 @@
-use super::{Told, both, counts, told};
-use omega_hoa::{Automaton, read_one, read_stream};
-use std::test::Fail;
+use super::{are_both, counts, is_one};
+use crate::automaton::values::counts as sizes;
+use crate::outcomes::{Told, assert_row, told};
+use omega_hoa::{read_one, read_stream};
+use std::alloc::Global;
 
 // Texts of one segment, and what each is answered alone and as a stream.
-const SEGMENTS: [(&str, u32); 14] = [
+static SEGMENTS: [(&str, u32); 14] = [
     ("HOA: v2 --BODY-- --END--", 20),
     ("HOA: v1 States: 1 States: 1 --BODY-- --END--", 21),
     ("HOA: v1 Foo: 1 --BODY-- --END--", 22),
@@ -43,9 +45,12 @@ const SEGMENTS: [(&str, u32); 14] = [
 
 #[test]
 fn segments_are_judged_alone_and_in_streams(rt: HostRuntime) {
-    for (text, number) in SEGMENTS.iter() {
-        let want = (*number, None);
-        assert_eq!(rt; both(rt.alloc(), text.as_bytes()), (want, want), "{text}");
+    for (row, (text, number)) in SEGMENTS.iter().enumerate() {
+        assert_row(
+            &rt,
+            row,
+            are_both(rt.alloc(), text.as_bytes(), (*number, None)),
+        );
     }
 }
 
@@ -53,44 +58,40 @@ fn segments_are_judged_alone_and_in_streams(rt: HostRuntime) {
 pub(super) const ABORTED_FIRST: &str =
     "HOA: ( & 7 nonsense --ABORT-- /*a/*b*/c*/ HOA: v1 Acceptance: 0 t --BODY-- --END--";
 
-#[test]
-fn an_aborted_segment_stands_before_an_automaton(rt: HostRuntime) -> Result<(), Fail> {
-    let items = read_stream(rt.alloc(), ABORTED_FIRST.as_bytes())?;
-    assert_eq!(rt; counts(items.as_slice()), (1, 1));
-    assert_eq!(rt;
-        told(read_one(rt.alloc(), ABORTED_FIRST.as_bytes())),
-        (3, Some(20))
-    );
-    Ok(())
+// Whether a text is a stream of so many aborted segments and automata.
+fn has_items(alloc: Global, text: &str, want: (usize, usize)) -> bool {
+    match read_stream(alloc, text.as_bytes()) {
+        Ok(items) => counts(items.as_slice()) == want,
+        Err(_) => false,
+    }
 }
 
 #[test]
-fn nothing_is_a_stream_and_no_automaton(rt: HostRuntime) -> Result<(), Fail> {
-    let items = read_stream(rt.alloc(), b"".as_slice())?;
-    assert_eq!(rt; items.len(), 0);
-    assert_eq!(rt; told(read_one(rt.alloc(), b"".as_slice())), (3, Some(0)));
-    Ok(())
+fn an_aborted_segment_stands_before_an_automaton(rt: HostRuntime) {
+    assert!(rt; has_items(rt.alloc(), ABORTED_FIRST, (1, 1)));
+    assert!(rt; is_one(rt.alloc(), ABORTED_FIRST.as_bytes(), (3, Some(20))));
+}
+
+#[test]
+fn nothing_is_a_stream_and_no_automaton(rt: HostRuntime) {
+    assert!(rt; has_items(rt.alloc(), "", (0, 0)));
+    assert!(rt; is_one(rt.alloc(), b"".as_slice(), (3, Some(0))));
 }
 
 const ALIASED: &str =
     "HOA: v1 States: 1 Start: 0 AP: 1 \"a\" Alias: @b 0|t Acceptance: 1 Inf(0) acc-name: Buchi --BODY-- State: 0 [!@b&0] 0 {0 0} --END--";
 
-// Its counts: states, propositions, sets, defined states and edges.
-fn sizes(automaton: &Automaton) -> [usize; 5] {
-    [
-        automaton.state_count() as usize,
-        automaton.propositions().len(),
-        automaton.set_count() as usize,
-        automaton.defined().len(),
-        automaton.edge_count() as usize,
-    ]
+// Whether an automaton has one state, proposition, set, defined state and edge.
+fn has_one_of_each(alloc: Global, text: &str) -> bool {
+    match read_one(alloc, text.as_bytes()) {
+        Ok(automaton) => sizes(&automaton) == (1, 1, 1, 1, 1),
+        Err(_) => false,
+    }
 }
 
 #[test]
-fn parts_of_an_automaton_are_read(rt: HostRuntime) -> Result<(), Fail> {
-    let automaton = read_one(rt.alloc(), ALIASED.as_bytes())?;
-    assert_eq!(rt; sizes(&automaton), [1, 1, 1, 1, 1]);
-    Ok(())
+fn parts_of_an_automaton_are_read(rt: HostRuntime) {
+    assert!(rt; has_one_of_each(rt.alloc(), ALIASED));
 }
 
 // The first text of the emptiness game.
@@ -101,14 +102,18 @@ fn is_lexical_or_syntax(told: Told) -> bool {
     told.0 == 1 || told.0 == 3
 }
 
+// Whether a text is refused for its tokens or its syntax, alone and as a stream, where only the empty one is read.
+fn is_refused_front(alloc: Global, text: &[u8]) -> bool {
+    let stream = told(read_stream(alloc, text));
+    is_lexical_or_syntax(told(read_one(alloc, text)))
+        && (is_lexical_or_syntax(stream) || text.is_empty() && stream == (0, None))
+}
+
 #[test]
 fn fronts_of_an_automaton_are_refused(rt: HostRuntime) {
     let text = LOOP.as_bytes();
-    assert_eq!(rt; both(rt.alloc(), text), ((0, None), (0, None)));
-    assert_eq!(rt; told(read_stream(rt.alloc(), b"".as_slice())), (0, None));
+    assert!(rt; are_both(rt.alloc(), text, (0, None)));
     for length in 0..text.len() {
-        let answers = both(rt.alloc(), &text[..length]);
-        assert!(rt; is_lexical_or_syntax(answers.0), "{length}");
-        assert!(rt; length == 0 || is_lexical_or_syntax(answers.1), "{length}");
+        assert_row(&rt, length, is_refused_front(rt.alloc(), &text[..length]));
     }
 }

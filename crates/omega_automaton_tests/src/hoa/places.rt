@@ -1,10 +1,9 @@
-use super::told;
-use omega_hoa::{read_one, read_stream};
-use std::alloc::{AllocError, Global};
-use std::test::Fail;
+use super::{are_both, is_stream_of};
+use crate::outcomes::assert_row;
+use crate::texts::text_of;
 
 // Segments that break a rule of the grammar, and the place of the first token with which no automaton goes on.
-const BROKEN: [(&str, usize); 23] = [
+static BROKEN: [(&str, usize); 23] = [
     ("HOA: --BODY-- --END--", 5),
     ("HOA: v1 --END--", 8),
     ("HOA: v1 HOA: --BODY-- --END--", 8),
@@ -32,23 +31,13 @@ const BROKEN: [(&str, usize); 23] = [
 
 #[test]
 fn places_count_from_the_first_byte(rt: HostRuntime) {
-    for (text, place) in BROKEN.iter() {
+    for (row, (text, place)) in BROKEN.iter().enumerate() {
         let want = (3, Some(*place));
-        assert_eq!(rt; told(read_one(rt.alloc(), text.as_bytes())), want, "{text}");
-        assert_eq!(rt;
-            told(read_stream(rt.alloc(), text.as_bytes())),
-            want,
-            "{text}"
-        );
+        assert_row(&rt, row, are_both(rt.alloc(), text.as_bytes(), want));
     }
 }
 
 const BEFORE: &str = "HOA: --ABORT-- ";
-
-// A segment behind another.
-fn second(alloc: Global, text: &str) -> Result<String, AllocError> {
-    format!(in alloc; "{BEFORE}{text}")
-}
 
 // The place of a fault in a segment behind another.
 fn second_place(place: usize) -> Option<usize> {
@@ -56,14 +45,10 @@ fn second_place(place: usize) -> Option<usize> {
 }
 
 #[test]
-fn places_in_later_segments_do_too(rt: HostRuntime) -> Result<(), Fail> {
-    for (text, place) in BROKEN.iter() {
-        let stream = second(rt.alloc(), *text)?;
-        assert_eq!(rt;
-            told(read_stream(rt.alloc(), stream.as_bytes())),
-            (3, second_place(*place)),
-            "{text}"
-        );
+fn places_in_later_segments_do_too(rt: HostRuntime) {
+    for (row, (text, place)) in BROKEN.iter().enumerate() {
+        let stream = text_of(rt.alloc(), &[(BEFORE, 1), (text, 1)]);
+        let want = (3, second_place(*place));
+        assert_row(&rt, row, is_stream_of(rt.alloc(), stream, want));
     }
-    Ok(())
 }

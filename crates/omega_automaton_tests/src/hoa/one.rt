@@ -1,8 +1,8 @@
-use super::{Told, told};
-use omega_hoa::{read_one, read_stream};
+use super::{is_one, is_stream};
+use crate::outcomes::{Told, assert_row};
 
 // Texts, and what each is answered as that of one automaton.
-const ALONE: [(&str, Told); 15] = [
+static ALONE: [(&str, Told); 15] = [
     ("", (3, Some(0))),
     ("  ", (3, Some(2))),
     ("x", (3, Some(0))),
@@ -26,17 +26,13 @@ const ALONE: [(&str, Told); 15] = [
 
 #[test]
 fn texts_of_no_automaton_are_refused(rt: HostRuntime) {
-    for (text, want) in ALONE.iter() {
-        assert_eq!(rt;
-            told(read_one(rt.alloc(), text.as_bytes())),
-            *want,
-            "{text}"
-        );
+    for (row, (text, want)) in ALONE.iter().enumerate() {
+        assert_row(&rt, row, is_one(rt.alloc(), text.as_bytes(), *want));
     }
 }
 
 // Texts, and what each is answered as that of a stream.
-const STREAMS: [(&str, Told); 16] = [
+static STREAMS: [(&str, Told); 16] = [
     ("", (0, None)),
     (" /* */ ", (0, None)),
     ("HOA: --ABORT--", (0, None)),
@@ -62,11 +58,7 @@ const STREAMS: [(&str, Told); 16] = [
 
 #[test]
 fn streams_are_read(rt: HostRuntime) {
-    for (text, want) in STREAMS.iter() {
-        assert_eq!(rt;
-            told(read_stream(rt.alloc(), text.as_bytes())),
-            *want,
-            "{text}"
-        );
+    for (row, (text, want)) in STREAMS.iter().enumerate() {
+        assert_row(&rt, row, is_stream(rt.alloc(), text.as_bytes(), *want));
     }
 }

@@ -1,39 +1,27 @@
-use omega_raw::{RawAutomaton, RawEdge, RawItem, RawState, read_raw};
-use omega_text::{Cursor, Refusal, hoa_tokens};
-use std::alloc::{AllocError, Global};
-use std::test::Fail;
-
-// What a text is read as: the automaton, and where the cursor then stands.
-fn read(alloc: Global, text: &[u8]) -> Result<(RawAutomaton, usize), Refusal> {
-    let tokens = hoa_tokens(alloc, text)?;
-    let mut cursor = Cursor::new(tokens.as_slice(), text.len());
-    let raw = read_raw(alloc, &mut cursor)?;
-    Ok((raw, cursor.place()))
-}
+//! Automata as they are written.
+use crate::outcomes::assert_row;
+use crate::texts::{raw_in, text_of};
+use omega_raw::{RawAutomaton, RawEdge, RawItem, RawState};
+use std::alloc::Global;
 
 // The number of a refusal and its place, or 0 and the place behind what was read.
 fn outcome(alloc: Global, text: &[u8]) -> (u32, usize) {
-    match read(alloc, text) {
+    match raw_in(alloc, text) {
         Ok((_, place)) => (0, place),
         Err(refusal) => (refusal.number(), refusal.at().unwrap_or(0)),
     }
 }
 
-// One text of two parts.
-fn joined(alloc: Global, front: &str, behind: &str) -> Result<Vec<u8>, AllocError> {
-    let mut text = Vec::new(alloc);
-    text.extend_from_slice(front.as_bytes())?;
-    text.extend_from_slice(behind.as_bytes())?;
-    Ok(text)
-}
-
-fn outcome_of_parts(alloc: Global, front: &str, behind: &str) -> Result<(u32, usize), AllocError> {
-    let text = joined(alloc, front, behind)?;
-    Ok(outcome(alloc, text.as_slice()))
+// Whether the text of two parts has this number, and the place between them.
+fn is_outcome(alloc: Global, front: &str, behind: &str, number: u32) -> bool {
+    match text_of(alloc, &[(front, 1), (behind, 1)]) {
+        Ok(text) => outcome(alloc, text.as_slice()) == (number, front.len()),
+        Err(_) => false,
+    }
 }
 
 // Texts up to the token that is left behind the automaton, and from there on.
-const ACCEPTED: [(&str, &str); 22] = [
+static ACCEPTED: [(&str, &str); 22] = [
     ("HOA: v1 --BODY-- --END--", ""),
     ("HOA: v1 --BODY-- --END-- ", "x"),
     ("HOA: v1 --BODY-- --END-- ", "HOA: v1 --BODY-- --END--"),
@@ -68,7 +56,7 @@ const ACCEPTED: [(&str, &str); 22] = [
 ];
 
 // Texts up to the first token with which no automaton goes on, and from there on, by the rows of the grammar.
-const BROKEN: [(&str, &str); 71] = [
+static BROKEN: [(&str, &str); 71] = [
     // automaton
     ("", ""),
     ("", "x"),
@@ -150,21 +138,17 @@ const BROKEN: [(&str, &str); 71] = [
 ];
 
 #[test]
-fn texts_of_the_grammar_are_read(rt: HostRuntime) -> Result<(), Fail> {
-    for (front, behind) in ACCEPTED.iter() {
-        let outcome = outcome_of_parts(rt.alloc(), front, behind)?;
-        assert_eq!(rt; outcome, (0, front.len()));
+fn texts_of_the_grammar_are_read(rt: HostRuntime) {
+    for (row, (front, behind)) in ACCEPTED.iter().enumerate() {
+        assert_row(&rt, row, is_outcome(rt.alloc(), front, behind, 0));
     }
-    Ok(())
 }
 
 #[test]
-fn other_texts_are_refused(rt: HostRuntime) -> Result<(), Fail> {
-    for (front, behind) in BROKEN.iter() {
-        let outcome = outcome_of_parts(rt.alloc(), front, behind)?;
-        assert_eq!(rt; outcome, (3, front.len()));
+fn other_texts_are_refused(rt: HostRuntime) {
+    for (row, (front, behind)) in BROKEN.iter().enumerate() {
+        assert_row(&rt, row, is_outcome(rt.alloc(), front, behind, 3));
     }
-    Ok(())
 }
 
 fn is_edge(edge: &RawEdge) -> bool {
@@ -203,10 +187,16 @@ fn is_automaton(raw: &RawAutomaton) -> bool {
     items && states && raw.version.as_slice() == b"v1".as_slice()
 }
 
+// Whether a text is read as that automaton.
+fn is_read(alloc: Global, text: &str) -> bool {
+    match raw_in(alloc, text.as_bytes()) {
+        Ok((raw, _)) => is_automaton(&raw),
+        Err(_) => false,
+    }
+}
+
 #[test]
-fn what_is_written_is_kept(rt: HostRuntime) -> Result<(), Fail> {
+fn what_is_written_is_kept(rt: HostRuntime) {
     let text = "HOA: v1 States: 3 --BODY-- State: [0] 1 \"n\\\"\" {} 2&0 {1 1} --END--";
-    let (raw, _) = read(rt.alloc(), text.as_bytes())?;
-    assert!(rt; is_automaton(&raw));
-    Ok(())
+    assert!(rt; is_read(rt.alloc(), text));
 }

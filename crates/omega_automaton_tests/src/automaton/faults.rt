@@ -1,12 +1,12 @@
-use super::{assert_outcome, outcome, text_of};
+use crate::outcomes::{assert_row, number_of, outcome_of};
+use crate::texts::text_with;
 use omega_acc::RawAcc;
 use omega_automaton::{RawAutomaton, Refusal, Seq, automaton_of};
 use omega_raw::{RawEdge, RawItem, RawState};
 use std::alloc::Global;
-use std::test::Fail;
 
 // Items, body, and the number of the refusal of a text of version v1 with both, or 0.
-const ITEMS: [(&str, &str, u32); 47] = [
+static ITEMS: [(&str, &str, u32); 47] = [
     ("States: 1 States: 1", "", 21),
     ("Acceptance: 0 t AP: 0 AP: 0", "", 21),
     ("Acceptance: 0 t Acceptance: 0 t", "", 21),
@@ -61,7 +61,7 @@ const ITEMS: [(&str, &str, u32); 47] = [
 ];
 
 // Bodies under one proposition, and the number of the refusal, or 0.
-const BODIES: [(&str, u32); 20] = [
+static BODIES: [(&str, u32); 20] = [
     ("", 0),
     ("State: 0 State: 1 State: 0", 28),
     ("State: 1 State: 0", 0),
@@ -84,79 +84,96 @@ const BODIES: [(&str, u32); 20] = [
     ("State: 0 {} 0 {} 0", 0),
 ];
 
-#[test]
-fn other_versions_are_refused(rt: HostRuntime) -> Result<(), Fail> {
-    for version in ["v2", "V1", "v", "v11", "v1a"].iter() {
-        let mut text = b"HOA: ".to_vec(rt.alloc())?;
-        text.extend_from_slice(version.as_bytes())?;
-        text.extend_from_slice(b" --BODY-- --END--")?;
-        assert_outcome(&rt, outcome(rt.alloc(), text.as_slice()), 20);
-    }
-    Ok(())
+static VERSIONS: [&str; 5] = ["v2", "V1", "v", "v11", "v1a"];
+
+// The number of the refusal of a text with this version, items and body, or 0.
+fn outcome_with(alloc: Global, version: &str, items: &str, body: &str) -> u32 {
+    outcome_of(alloc, text_with(alloc, version, items, body))
 }
 
 #[test]
-fn faults_of_items_are_refused(rt: HostRuntime) -> Result<(), Fail> {
-    for (items, body, number) in ITEMS.iter() {
-        let text = text_of(rt.alloc(), items.as_bytes(), body.as_bytes())?;
-        assert_outcome(&rt, outcome(rt.alloc(), text.as_slice()), *number);
+fn other_versions_are_refused(rt: HostRuntime) {
+    for (row, version) in VERSIONS.iter().enumerate() {
+        assert_row(&rt, row, outcome_with(rt.alloc(), version, "", "") == 20);
     }
-    Ok(())
 }
 
 #[test]
-fn faults_of_bodies_are_refused(rt: HostRuntime) -> Result<(), Fail> {
-    for (body, number) in BODIES.iter() {
-        let items = b"AP: 1 \"a\" Acceptance: 1 Inf(0)";
-        let text = text_of(rt.alloc(), items, body.as_bytes())?;
-        assert_outcome(&rt, outcome(rt.alloc(), text.as_slice()), *number);
+fn faults_of_items_are_refused(rt: HostRuntime) {
+    for (row, (items, body, number)) in ITEMS.iter().enumerate() {
+        let found = outcome_with(rt.alloc(), "v1", items, body);
+        assert_row(&rt, row, found == *number);
     }
-    Ok(())
 }
 
-// An automaton of one state with an edge, where the start and the edge list these states.
-fn written(alloc: Global, start: &[u32], targets: &[u32]) -> Result<RawAutomaton, Refusal> {
+#[test]
+fn faults_of_bodies_are_refused(rt: HostRuntime) {
+    let items = "AP: 1 \"a\" Acceptance: 1 Inf(0)";
+    for (row, (body, number)) in BODIES.iter().enumerate() {
+        let found = outcome_with(rt.alloc(), "v1", items, body);
+        assert_row(&rt, row, found == *number);
+    }
+}
+
+// A start and the acceptance of all runs.
+fn items_with(alloc: Global, start: &[u32]) -> Result<Seq<RawItem>, Refusal> {
     let mut items = Vec::new(alloc);
-    items.push(RawItem::Start(Seq::from_vec(start.to_vec(alloc)?)))?;
+    items.push(RawItem::Start(Numbers::from_slice(alloc, start)?))?;
     items.push(RawItem::Acceptance {
         count: 0,
         formula: RawAcc::constant(alloc, true)?,
     })?;
+    Ok(Seq::from_vec(items))
+}
+
+// One edge.
+fn edges_with(alloc: Global, targets: &[u32]) -> Result<Seq<RawEdge>, Refusal> {
     let mut edges = Vec::new(alloc);
     edges.push(RawEdge {
         label: None,
-        targets: Seq::from_vec(targets.to_vec(alloc)?),
+        targets: Numbers::from_slice(alloc, targets)?,
         marks: None,
     })?;
+    Ok(Seq::from_vec(edges))
+}
+
+// One state with an edge.
+fn states_with(alloc: Global, targets: &[u32]) -> Result<Seq<RawState>, Refusal> {
     let mut states = Vec::new(alloc);
     states.push(RawState {
         label: None,
         number: 0,
         name: None,
         marks: None,
-        edges: Seq::from_vec(edges),
+        edges: edges_with(alloc, targets)?,
     })?;
+    Ok(Seq::from_vec(states))
+}
+
+// An automaton of one state with an edge, where the start and the edge list these states.
+fn written(alloc: Global, start: &[u32], targets: &[u32]) -> Result<RawAutomaton, Refusal> {
+    let version = Seq::from_vec(b"v1".to_vec(alloc)?);
+    let items = items_with(alloc, start)?;
+    let states = states_with(alloc, targets)?;
     Ok(RawAutomaton {
-        version: Seq::from_vec(b"v1".to_vec(alloc)?),
-        items: Seq::from_vec(items),
-        states: Seq::from_vec(states),
+        version,
+        items,
+        states,
     })
 }
 
 // The number of the refusal of that automaton, or 0.
-fn outcome_of_lists(alloc: Global, start: &[u32], targets: &[u32]) -> Result<u32, Refusal> {
-    let raw = written(alloc, start, targets)?;
-    match automaton_of(alloc, raw) {
-        Ok(_) => Ok(0),
-        Err(refusal) => Ok(refusal.number()),
+fn outcome_of_lists(alloc: Global, start: &[u32], targets: &[u32]) -> u32 {
+    match written(alloc, start, targets) {
+        Ok(raw) => number_of(automaton_of(alloc, raw)),
+        Err(refusal) => refusal.number(),
     }
 }
 
 // No text writes an empty list of states. As a value it is refused with the states that are out of range.
 #[test]
-fn empty_lists_of_states_are_refused(rt: HostRuntime) -> Result<(), Fail> {
-    assert_outcome(&rt, outcome_of_lists(rt.alloc(), &[0], &[0])?, 0);
-    assert_outcome(&rt, outcome_of_lists(rt.alloc(), &[], &[0])?, 24);
-    assert_outcome(&rt, outcome_of_lists(rt.alloc(), &[0], &[])?, 24);
-    Ok(())
+fn empty_lists_of_states_are_refused(rt: HostRuntime) {
+    assert!(rt; outcome_of_lists(rt.alloc(), &[0], &[0]) == 0);
+    assert!(rt; outcome_of_lists(rt.alloc(), &[], &[0]) == 24);
+    assert!(rt; outcome_of_lists(rt.alloc(), &[0], &[]) == 24);
 }

@@ -1,14 +1,17 @@
+//! Labels, aliases, acceptance formulas and priorities.
 mod formulas;
-mod hostile;
+mod labels;
 mod reading;
 
+use crate::outcomes::{assert_row, is_text, number_of};
 use omega_acc::{
-    Acc, AccKind, AccName, Aliases, Order, Parameter, Parity, ParityKind, RawLabel,
+    Acc, AccKind, AccName, Aliases, Label, Order, Parameter, Parity, ParityKind, RawLabel,
     acceptance_kind, expand, expanded_size, parity_of, priority, satisfiable, write_acc,
     write_label,
 };
 use omega_text::{Refusal, Seq};
 use std::alloc::Global;
+use std::process::Abort;
 use std::test::Fail;
 
 // A node of a label in postfix order: digits are propositions, capitals aliases, and `(` puts a part in parentheses.
@@ -47,15 +50,23 @@ fn label(alloc: Global, postfix: &str) -> Result<RawLabel, Refusal> {
     part(alloc, &mut stack)
 }
 
-// The text of a label once expanded.
-fn text_of(alloc: Global, raw: RawLabel, aliases: &Aliases) -> Result<Vec<u8>, Refusal> {
-    let label = expand(alloc, raw, aliases)?;
+// The text of a label. Lent, as a function that owns a tree over several `?` is slow to prove.
+pub(crate) fn written(alloc: Global, label: &Label) -> Result<Vec<u8>, Refusal> {
     let mut text = Vec::new(alloc);
-    write_label(&label, &mut text)?;
+    write_label(label, &mut text)?;
     Ok(text)
 }
 
-const LABELS: [(&str, &str); 7] = [
+// The text of a label without aliases, once expanded.
+fn text_of(alloc: Global, raw: RawLabel) -> Result<Vec<u8>, Refusal> {
+    written(alloc, &expand(alloc, raw, &Aliases::new(alloc))?)
+}
+
+fn text_of_postfix(alloc: Global, postfix: &str) -> Result<Vec<u8>, Refusal> {
+    text_of(alloc, label(alloc, postfix)?)
+}
+
+static LABELS: [(&str, &str); 7] = [
     ("012&|", "0|1&2"),
     ("01|(2&", "(0|1)&2"),
     ("01&2&", "0&1&2"),
@@ -66,13 +77,14 @@ const LABELS: [(&str, &str); 7] = [
 ];
 
 #[test]
-fn labels_are_written(rt: HostRuntime) -> Result<(), Fail> {
-    let none = Aliases::new(rt.alloc());
-    for (postfix, want) in LABELS.iter() {
-        let text = text_of(rt.alloc(), label(rt.alloc(), postfix)?, &none)?;
-        assert!(rt; text.as_slice() == want.as_bytes());
+fn labels_are_written(rt: HostRuntime) {
+    for (row, (postfix, want)) in LABELS.iter().enumerate() {
+        assert_row(
+            &rt,
+            row,
+            is_text(text_of_postfix(rt.alloc(), postfix), want),
+        );
     }
-    Ok(())
 }
 
 // Aliases by their definitions, which bear the names from `A` on.
@@ -86,42 +98,71 @@ fn aliases(alloc: Global, definitions: &[&str]) -> Result<Aliases, Refusal> {
     Ok(aliases)
 }
 
-// The size of an alias once expanded, or the number of its refusal.
-fn size_of(alloc: Global, definitions: &[&str], name: &str) -> Result<u32, Refusal> {
-    expanded_size(alloc, &label(alloc, name)?, &aliases(alloc, definitions)?)
+// The size of a label once expanded.
+fn size_of(alloc: Global, definitions: &[&str], postfix: &str) -> Result<u32, Refusal> {
+    size_among(alloc, &aliases(alloc, definitions)?, postfix)
 }
 
-fn number_of<T: Drop>(answer: Result<T, Refusal>) -> u32 {
-    match answer {
-        Ok(_) => 0,
-        Err(refusal) => refusal.number(),
-    }
+fn size_among(alloc: Global, aliases: &Aliases, postfix: &str) -> Result<u32, Refusal> {
+    expanded_size(alloc, &label(alloc, postfix)?, aliases)
 }
 
 // `A` is defined by `B`, which comes later.
-const LATER: [&str; 2] = ["B", "0"];
-
-#[test]
-fn definitions_see_earlier_ones(rt: HostRuntime) {
-    assert!(rt; number_of(size_of(rt.alloc(), &LATER, "A")) == 27);
-    assert!(rt; number_of(size_of(rt.alloc(), &LATER, "B")) == 0);
-    assert!(rt; number_of(size_of(rt.alloc(), &LATER, "C")) == 27);
-}
+static LATER: [&str; 2] = ["B", "0"];
 
 // Each but the first is twice the one before.
-const DOUBLED: [&str; 20] = [
+static DOUBLED: [&str; 20] = [
     "0", "AA&", "BB&", "CC&", "DD&", "EE&", "FF&", "GG&", "HH&", "II&", "JJ&", "KK&", "LL&", "MM&",
     "NN&", "OO&", "PP&", "QQ&", "RR&", "SS&",
 ];
 
+// Labels over definitions, and their size once expanded or the number of the refusal.
+static LATER_SIZES: [(&str, Result<u32, u32>); 3] = [("A", Err(27)), ("B", Ok(1)), ("C", Err(27))];
+
+static DOUBLED_SIZES: [(&str, Result<u32, u32>); 5] = [
+    ("P", Ok(65_535)),
+    ("Q", Err(33)),
+    ("T", Err(33)),
+    ("P!", Ok(65_536)),
+    ("P0&", Err(33)),
+];
+
+// Asserts the sizes of labels over definitions.
+fn assert_sizes(
+    rt: &impl Abort,
+    alloc: Global,
+    definitions: &[&str],
+    rows: &[(&str, Result<u32, u32>)],
+) {
+    for (row, (postfix, want)) in rows.iter().enumerate() {
+        assert_row(
+            rt,
+            row,
+            is_size(size_of(alloc, definitions, postfix), *want),
+        );
+    }
+}
+
+fn is_size(found: Result<u32, Refusal>, want: Result<u32, u32>) -> bool {
+    match found {
+        Ok(size) => want == Ok(size),
+        Err(refusal) => want == Err(refusal.number()),
+    }
+}
+
 #[test]
-fn definitions_are_judged_before_they_are_copied(rt: HostRuntime) -> Result<(), Fail> {
-    assert!(rt; size_of(rt.alloc(), &DOUBLED, "P")? == 65_535);
-    assert!(rt; number_of(size_of(rt.alloc(), &DOUBLED, "Q")) == 33);
-    assert!(rt; number_of(size_of(rt.alloc(), &DOUBLED, "T")) == 33);
-    assert!(rt; size_of(rt.alloc(), &DOUBLED, "P!")? == 65_536);
-    assert!(rt; number_of(size_of(rt.alloc(), &DOUBLED, "P0&")) == 33);
-    Ok(())
+fn definitions_see_earlier_ones(rt: HostRuntime) {
+    assert_sizes(&rt, rt.alloc(), LATER.as_slice(), LATER_SIZES.as_slice());
+}
+
+#[test]
+fn definitions_are_judged_before_they_are_copied(rt: HostRuntime) {
+    assert_sizes(
+        &rt,
+        rt.alloc(),
+        DOUBLED.as_slice(),
+        DOUBLED_SIZES.as_slice(),
+    );
 }
 
 // `0` in pairs of parentheses, alone or as what an alias stands for.
@@ -136,7 +177,7 @@ fn wrapped(alloc: Global, pairs: u32) -> Result<RawLabel, Refusal> {
 fn wrapped_alias(alloc: Global, pairs: u32) -> Result<u32, Refusal> {
     let mut aliases = Aliases::new(alloc);
     aliases.add(b"A".as_slice(), wrapped(alloc, pairs)?)?;
-    expanded_size(alloc, &label(alloc, "A")?, &aliases)
+    size_among(alloc, &aliases, "A")
 }
 
 #[test]
@@ -160,14 +201,21 @@ fn judged(alloc: Global, raw: RawLabel) -> Result<bool, Refusal> {
     satisfiable(&expand(alloc, raw, &Aliases::new(alloc))?)
 }
 
-#[test]
-fn twelve_propositions_are_judged(rt: HostRuntime) -> Result<(), Fail> {
-    assert!(rt; judged(rt.alloc(), all_of(rt.alloc(), 12)?)?);
-    assert!(rt; number_of(judged(rt.alloc(), all_of(rt.alloc(), 13)?)) == 42);
-    Ok(())
+fn all_judged(alloc: Global, count: u32) -> Result<bool, Refusal> {
+    judged(alloc, all_of(alloc, count)?)
 }
 
-const JUDGED: [(&str, bool); 5] = [
+fn postfix_judged(alloc: Global, postfix: &str) -> Result<bool, Refusal> {
+    judged(alloc, label(alloc, postfix)?)
+}
+
+#[test]
+fn twelve_propositions_are_judged(rt: HostRuntime) {
+    assert!(rt; is_judged(all_judged(rt.alloc(), 12), true));
+    assert!(rt; number_of(all_judged(rt.alloc(), 13)) == 42);
+}
+
+static JUDGED: [(&str, bool); 5] = [
     ("00!&", false),
     ("00!|", true),
     ("f", false),
@@ -175,15 +223,25 @@ const JUDGED: [(&str, bool); 5] = [
     ("0!1!&2!&3!&4!&5!&6!&7!&8!&", true),
 ];
 
-#[test]
-fn labels_are_judged(rt: HostRuntime) -> Result<(), Fail> {
-    for (postfix, want) in JUDGED.iter() {
-        assert!(rt; judged(rt.alloc(), label(rt.alloc(), postfix)?)? == *want);
+fn is_judged(found: Result<bool, Refusal>, want: bool) -> bool {
+    match found {
+        Ok(possible) => possible == want,
+        Err(_) => false,
     }
-    Ok(())
 }
 
-const PRIORITIES: [(Order, Parity, u32, &[u32], u32); 22] = [
+#[test]
+fn labels_are_judged(rt: HostRuntime) {
+    for (row, (postfix, want)) in JUDGED.iter().enumerate() {
+        assert_row(
+            &rt,
+            row,
+            is_judged(postfix_judged(rt.alloc(), postfix), *want),
+        );
+    }
+}
+
+static PRIORITIES: [(Order, Parity, u32, &[u32], u32); 22] = [
     (Order::Max, Parity::Even, 3, &[0], 2),
     (Order::Max, Parity::Even, 3, &[1], 3),
     (Order::Max, Parity::Even, 3, &[2], 4),
@@ -225,8 +283,9 @@ fn priority_in_row(order: Order, parity: Parity, count: u32, marks: &[u32]) -> O
 
 #[test]
 fn priorities_are_those_of_the_table(rt: HostRuntime) {
-    for (order, parity, count, marks, want) in PRIORITIES.iter() {
-        assert!(rt; priority_in_row(*order, *parity, *count, marks) == Some(*want));
+    for (row, (order, parity, count, marks, want)) in PRIORITIES.iter().enumerate() {
+        let found = priority_in_row(*order, *parity, *count, marks);
+        assert_row(&rt, row, found == Some(*want));
     }
 }
 
@@ -308,7 +367,7 @@ fn kind_of(
     )
 }
 
-const KINDS: [(&str, &str, u32, &str, Order, Parity); 10] = [
+static KINDS: [(&str, &str, u32, &str, Order, Parity); 10] = [
     ("all", "", 0, "T", Order::Max, Parity::Odd),
     ("none", "", 0, "F", Order::Max, Parity::Even),
     ("Buchi", "", 1, "0", Order::Max, Parity::Even),
@@ -321,22 +380,33 @@ const KINDS: [(&str, &str, u32, &str, Order, Parity); 10] = [
     ("parity", "ne5", 5, "0b2d4&|&|", Order::Min, Parity::Even),
 ];
 
-#[test]
-fn parity_kinds_are_recognized(rt: HostRuntime) -> Result<(), Fail> {
-    for (text, letters, count, postfix, order, parity) in KINDS.iter() {
-        let kind = kind_of(rt.alloc(), text, letters, *count, postfix)?;
-        assert!(rt;
-            kind == AccKind::Parity(ParityKind {
-                order: *order,
-                parity: *parity,
-                count: *count
-            })
-        );
+fn is_kind(found: Result<AccKind, Refusal>, want: AccKind) -> bool {
+    match found {
+        Ok(kind) => kind == want,
+        Err(_) => false,
     }
-    Ok(())
 }
 
-const OTHERS: [(&str, &str, u32, &str); 11] = [
+fn is_parity(found: Result<AccKind, Refusal>, order: Order, parity: Parity, count: u32) -> bool {
+    is_kind(
+        found,
+        AccKind::Parity(ParityKind {
+            order,
+            parity,
+            count,
+        }),
+    )
+}
+
+#[test]
+fn parity_kinds_are_recognized(rt: HostRuntime) {
+    for (row, (text, letters, count, postfix, order, parity)) in KINDS.iter().enumerate() {
+        let kind = kind_of(rt.alloc(), text, letters, *count, postfix);
+        assert_row(&rt, row, is_parity(kind, *order, *parity, *count));
+    }
+}
+
+static OTHERS: [(&str, &str, u32, &str); 11] = [
     ("all", "0", 0, "T"),
     ("all", "", 0, "F"),
     ("all", "", 1, "T"),
@@ -352,27 +422,42 @@ const OTHERS: [(&str, &str, u32, &str); 11] = [
 
 #[test]
 fn other_acceptance_is_refused(rt: HostRuntime) {
-    for (text, letters, count, postfix) in OTHERS.iter() {
-        assert!(rt; number_of(kind_of(rt.alloc(), text, letters, *count, postfix)) == 40);
+    for (row, (text, letters, count, postfix)) in OTHERS.iter().enumerate() {
+        let kind = kind_of(rt.alloc(), text, letters, *count, postfix);
+        assert_row(&rt, row, number_of(kind) == 40);
     }
+}
+
+// The number of the refusal of what is no parity acceptance.
+fn number_of_one_set(alloc: Global) -> Result<u32, Refusal> {
+    Ok(number_of(parity_of(
+        &name(alloc, "generalized-Buchi", "1")?,
+        1,
+        &formula(alloc, "0")?,
+    )))
 }
 
 #[test]
 fn generalized_buchi_is_recognized(rt: HostRuntime) -> Result<(), Fail> {
-    assert!(rt; kind_of(rt.alloc(), "generalized-Buchi", "3", 3, "01&2&")? == AccKind::GenBuchi(3));
-    let alone = parity_of(
-        &name(rt.alloc(), "generalized-Buchi", "1")?,
-        1,
-        &formula(rt.alloc(), "0")?,
-    );
-    assert!(rt; number_of(alone) == 40);
+    let three = kind_of(rt.alloc(), "generalized-Buchi", "3", 3, "01&2&");
+    assert!(rt; is_kind(three, AccKind::GenBuchi(3)));
+    assert!(rt; number_of_one_set(rt.alloc())? == 40);
     Ok(())
 }
 
+// The text of a formula. Lent, as labels are.
+pub(crate) fn formula_text(alloc: Global, formula: &Acc) -> Result<Vec<u8>, Refusal> {
+    let mut text = Vec::new(alloc);
+    write_acc(formula, &mut text)?;
+    Ok(text)
+}
+
+fn text_of_formula(alloc: Global, postfix: &str) -> Result<Vec<u8>, Refusal> {
+    formula_text(alloc, &formula(alloc, postfix)?)
+}
+
 #[test]
-fn acceptance_is_written(rt: HostRuntime) -> Result<(), Fail> {
-    let mut text = Vec::new(rt.alloc());
-    write_acc(&formula(rt.alloc(), "0b2d4&|&|")?, &mut text)?;
-    assert!(rt; text.as_slice() == b"Inf(0)|Fin(1)&(Inf(2)|Fin(3)&Inf(4))".as_slice());
-    Ok(())
+fn acceptance_is_written(rt: HostRuntime) {
+    let text = text_of_formula(rt.alloc(), "0b2d4&|&|");
+    assert!(rt; is_text(text, "Inf(0)|Fin(1)&(Inf(2)|Fin(3)&Inf(4))"));
 }

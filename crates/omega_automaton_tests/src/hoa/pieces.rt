@@ -1,7 +1,9 @@
+use super::counts;
 use super::rows::ABORTED_FIRST;
-use super::{Told, counts, told};
+use crate::outcomes::{Told, assert_row, told};
 use omega_hoa::{Item, Stream};
 use std::alloc::{AllocError, Global};
+use std::process::Abort;
 use std::test::Fail;
 
 // What each piece is answered, and then the end.
@@ -16,7 +18,7 @@ fn answers(alloc: Global, pieces: &[&str], items: &mut Vec<Item>) -> Result<Vec<
 }
 
 // Pieces, what each and the end are answered, and how many items are aborted and automata.
-const PIECES: [(&[&str], &[Told], (usize, usize)); 12] = [
+static PIECES: [(&[&str], &[Told], (usize, usize)); 12] = [
     (
         &["x", " "],
         &[(0, None), (3, Some(0)), (3, Some(0))],
@@ -75,77 +77,93 @@ const PIECES: [(&[&str], &[Told], (usize, usize)); 12] = [
     ),
 ];
 
-#[test]
-fn pieces_are_answered(rt: HostRuntime) -> Result<(), Fail> {
-    for (pieces, want, count) in PIECES.iter() {
-        let mut items = Vec::new(rt.alloc());
-        let told = answers(rt.alloc(), *pieces, &mut items)?;
-        assert_eq!(rt; told.as_slice(), *want);
-        assert_eq!(rt; counts(items.as_slice()), *count);
+// Whether pieces and the end are answered so, and give so many items.
+fn is_answered(alloc: Global, pieces: &[&str], want: &[Told], count: (usize, usize)) -> bool {
+    let mut items = Vec::new(alloc);
+    match answers(alloc, pieces, &mut items) {
+        Ok(told) => told.as_slice() == want && counts(items.as_slice()) == count,
+        Err(_) => false,
     }
-    Ok(())
 }
 
-// How many items two pieces give, aborted and automata, or none where one is refused.
-fn counts_in_two(alloc: Global, front: &[u8], back: &[u8]) -> Option<(usize, usize)> {
+#[test]
+fn pieces_are_answered(rt: HostRuntime) {
+    for (row, (pieces, want, count)) in PIECES.iter().enumerate() {
+        assert_row(&rt, row, is_answered(rt.alloc(), pieces, want, *count));
+    }
+}
+
+// Feeds a stream two pieces. Whether none is refused.
+fn feed_two(stream: &mut Stream, front: &[u8], back: &[u8], items: &mut Vec<Item>) -> bool {
+    stream.feed(front, items).is_ok() && stream.feed(back, items).is_ok()
+}
+
+// Feeds a stream a text byte by byte. Whether none is refused.
+fn feed_bytes(stream: &mut Stream, text: &[u8], items: &mut Vec<Item>) -> bool {
+    for place in 0..text.len() {
+        if stream.feed(&text[place..place + 1], items).is_err() {
+            return false;
+        }
+    }
+    true
+}
+
+// Whether two pieces give an aborted segment and an automaton.
+fn is_whole_in_two(alloc: Global, front: &[u8], back: &[u8]) -> bool {
     let mut items = Vec::new(alloc);
     let mut stream = Stream::new(alloc);
-    if stream.feed(front, &mut items).is_err() || stream.feed(back, &mut items).is_err() {
-        return None;
-    }
-    match stream.finish() {
-        Ok(()) => Some(counts(items.as_slice())),
-        Err(_) => None,
-    }
+    feed_two(&mut stream, front, back, &mut items)
+        && stream.finish().is_ok()
+        && counts(items.as_slice()) == (1, 1)
 }
 
 #[test]
 fn no_cut_changes_the_items(rt: HostRuntime) {
     let text = ABORTED_FIRST.as_bytes();
     for cut in 0..text.len() + 1 {
-        assert_eq!(rt;
-            counts_in_two(rt.alloc(), &text[..cut], &text[cut..]),
-            Some((1, 1)),
-            "{cut}"
+        assert_row(
+            &rt,
+            cut,
+            is_whole_in_two(rt.alloc(), &text[..cut], &text[cut..]),
         );
     }
 }
 
-// How many items the bytes give one by one.
-fn counts_in_bytes(alloc: Global, text: &[u8]) -> Option<(usize, usize)> {
+// Whether the bytes give, one by one, an aborted segment and an automaton.
+fn is_whole_in_bytes(alloc: Global, text: &[u8]) -> bool {
     let mut items = Vec::new(alloc);
     let mut stream = Stream::new(alloc);
-    for place in 0..text.len() {
-        if stream.feed(&text[place..place + 1], &mut items).is_err() {
-            return None;
-        }
-    }
-    match stream.finish() {
-        Ok(()) => Some(counts(items.as_slice())),
-        Err(_) => None,
-    }
+    feed_bytes(&mut stream, text, &mut items)
+        && stream.finish().is_ok()
+        && counts(items.as_slice()) == (1, 1)
 }
 
 #[test]
 fn bytes_give_the_items(rt: HostRuntime) {
-    let text = ABORTED_FIRST.as_bytes();
-    assert_eq!(rt; counts_in_bytes(rt.alloc(), text), Some((1, 1)));
+    assert!(rt; is_whole_in_bytes(rt.alloc(), ABORTED_FIRST.as_bytes()));
 }
 
-// So many blanks.
-fn blanks(alloc: Global, count: usize) -> Result<Vec<u8>, AllocError> {
-    vec![in alloc; b' '; count]
+// So many blanks, and whether there are no more than allowed.
+static BLANKS: [(usize, Told); 4] = [
+    (16_777_216, (0, None)),
+    (0, (0, None)),
+    (1, (4, None)),
+    (0, (4, None)),
+];
+
+fn assert_blanks(rt: &impl Abort, stream: &mut Stream, blanks: &[u8], items: &mut Vec<Item>) {
+    for (row, (count, want)) in BLANKS.iter().enumerate() {
+        let piece = &blanks[..(*count).min(blanks.len())];
+        assert_row(rt, row, told(stream.feed(piece, items)) == *want);
+    }
 }
 
 #[test]
 fn pieces_past_the_limit_are_refused(rt: HostRuntime) -> Result<(), Fail> {
     let mut items = Vec::new(rt.alloc());
     let mut stream = Stream::new(rt.alloc());
-    let most = blanks(rt.alloc(), 16_777_216)?;
-    assert_eq!(rt; told(stream.feed(most.as_slice(), &mut items)), (0, None));
-    assert_eq!(rt; told(stream.feed(b"".as_slice(), &mut items)), (0, None));
-    assert_eq!(rt; told(stream.feed(b" ".as_slice(), &mut items)), (4, None));
-    assert_eq!(rt; told(stream.feed(b"".as_slice(), &mut items)), (4, None));
-    assert_eq!(rt; told(stream.finish()), (4, None));
+    let blanks = vec![in rt.alloc(); b' '; 16_777_216]?;
+    assert_blanks(&rt, &mut stream, blanks.as_slice(), &mut items);
+    assert!(rt; told(stream.finish()) == (4, None));
     Ok(())
 }

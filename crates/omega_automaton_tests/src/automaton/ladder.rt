@@ -1,10 +1,10 @@
-use super::{assert_outcome, outcome, put_many};
+use crate::outcomes::{assert_row, outcome_of};
+use crate::texts::put_many;
 use omega_text::Refusal;
 use std::alloc::Global;
-use std::test::Fail;
 
 // What each fault adds to the items and to the body, apart from the version and the acceptance.
-const PIECES: [(u32, &str, &str); 14] = [
+static PIECES: [(u32, &str, &str); 14] = [
     (20, "", ""),
     (21, "name: \"a\" name: \"a\" ", ""),
     (22, "", ""),
@@ -93,22 +93,19 @@ fn faulty(alloc: Global, one: u32, other: u32) -> Result<Vec<u8>, Refusal> {
 }
 
 #[test]
-fn without_a_fault_the_text_is_accepted(rt: HostRuntime) -> Result<(), Fail> {
-    let text = faulty(rt.alloc(), 0, 0)?;
-    assert_outcome(&rt, outcome(rt.alloc(), text.as_slice()), 0);
-    Ok(())
+fn without_a_fault_the_text_is_accepted(rt: HostRuntime) {
+    assert!(rt; outcome_of(rt.alloc(), faulty(rt.alloc(), 0, 0)) == 0);
 }
 
 // 22 and 31 exclude each other: without an acceptance there is no atom.
 #[test]
-fn of_two_faults_the_least_is_answered(rt: HostRuntime) -> Result<(), Fail> {
+fn of_two_faults_the_least_is_answered(rt: HostRuntime) {
     for one in 20..34u32 {
-        for other in one..34 {
+        for other in one..34u32 {
             if one != 22 || other != 31 {
-                let text = faulty(rt.alloc(), one, other)?;
-                assert_outcome(&rt, outcome(rt.alloc(), text.as_slice()), one);
+                let found = outcome_of(rt.alloc(), faulty(rt.alloc(), one, other));
+                assert_row(&rt, one as usize, found == one);
             }
         }
     }
-    Ok(())
 }

@@ -1,32 +1,20 @@
-use omega_automaton::{Automaton, automaton_of};
+//! Canonical texts of automata.
+use crate::outcomes::{assert_row, is_text};
+use crate::texts::meaning;
 use omega_canon::canonical;
-use omega_raw::read_raw;
-use omega_text::{Cursor, Refusal, hoa_tokens, write_number};
+use omega_text::{Refusal, write_number};
 use std::alloc::Global;
-use std::test::Fail;
-
-// What a text means.
-fn meaning(alloc: Global, text: &[u8]) -> Result<Automaton, Refusal> {
-    let tokens = hoa_tokens(alloc, text)?;
-    let mut cursor = Cursor::new(tokens.as_slice(), text.len());
-    let raw = read_raw(alloc, &mut cursor)?;
-    automaton_of(alloc, raw)
-}
 
 // The canonical text of what a text means.
 fn canon(alloc: Global, text: &[u8]) -> Result<Vec<u8>, Refusal> {
-    let automaton = meaning(alloc, text)?;
-    canonical(alloc, &automaton)
-}
-
-// Whether what a text means has this canonical text.
-fn is_canonical(alloc: Global, text: &[u8], wanted: &[u8]) -> Result<bool, Refusal> {
-    let found = canon(alloc, text)?;
-    Ok(found.as_slice() == wanted)
+    match meaning(alloc, text) {
+        Ok(automaton) => canonical(alloc, &automaton),
+        Err(refusal) => Err(refusal),
+    }
 }
 
 // A text, and its canonical text.
-const TEXTS: [(&str, &str); 9] = [
+static TEXTS: [(&str, &str); 9] = [
     // an alias, and a mark that stands twice
     (
         "HOA: v1 States: 1 Start: 0 AP: 1 \"a\" Alias: @b 0|t Acceptance: 1 Inf(0) acc-name: Buchi --BODY-- State: 0 [!@b&0] 0 {0 0} --END--",
@@ -75,25 +63,25 @@ const TEXTS: [(&str, &str); 9] = [
 ];
 
 #[test]
-fn texts_have_their_canonical_texts(rt: HostRuntime) -> Result<(), Fail> {
-    for (text, wanted) in TEXTS.iter() {
-        assert!(rt;
-            is_canonical(rt.alloc(), text.as_bytes(), wanted.as_bytes())?,
-            "{text}"
+fn texts_have_their_canonical_texts(rt: HostRuntime) {
+    for (row, (text, wanted)) in TEXTS.iter().enumerate() {
+        assert_row(
+            &rt,
+            row,
+            is_text(canon(rt.alloc(), text.as_bytes()), wanted),
         );
     }
-    Ok(())
 }
 
 #[test]
-fn canonical_texts_are_their_own(rt: HostRuntime) -> Result<(), Fail> {
-    for (_, wanted) in TEXTS.iter() {
-        assert!(rt;
-            is_canonical(rt.alloc(), wanted.as_bytes(), wanted.as_bytes())?,
-            "{wanted}"
+fn canonical_texts_are_their_own(rt: HostRuntime) {
+    for (row, (_, wanted)) in TEXTS.iter().enumerate() {
+        assert_row(
+            &rt,
+            row,
+            is_text(canon(rt.alloc(), wanted.as_bytes()), wanted),
         );
     }
-    Ok(())
 }
 
 // An automaton of one proposition with aliases `@a0` as `0&0` and each next one as the one before it twice, up to this one.
@@ -120,18 +108,33 @@ fn put_alias(text: &mut Vec<u8>, number: u32) -> Result<(), Refusal> {
     write_number(before, text)
 }
 
-// How long the canonical text of such an automaton is, and whether it is its own canonical text.
-fn length_of_doubling(alloc: Global, last: u32) -> Result<(usize, bool), Refusal> {
-    let text = doubling(alloc, last)?;
-    let once = canon(alloc, text.as_slice())?;
-    let twice = canon(alloc, once.as_slice())?;
-    Ok((once.len(), once.as_slice() == twice.as_slice()))
+// The canonical text of such an automaton.
+fn canon_of_doubling(alloc: Global, last: u32) -> Result<Vec<u8>, Refusal> {
+    match doubling(alloc, last) {
+        Ok(text) => canon(alloc, text.as_slice()),
+        Err(refusal) => Err(refusal),
+    }
+}
+
+// Whether a text is its own canonical text.
+fn is_own(alloc: Global, text: &[u8]) -> bool {
+    match canon(alloc, text) {
+        Ok(twice) => twice.as_slice() == text,
+        Err(_) => false,
+    }
+}
+
+// Whether the canonical text of such an automaton is so long, and its own canonical text.
+fn is_long(alloc: Global, last: u32, length: usize) -> bool {
+    match canon_of_doubling(alloc, last) {
+        Ok(once) => once.len() == length && is_own(alloc, once.as_slice()),
+        Err(_) => false,
+    }
 }
 
 // The 32,768 propositions with an operator between each two, and parentheses round each right part but the least ones.
 #[test]
-fn doubling_aliases_are_written_out(rt: HostRuntime) -> Result<(), Fail> {
-    assert_eq!(rt; length_of_doubling(rt.alloc(), 2)?, (94, true));
-    assert_eq!(rt; length_of_doubling(rt.alloc(), 14)?, (98_374, true));
-    Ok(())
+fn doubling_aliases_are_written_out(rt: HostRuntime) {
+    assert!(rt; is_long(rt.alloc(), 2, 94));
+    assert!(rt; is_long(rt.alloc(), 14, 98_374));
 }

@@ -1,0 +1,49 @@
+//! What is answered to texts.
+use crate::texts::meaning;
+use omega_text::Refusal;
+use std::alloc::Global;
+use std::process::Abort;
+
+/// The number of a refusal, or 0, and its place.
+pub(crate) type Told = (u32, Option<usize>);
+
+/// Asserts that a row of a table holds. A message that is put together is slow to prove: so this one serves all tables.
+pub(crate) fn assert_row(rt: &impl Abort, row: usize, holds: bool) {
+    assert!(rt; holds, "row {row}");
+}
+
+pub(crate) fn told<T: Drop>(answer: Result<T, Refusal>) -> Told {
+    match answer {
+        Ok(_) => (0, None),
+        Err(refusal) => (refusal.number(), refusal.at()),
+    }
+}
+
+/// The number of a refusal, 0 where there is none.
+pub(crate) fn number_of<T: Drop>(answer: Result<T, Refusal>) -> u32 {
+    match answer {
+        Ok(_) => 0,
+        Err(refusal) => refusal.number(),
+    }
+}
+
+/// Whether this text was made.
+pub(crate) fn is_text(made: Result<Vec<u8>, Refusal>, want: &str) -> bool {
+    match made {
+        Ok(made) => made.as_slice() == want.as_bytes(),
+        Err(_) => false,
+    }
+}
+
+/// The number of the refusal of a text, 0 where it means an automaton.
+pub(crate) fn outcome(alloc: Global, text: &[u8]) -> u32 {
+    number_of(meaning(alloc, text))
+}
+
+/// That of a text that is to be made first.
+pub(crate) fn outcome_of(alloc: Global, made: Result<Vec<u8>, Refusal>) -> u32 {
+    match made {
+        Ok(text) => outcome(alloc, text.as_slice()),
+        Err(refusal) => refusal.number(),
+    }
+}
