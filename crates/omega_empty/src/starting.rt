@@ -3,7 +3,7 @@ ghost use Rattle.omega_empty.specs.layout.Following.{HasNoWonStart, IsWonAt, IsW
 
 use omega_automaton::Automaton;
 use omega_game::Game;
-use omega_text::Seq;
+use omega_text::Numbers;
 
 /// The place of the node of the first start, at the first counter, that is among the places won.
 pub(crate) fn won_start(automaton: &Automaton, game: &Game, won: &[bool]) -> Option<u32>
@@ -19,7 +19,7 @@ pub(crate) fn won_start(automaton: &Automaton, game: &Game, won: &[bool]) -> Opt
 }
 
 /// The place of the node of a start, if the start is a single state and its place is among those won.
-fn won_single(game: &Game, won: &[bool], start: &Seq<u32>) -> Option<u32>
+fn won_single(game: &Game, won: &[bool], start: &Numbers) -> Option<u32>
     requires { length won.now ≡ length game.now }
     ensures { MatchOption result
         ((state v : ℕ) → start.now ≡ state ∷ [] → ¬ IsWonAt game.now won.now state v)

@@ -1,7 +1,7 @@
 use crate::outcomes::{assert_row, number_of, outcome_of};
 use crate::texts::text_with;
 use omega_acc::RawAcc;
-use omega_automaton::{RawAutomaton, Refusal, Seq, automaton_of};
+use omega_automaton::{Numbers, RawAutomaton, Refusal, Seq, automaton_of};
 use omega_raw::{RawEdge, RawItem, RawState};
 use std::alloc::Global;
 

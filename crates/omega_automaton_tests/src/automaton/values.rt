@@ -3,7 +3,8 @@ use crate::acc::{formula_text, written};
 use crate::outcomes::{assert_row, is_text};
 use crate::texts::{meaning, text_with};
 use omega_automaton::{
-    AccName, Automaton, Edge, Header, HeaderValue, Label, Parameter, Refusal, Seq, State, Tool,
+    AccName, Automaton, Edge, Header, HeaderValue, Label, Numbers, Parameter, Refusal, Seq, State,
+    Tool,
 };
 use std::alloc::Global;
 use std::process::Abort;
@@ -242,7 +243,7 @@ fn is_tool(tool: Option<&Tool>) -> bool {
     }
 }
 
-fn are_starts(starts: &[Seq<u32>]) -> bool {
+fn are_starts(starts: &[Numbers]) -> bool {
     match starts {
         [both, one] => { both.as_slice() == [1, 0].as_slice() && one.as_slice() == [2].as_slice() }
         _ => false,
