@@ -1,7 +1,7 @@
 """`solve --search`: its winners against a plain solver, on games made at random and on hard ones.
 
 A search that gives an answer makes no lift, so that it keeps a budget of 0; where it gave nothing, a game with a lift to
-make would be refused 51. So an answer is seen to be the search's.
+make is refused 51. So an answer is seen to be the search's, and on a game that is too hard for the search to be lifting's.
 """
 import random
 
@@ -21,6 +21,18 @@ def friedmann(levels):
     number = {name: place for place, name in enumerate(sorted(nodes))}
     return [(priority, owner, [number[name] for name in successors])
             for owner, priority, successors in (nodes[name] for name in sorted(nodes))]
+
+
+def loops(levels, back=False):
+    """Loops of rising priorities, each behind one of low priority: the plain recursion takes exponential time. Whoever
+    owns a loop loses there and leads on, so that all is won by the player of the last. With `back` the last leads to the
+    first, and all is one component."""
+    nodes = []
+    for i in range(levels):
+        onward = [2 * i + 2] if i < levels - 1 else [0] * back
+        nodes.append(((i + 1) % 2, i % 2, [2 * i + 1, 2 * i]))
+        nodes.append((i + 1, i % 2, [2 * i + 1] + onward))
+    return nodes
 
 
 def random_game(maker):
@@ -76,6 +88,27 @@ def winners_fault(words, game):
     return None if said == wanted else f"nodes of players 0 and 1: {said} for {wanted}"
 
 
+def loops_fault(words, levels):
+    """Where not all nodes of a chain of loops are given to the player of the last, or nothing."""
+    run = run_of(words, text_of(loops(levels)))
+    if run.returncode:
+        return f"status {run.returncode}: {run.stderr[:80]!r}"
+    said, wanted = said_winners(run.stdout)[levels % 2], set(range(2 * levels))
+    return None if said == wanted else f"nodes of player {levels % 2}: {said}"
+
+
+def fallback_fault(words, game):
+    """Whether a game is not too hard for the search, or is then answered otherwise than by lifting, or nothing."""
+    text = text_of(game)
+    refused = run_of(words + ["--budget", "0"], text)
+    if refused.returncode != 3:
+        return f"status {refused.returncode} within a budget of 0"
+    lifted, searched = run_of(["solve"], text), run_of(words, text)
+    if lifted.returncode or searched.returncode:
+        return f"status {searched.returncode}, by lifting {lifted.returncode}"
+    return None if searched.stdout == lifted.stdout else "another answer than by lifting"
+
+
 def search_checks():
     search = ["solve", "--search"]
     maker = random.Random(20261123)
@@ -84,3 +117,9 @@ def search_checks():
         yield f"random game {number} by a search without a lift", winners_fault(search + ["--budget", "0"], game)
     for levels in (2, 4, 6, 10, 14):
         yield f"{levels} levels by a search without a lift", winners_fault(search + ["--budget", "0"], friedmann(levels))
+    for levels in (1, 2, 16, 40, 400):
+        yield f"a chain of {levels} loops by a search without a lift", loops_fault(search + ["--budget", "0"], levels)
+    for levels in (8, 12):
+        game = loops(levels, back=True)
+        yield f"a ring of {levels} loops by a search without a lift", winners_fault(search + ["--budget", "0"], game)
+    yield "a ring of 16 loops, where the search gives up", fallback_fault(search, loops(16, back=True))
