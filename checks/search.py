@@ -1,7 +1,7 @@
 """`solve --search`: its winners against a plain solver, on games made at random and on hard ones.
 
 A search that gives an answer makes no lift, so that it keeps a budget of 0; where it gave nothing, a game with a lift to
-make would be refused 51. So an answer is seen to be the search's, and that it gave up is seen too.
+make is refused 51. So an answer is seen to be the search's, and on a game that is too hard for the search to be lifting's.
 """
 import random
 
@@ -23,15 +23,15 @@ def friedmann(levels):
             for owner, priority, successors in (nodes[name] for name in sorted(nodes))]
 
 
-def resistant(levels):
-    """Games on which the recursion takes exponential time here too (after Gazda and Willemse 2013): 3 nodes a level, of
-    which one has a great priority and the others priorities 0 and 1 by turns."""
+def loops(levels, back=False):
+    """Loops of rising priorities, each behind one of low priority: the plain recursion takes exponential time. Whoever
+    owns a loop loses there and leads on, so that all is won by the player of the last. With `back` the last leads to the
+    first, and all is one component."""
     nodes = []
-    for k in range(levels):
-        first, low = 3 * k, (k + 1) % 2
-        nodes.append((k + 2, low, [first + 1]))
-        nodes.append((low, 1 - low, [first + 2] + [first + 3] * (k + 1 < levels)))
-        nodes.append((low, low, [first + 1] + [first - 1] * (k > 0) + [first + 5] * (k + 1 < levels)))
+    for i in range(levels):
+        onward = [2 * i + 2] if i < levels - 1 else [0] * back
+        nodes.append(((i + 1) % 2, i % 2, [2 * i + 1, 2 * i]))
+        nodes.append((i + 1, i % 2, [2 * i + 1] + onward))
     return nodes
 
 
@@ -88,6 +88,15 @@ def winners_fault(words, game):
     return None if said == wanted else f"nodes of players 0 and 1: {said} for {wanted}"
 
 
+def loops_fault(words, levels):
+    """Where not all nodes of a chain of loops are given to the player of the last, or nothing."""
+    run = run_of(words, text_of(loops(levels)))
+    if run.returncode:
+        return f"status {run.returncode}: {run.stderr[:80]!r}"
+    said, wanted = said_winners(run.stdout)[levels % 2], set(range(2 * levels))
+    return None if said == wanted else f"nodes of player {levels % 2}: {said}"
+
+
 def search_checks():
     search = ["solve", "--search"]
     maker = random.Random(20261123)
@@ -96,10 +105,12 @@ def search_checks():
         yield f"random game {number} by a search without a lift", winners_fault(search + ["--budget", "0"], game)
     for levels in (2, 4, 6, 10, 14):
         yield f"{levels} levels by a search without a lift", winners_fault(search + ["--budget", "0"], friedmann(levels))
-    for levels in (4, 10):
-        yield (f"{levels} resistant levels by a search without a lift",
-               winners_fault(search + ["--budget", "0"], resistant(levels)))
-    for levels in (17, 18, 40):
-        yield (f"{levels} resistant levels, on which the search gives up, and no lift to solve them by",
-               refusal_fault(search + ["--budget", "0"], text_of(resistant(levels)), "51 Budget", 3))
-    yield "17 resistant levels, by lifting where the search gives up", winners_fault(search, resistant(17))
+    for levels in (1, 2, 16, 40, 400):
+        yield f"a chain of {levels} loops by a search without a lift", loops_fault(search + ["--budget", "0"], levels)
+    for levels in (8, 12):
+        game = loops(levels, back=True)
+        yield f"a ring of {levels} loops by a search without a lift", winners_fault(search + ["--budget", "0"], game)
+    ring = loops(16, back=True)
+    yield ("a ring of 16 loops, on which the search gives up, and no lift to solve it by",
+           refusal_fault(search + ["--budget", "0"], text_of(ring), "51 Budget", 3))
+    yield "a ring of 16 loops, by lifting where the search gives up", winners_fault(search, ring)

@@ -3,6 +3,12 @@ use crate::searching::numbers::{NONE, Numbers, number_of};
 use omega_game::{Game, Player};
 use std::alloc::{AllocError, Global};
 
+/// The depth of a place that is won.
+pub(crate) const WON: u32 = 0;
+
+/// The depth of a place that waits for the search of its component, or is lost there.
+pub(crate) const WAITING: u32 = 1;
+
 /// The places of a game by the depth of the subgame that took them out of play.
 #[derive(Drop)]
 pub(crate) struct Board {
@@ -17,10 +23,10 @@ pub(crate) struct Board {
 }
 
 impl Board {
-    /// All places in play.
+    /// All places waiting.
     pub(crate) fn new(alloc: Global, game: &Game, fuel: u64) -> Result<Board, AllocError> {
         let count = game.len();
-        let depth = Numbers::filled(alloc, count, NONE)?;
+        let depth = Numbers::filled(alloc, count, WAITING)?;
         let watched = Numbers::filled(alloc, count, 0)?;
         let moves = Numbers::filled(alloc, count, NONE)?;
         let trail = Vec::with_capacity(alloc, count)?;
@@ -79,6 +85,11 @@ impl Board {
     #[inline(always)]
     pub(crate) fn is_in_play(&self, place: u32) -> bool {
         self.depth.at(place) == NONE
+    }
+
+    /// Whether a place waits.
+    pub(crate) fn is_waiting(&self, place: u32) -> bool {
+        self.depth.at(place) == WAITING
     }
 
     /// Notes the depth of a place.
