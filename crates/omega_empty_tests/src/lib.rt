@@ -1,5 +1,10 @@
-//! Tests of the public calls of `omega_empty`, apart from it, so that the library is proved once.
+//! Tests of the public calls of `omega_empty` and `omega_draw`, apart from them, so that each library is proved once. They
+//! stand in one crate, since each crate of tests has to load what it tests.
 #![tactic(auto)]
 
 #[cfg(test)]
-mod tests;
+mod drawings;
+#[cfg(test)]
+mod emptiness;
+#[cfg(test)]
+mod texts;

@@ -1,30 +1,15 @@
-use omega_automaton::{Automaton, RawAutomaton, automaton_of};
+//! Emptiness games, and what lifting and a search say of automata.
+use crate::texts::{automaton_in, is_text};
+use omega_automaton::Automaton;
 use omega_empty::{Refusal, Verdict, emptiness, emptiness_game, lasso};
 use omega_game::Game;
 use omega_pg::write_game;
-use omega_raw::read_raw;
-use omega_text::{Cursor, hoa_tokens};
 use std::alloc::Global;
 use std::process::Abort;
 
 // Asserts that a row of a table holds. A message that is put together is slow to prove: so this one serves all tables.
 fn assert_row(rt: &impl Abort, row: usize, holds: bool) {
     assert!(rt; holds, "row {row}");
-}
-
-// The raw automaton that a text is read as.
-fn raw_in(alloc: Global, text: &str) -> Result<RawAutomaton, Refusal> {
-    let tokens = hoa_tokens(alloc, text.as_bytes())?;
-    let mut cursor = Cursor::new(tokens.as_slice(), text.len());
-    read_raw(alloc, &mut cursor)
-}
-
-// The automaton that a text means.
-fn automaton_in(alloc: Global, text: &str) -> Result<Automaton, Refusal> {
-    match raw_in(alloc, text) {
-        Ok(raw) => automaton_of(alloc, raw),
-        Err(refusal) => Err(refusal),
-    }
 }
 
 // The text of a game.
@@ -71,7 +56,7 @@ fn number_of(answer: Result<Vec<u8>, Refusal>) -> u32 {
 
 // Automata, and their games by the table: a co-Büchi one with marks of its own, the same set held by a state, an edge that is
 // never usable, an undefined state, and two sets waited for in turn.
-const GAMES: [(&str, &str); 5] = [
+static GAMES: [(&str, &str); 5] = [
     (
         "HOA: v1 States: 2 Start: 0 acc-name: co-Buchi Acceptance: 1 Fin(0) --BODY-- State: 0 [t] 0 {0} [t] 1 State: 1 [t] 1 --END--",
         "parity 5;\n0 0 0 2,3;\n1 0 0 4;\n2 1 0 0;\n3 0 0 1;\n4 0 0 1;\n5 1 0 5;\n",
@@ -94,14 +79,6 @@ const GAMES: [(&str, &str); 5] = [
     ),
 ];
 
-// Whether the text of a game is this one.
-fn is_text(made: Result<Vec<u8>, Refusal>, want: &str) -> bool {
-    match made {
-        Ok(made) => made.as_slice() == want.as_bytes(),
-        Err(_) => false,
-    }
-}
-
 #[test]
 fn games_are_by_the_table(rt: HostRuntime) {
     for (row, (text, want)) in GAMES.iter().enumerate() {
@@ -111,7 +88,7 @@ fn games_are_by_the_table(rt: HostRuntime) {
 
 // Automata without a game, each with the number of its refusal: none is decided, one branches, one mentions 13 propositions on
 // a state that is not reached, one has too many identifiers, and the least number decides.
-const REFUSED: [(&str, u32); 7] = [
+static REFUSED: [(&str, u32); 7] = [
     ("HOA: v1 Acceptance: 0 t --BODY-- --END--", 40),
     (
         "HOA: v1 acc-name: generalized-Buchi 2 Acceptance: 2 Inf(1)&Inf(0) --BODY-- --END--",
@@ -193,7 +170,7 @@ fn search_number(answer: Result<Verdict, Refusal>) -> u32 {
 
 // Automata, and the numbers of the edges of their only accepting lasso that passes no edge twice, stem and cycle; no cycle
 // where no lasso accepts: an edge that is never usable, no start, no acceptance.
-const SEARCHED: [(&str, (&[u32], &[u32])); 8] = [
+static SEARCHED: [(&str, (&[u32], &[u32])); 8] = [
     (
         "HOA: v1 States: 2 Start: 0 acc-name: co-Buchi Acceptance: 1 Fin(0) --BODY-- State: 0 [t] 0 {0} [t] 1 State: 1 [t] 1 --END--",
         (&[1], &[2]),

@@ -1,47 +1,54 @@
-use omega_automaton::{Automaton, automaton_of};
+//! Drawings of games, solutions, automata and lassos.
+use crate::texts::{automaton_in, is_text};
 use omega_draw::{draw_automaton, draw_game, draw_lasso, draw_solution};
+use omega_game::Game;
 use omega_pg::{read_game, read_solution};
-use omega_raw::read_raw;
-use omega_text::{Cursor, Refusal, hoa_tokens};
+use omega_text::Refusal;
 use std::alloc::Global;
-use std::test::Fail;
 
 // The drawing of the game of a text.
 fn game_drawn(alloc: Global, text: &str) -> Result<Vec<u8>, Refusal> {
-    let game = read_game(alloc, text.as_bytes())?;
-    draw_game(alloc, &game)
+    match read_game(alloc, text.as_bytes()) {
+        Ok(game) => draw_game(alloc, &game),
+        Err(refusal) => Err(refusal),
+    }
+}
+
+// The drawing of a game with the solution of a text.
+fn drawn_with(alloc: Global, game: &Game, solution: &str) -> Result<Vec<u8>, Refusal> {
+    match read_solution(alloc, game, solution.as_bytes()) {
+        Ok(solution) => draw_solution(alloc, game, &solution),
+        Err(refusal) => Err(refusal),
+    }
 }
 
 // The drawing of the game of a text with the solution of another.
 fn solution_drawn(alloc: Global, text: &str, solution: &str) -> Result<Vec<u8>, Refusal> {
-    let game = read_game(alloc, text.as_bytes())?;
-    let solution = read_solution(alloc, &game, solution.as_bytes())?;
-    draw_solution(alloc, &game, &solution)
-}
-
-// The automaton that a text means.
-fn automaton_in(alloc: Global, text: &str) -> Result<Automaton, Refusal> {
-    let tokens = hoa_tokens(alloc, text.as_bytes())?;
-    let mut cursor = Cursor::new(tokens.as_slice(), text.len());
-    let raw = read_raw(alloc, &mut cursor)?;
-    automaton_of(alloc, raw)
+    match read_game(alloc, text.as_bytes()) {
+        Ok(game) => drawn_with(alloc, &game, solution),
+        Err(refusal) => Err(refusal),
+    }
 }
 
 // The drawing of the automaton of a text.
 fn automaton_drawn(alloc: Global, text: &str) -> Result<Vec<u8>, Refusal> {
-    let automaton = automaton_in(alloc, text)?;
-    draw_automaton(alloc, &automaton)
+    match automaton_in(alloc, text) {
+        Ok(automaton) => draw_automaton(alloc, &automaton),
+        Err(refusal) => Err(refusal),
+    }
 }
 
 // The drawing of the automaton of a text with a lasso.
 fn lasso_drawn(alloc: Global, text: &str, stem: &[u32], cycle: &[u32]) -> Result<Vec<u8>, Refusal> {
-    let automaton = automaton_in(alloc, text)?;
-    draw_lasso(alloc, &automaton, stem, cycle)
+    match automaton_in(alloc, text) {
+        Ok(automaton) => draw_lasso(alloc, &automaton, stem, cycle),
+        Err(refusal) => Err(refusal),
+    }
 }
 
 // A name with each sign that is escaped, and a node without a name.
 #[test]
-fn a_game_is_drawn(rt: HostRuntime) -> Result<(), Fail> {
+fn a_game_is_drawn(rt: HostRuntime) {
     let wanted = r#"digraph game {
   0 [shape=diamond, label="0\na\\b &amp;amp; c\npriority 1\n"];
   0 -> 0;
@@ -50,14 +57,13 @@ fn a_game_is_drawn(rt: HostRuntime) -> Result<(), Fail> {
   1 -> 0;
 }
 "#;
-    let drawn = game_drawn(rt.alloc(), "0 1 0 0,1 \"a\\b &amp; c\"; 1 2 1 0;")?;
-    assert!(rt; drawn.as_slice() == wanted.as_bytes());
-    Ok(())
+    let drawn = game_drawn(rt.alloc(), "0 1 0 0,1 \"a\\b &amp; c\"; 1 2 1 0;");
+    assert!(rt; is_text(drawn, wanted));
 }
 
 // Both players win nodes, and choose.
 #[test]
-fn a_solution_is_drawn(rt: HostRuntime) -> Result<(), Fail> {
+fn a_solution_is_drawn(rt: HostRuntime) {
     let wanted = r#"digraph game {
   0 [shape=diamond, label="0\npriority 1\n", style=filled, fillcolor=lightblue];
   0 -> 0;
@@ -73,15 +79,14 @@ fn a_solution_is_drawn(rt: HostRuntime) -> Result<(), Fail> {
         rt.alloc(),
         "0 1 0 0,1; 1 2 1 0; 2 1 1 2,0;",
         "paritysol 2; 0 0 1; 1 0; 2 1 2;",
-    )?;
-    assert!(rt; drawn.as_slice() == wanted.as_bytes());
-    Ok(())
+    );
+    assert!(rt; is_text(drawn, wanted));
 }
 
 // Names with quotes and backslashes, starts of one state and of two, a state's own label, a branch, states that are
 // entered and not defined, and one that is only counted.
 #[test]
-fn an_automaton_is_drawn(rt: HostRuntime) -> Result<(), Fail> {
+fn an_automaton_is_drawn(rt: HostRuntime) {
     let text =
         r#"HOA: v1 name: "a\"b" States: 5 Start: 0 Start: 1&2 AP: 2 "p\\q" "r" Acceptance: 2 Inf(0)&Fin(!1)
 --BODY-- State: [0&!1|t] 0 "zero" {1} 1 0&3 {0} State: 1 [!(0|1)&0] 3 {0 1} [1] 1 --END--"#;
@@ -105,14 +110,13 @@ fn an_automaton_is_drawn(rt: HostRuntime) -> Result<(), Fail> {
   1 -> 1 [label="r\n"];
 }
 "#;
-    let drawn = automaton_drawn(rt.alloc(), text)?;
-    assert!(rt; drawn.as_slice() == wanted.as_bytes());
-    Ok(())
+    let drawn = automaton_drawn(rt.alloc(), text);
+    assert!(rt; is_text(drawn, wanted));
 }
 
 // An edge of both parts is the cycle's, one of neither is plain, and 9 is no edge's number.
 #[test]
-fn a_lasso_is_drawn(rt: HostRuntime) -> Result<(), Fail> {
+fn a_lasso_is_drawn(rt: HostRuntime) {
     let text = r#"HOA: v1 States: 2 Start: 0 AP: 1 "a" Acceptance: 1 Inf(0)
 --BODY-- State: 0 [0] 1 [!0] 0 State: 1 [t] 1 {0} [0] 0 [!0] 0&1 --END--"#;
     let wanted = r#"digraph automaton {
@@ -133,7 +137,6 @@ fn a_lasso_is_drawn(rt: HostRuntime) -> Result<(), Fail> {
   branch4 -> 1 [label="", style=bold, color=red];
 }
 "#;
-    let drawn = lasso_drawn(rt.alloc(), text, &[0, 2, 9], &[2, 4])?;
-    assert!(rt; drawn.as_slice() == wanted.as_bytes());
-    Ok(())
+    let drawn = lasso_drawn(rt.alloc(), text, &[0, 2, 9], &[2, 4]);
+    assert!(rt; is_text(drawn, wanted));
 }
