@@ -13,9 +13,17 @@ use std::alloc::Global;
 /// A label with its aliases replaced by their definitions and its parentheses gone.
 ///
 /// Refusal 27 where it reaches an undefined alias, else 32 where it is over 256 deep, an alias counting as its definition
-/// between parentheses, else 33 where it has over 65,536 tree nodes; all before anything is copied. A label without aliases
-/// keeps its memory, and nothing is copied.
-pub fn expand(alloc: Global, raw: RawLabel, aliases: &Aliases) -> Result<Label, Refusal>
+/// between parentheses, else 33 where it has over 65,536 tree nodes; all before anything is copied.
+pub fn expand(alloc: Global, raw: &RawLabel, aliases: &Aliases) -> Result<Label, Refusal>
+    ensures ok { IfOk result (λ label. IsExpansion aliases.now raw.now label) }
+    ensures err { IfErr result (IsUnexpanded aliases.now raw.now) }
+{
+    let size = expanded_size(alloc, raw, aliases)?;
+    replace_aliases(alloc, raw, aliases, size)
+}
+
+/// The same of a label that is let go: one without aliases keeps its memory, and nothing is copied.
+pub fn expand_in_place(alloc: Global, raw: RawLabel, aliases: &Aliases) -> Result<Label, Refusal>
     ensures ok { IfOk result (λ label. IsExpansion aliases.now raw label) }
     ensures err { IfErr result (IsUnexpanded aliases.now raw) }
 {

@@ -33,7 +33,7 @@ pub use acc::Acc;
 pub use acc_name::{AccName, Parameter};
 pub use acc_reading::{read_acc, read_raw_acc};
 pub use aliases::Aliases;
-pub use expansion::{expand, expanded_size};
+pub use expansion::{expand, expand_in_place, expanded_size};
 pub use kind::{AccKind, Order, Parity, ParityKind};
 pub use label::Label;
 pub use laws::{

@@ -58,12 +58,12 @@ pub(crate) fn written(alloc: Global, label: &Label) -> Result<Vec<u8>, Refusal> 
 }
 
 // The text of a label without aliases, once expanded.
-fn text_of(alloc: Global, raw: RawLabel) -> Result<Vec<u8>, Refusal> {
+fn text_of(alloc: Global, raw: &RawLabel) -> Result<Vec<u8>, Refusal> {
     written(alloc, &expand(alloc, raw, &Aliases::new(alloc))?)
 }
 
 fn text_of_postfix(alloc: Global, postfix: &str) -> Result<Vec<u8>, Refusal> {
-    text_of(alloc, label(alloc, postfix)?)
+    text_of(alloc, &label(alloc, postfix)?)
 }
 
 static LABELS: [(&str, &str); 7] = [
@@ -197,16 +197,16 @@ fn all_of(alloc: Global, count: u32) -> Result<RawLabel, Refusal> {
     Ok(label)
 }
 
-fn judged(alloc: Global, raw: RawLabel) -> Result<bool, Refusal> {
+fn judged(alloc: Global, raw: &RawLabel) -> Result<bool, Refusal> {
     satisfiable(&expand(alloc, raw, &Aliases::new(alloc))?)
 }
 
 fn all_judged(alloc: Global, count: u32) -> Result<bool, Refusal> {
-    judged(alloc, all_of(alloc, count)?)
+    judged(alloc, &all_of(alloc, count)?)
 }
 
 fn postfix_judged(alloc: Global, postfix: &str) -> Result<bool, Refusal> {
-    judged(alloc, label(alloc, postfix)?)
+    judged(alloc, &label(alloc, postfix)?)
 }
 
 #[test]

@@ -9,7 +9,7 @@ ghost use Rattle.omega_automaton.specs.layout.Findings.{is_faulty, labels_pass};
 use crate::edge::Edge;
 use crate::making::marks::marks_of;
 use crate::state::State;
-use omega_acc::{Aliases, Label, RawLabel, expand};
+use omega_acc::{Aliases, Label, RawLabel, expand_in_place};
 use omega_raw::{RawEdge, RawState};
 use omega_text::{Refusal, Seq};
 use std::alloc::Global;
@@ -113,5 +113,5 @@ fn sound_label(alloc: Global, aliases: &Aliases, label: RawLabel) -> Result<Labe
     ensures ok { IfOk result (λ made. IsExpansion aliases.now label made) }
     ensures err { IfErr result IsMemory }
 {
-    expand(alloc, label, aliases)
+    expand_in_place(alloc, label, aliases)
 }

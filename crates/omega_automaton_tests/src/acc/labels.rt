@@ -7,7 +7,7 @@ use std::alloc::Global;
 
 // The canonical text of the label that is read next.
 fn read_next(alloc: Global, cursor: &mut Cursor<'_, '_, HoaKind>) -> Result<Vec<u8>, Refusal> {
-    text_of(alloc, read_label(alloc, cursor)?)
+    text_of(alloc, &read_label(alloc, cursor)?)
 }
 
 // The canonical text of the label that a text begins with, and where the cursor then stands.
