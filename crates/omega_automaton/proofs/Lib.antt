@@ -11,6 +11,7 @@ pub mod MarkLemmas
 pub mod OrderLemmas
 pub mod Powers
 pub mod Repeats
+pub mod RisingLemmas
 pub mod Said
 pub mod SoundLemmas
 pub mod Uniqueness

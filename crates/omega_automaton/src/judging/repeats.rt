@@ -1,4 +1,4 @@
-ghost use Rattle.std.specs.Prelude.{◌≡◌, map, nat_eq, IfErr, IfOk};
+ghost use Rattle.std.specs.Prelude.{◌≡◌, false, map, nat_eq, IfErr, IfOk, IsTrue};
 ghost use Rattle.std.specs.Str.{bytes_eq};
 ghost use Rattle.omega_acc.specs.Depth.{IsMemory};
 ghost use Rattle.omega_automaton.specs.Automaton.{has_repeat};
@@ -15,7 +15,27 @@ pub(crate) fn has_state_twice(alloc: Global, raw: &RawAutomaton) -> Result<bool,
     ensures ok { IfOk result (λ twice. twice ≡ state_twice raw.now) }
     ensures err { IfErr result IsMemory }
 {
-    has_number_twice(alloc, raw.states.as_slice())
+    let states = raw.states.as_slice();
+    if numbers_rise(states) {
+        return Ok(false);
+    }
+    has_number_twice(alloc, states)
+}
+
+/// Whether each state has a greater number than the one before, as most texts write them, so that no two have one number.
+/// Takes no memory.
+fn numbers_rise(states: &[RawState]) -> bool
+    ensures { IsTrue result → has_repeat nat_eq (map (λ state. state.number) states.now) ≡ false }
+{
+    let mut bound = 0u64;
+    for state in states {
+        let number = u64::from(state.number);
+        if number < bound {
+            return false;
+        }
+        bound = number + 1;
+    }
+    true
 }
 
 /// Whether two of the states have one number.
