@@ -1,4 +1,6 @@
-//! Tests of the public calls of `omega_game`, in a crate of their own so that games are proved once.
+//! Tests of the public calls of `omega_game`, and of `omega_pg`, `omega_measure`, `omega_solve` and `omega_search` in a module
+//! each, apart from them, so that each library is proved once. They stand in one crate, since each crate of tests has to load
+//! what it tests.
 #![tactic(auto)]
 
 #[cfg(test)]
@@ -8,9 +10,13 @@ mod building;
 #[cfg(test)]
 mod checking;
 #[cfg(test)]
+mod measure;
+#[cfg(test)]
 mod orders;
 #[cfg(test)]
 mod parts;
+#[cfg(test)]
+mod pg;
 #[cfg(test)]
 mod reading;
 #[cfg(test)]
@@ -20,6 +26,10 @@ mod refuting;
 #[cfg(test)]
 mod samples;
 #[cfg(test)]
+mod search;
+#[cfg(test)]
 mod searching;
+#[cfg(test)]
+mod solve;
 #[cfg(test)]
 mod strategies;

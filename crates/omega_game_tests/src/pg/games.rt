@@ -1,7 +1,7 @@
-use super::{assert_row, is_told};
+use super::is_told;
+use crate::samples::assert_row;
 use omega_pg::{Refusal, read_game, write_game};
 use std::alloc::Global;
-use std::test::*;
 
 /// Texts of games, and the canonical texts of their games.
 static GAMES: [(&str, &str); 6] = [

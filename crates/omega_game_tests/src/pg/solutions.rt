@@ -1,8 +1,8 @@
 use super::games::is_written;
-use super::{assert_row, is_told};
+use super::is_told;
+use crate::samples::assert_row;
 use omega_pg::{Game, Player, Refusal, Solution, read_game, read_solution, write_solution};
 use std::alloc::Global;
-use std::test::*;
 
 /// Two nodes, whose identifiers have gaps: 4 of player 0, and 9 of player 1.
 const GAME: &str = "9 3 1 4; 4 2 0 9,4;";

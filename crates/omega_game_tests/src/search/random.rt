@@ -1,7 +1,7 @@
 //! Pseudo-random games of many kinds: the search never gives up on them, and what it suggests is always accepted.
 ghost use Rattle.std.specs.Prelude.{◌<◌};
 
-use crate::shapes::{assert_row, finish, list};
+use crate::samples::{assert_row, finish, list};
 use omega_game::Player::{One, Zero};
 use omega_game::{Game, GameBuilder, Refusal};
 use omega_search::solve_by_search;

@@ -1,30 +1,9 @@
 //! Large games of a simple shape, in which the winners are plain.
+use crate::samples::{assert_row, finish, list};
 use omega_game::Player::{One, Zero};
 use omega_game::{Game, GameBuilder, Player, Refusal};
 use omega_search::solve_by_search;
 use std::alloc::Global;
-use std::process::Abort;
-
-/// Asserts that a row of a table holds. A message that is put together is slow to prove: so this one serves all tables.
-pub(crate) fn assert_row(rt: &impl Abort, row: usize, holds: bool) {
-    assert!(rt; holds, "row {row}");
-}
-
-/// Lists a successor more at the last node, or answers Io where there is none.
-pub(crate) fn list(builder: &mut GameBuilder, successor: u32) -> Result<(), Refusal> {
-    if builder.len() == 0 || successor > 1_048_576 {
-        return Err(Refusal::Io);
-    }
-    builder.add_successor(successor)
-}
-
-/// The game of a builder, or Io where nothing was added.
-pub(crate) fn finish(builder: GameBuilder) -> Result<Game, Refusal> {
-    if builder.len() == 0 {
-        return Err(Refusal::Io);
-    }
-    builder.finish()
-}
 
 /// How many of the places are given to a player.
 fn count(winners: &[Player], player: Player) -> usize {

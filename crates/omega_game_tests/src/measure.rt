@@ -1,3 +1,4 @@
+//! Tables of measures.
 ghost use Rattle.std.specs.Prelude.{◌≡◌, ◌<◌, ◌^◌, length, IfOk};
 
 use omega_game::{Game, GameBuilder, Player, Refusal, TaskFault};

@@ -1,5 +1,5 @@
 //! Small games whose regions are known.
-use crate::shapes::{assert_row, finish};
+use crate::samples::{assert_row, finish};
 use omega_game::Player::{One, Zero};
 use omega_game::{Game, GameBuilder, Player, Refusal};
 use omega_search::{Regions, solve_by_search};

@@ -1,3 +1,4 @@
+//! In which order schedules look.
 ghost use Rattle.std.specs.Prelude.{◌≡◌, length};
 ghost use Rattle.omega_solve.specs.Schedule.{all_pending};
 

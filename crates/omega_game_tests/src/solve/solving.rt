@@ -2,7 +2,7 @@
 //!
 //! A test is proved before it runs, and what owns a game or a solver over a `?` is slow to prove: so one function prepares,
 //! and the next one is lent what was prepared.
-use crate::tests::families::finish;
+use crate::samples::finish;
 use omega_game::{Game, GameBuilder, Player, Refusal, TaskFault, bound};
 use omega_solve::{
     Found, MOST_LIFTS, MeasureTable, Nested, Outcome, PackedTable, PlainTable, Schedule, Solver,

@@ -1,6 +1,7 @@
 //! Families of games of which first in, first out makes many more lifts.
 ghost use Rattle.std.specs.Prelude.{◌<◌, ◌≤◌, ◌^◌, IfSome};
 
+use crate::samples::finish;
 use omega_game::{Game, GameBuilder, Player, Refusal, bound};
 use omega_solve::{Nested, Outcome, PackedTable, Solver};
 use std::alloc::Global;
@@ -82,14 +83,6 @@ fn game_of(alloc: Global, family: Family, nodes: u32) -> Result<Game, Refusal>
         Ok(()) => finish(builder),
         Err(refusal) => Err(refusal),
     }
-}
-
-/// The game of a builder, or Io where nothing was added.
-pub(crate) fn finish(builder: GameBuilder) -> Result<Game, Refusal> {
-    if builder.len() == 0 {
-        return Err(Refusal::Io);
-    }
-    builder.finish()
 }
 
 /// Runs a new solver within so many lifts. How many nodes are won.

@@ -1,0 +1,4 @@
+//! The search, and what it suggests.
+mod random;
+mod rows;
+mod shapes;

@@ -1,3 +1,0 @@
-mod families;
-mod schedules;
-mod solving;
