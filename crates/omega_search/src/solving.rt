@@ -22,7 +22,10 @@ pub fn solve_by_search(alloc: Global, game: &Game) -> Result<Option<Regions>, Re
     ensures exact { IfOk result (λ found. IfSome found (AreRegions game.now)) }
     ensures memory { IsOkUnless result Refusal.Memory }
 {
-    solve_with(alloc, game, fuel_for(game))
+    match search(alloc, game, fuel_for(game))? {
+        None => Ok(None),
+        Some(suggestion) => judged(alloc, game, suggestion),
+    }
 }
 
 /// The edges that the search of a game may visit.
@@ -30,42 +33,4 @@ fn fuel_for(game: &Game) -> u64 {
     let size = (game.len() as u64).saturating_add(game.edges() as u64);
     let bits = u64::from(64 - size.leading_zeros());
     size.saturating_mul(bits).saturating_mul(FUEL)
-}
-
-/// The same where the search may visit so many edges.
-fn solve_with(alloc: Global, game: &Game, fuel: u64) -> Result<Option<Regions>, Refusal>
-    ensures exact { IfOk result (λ found. IfSome found (AreRegions game.now)) }
-    ensures memory { IsOkUnless result Refusal.Memory }
-{
-    match search(alloc, game, fuel)? {
-        None => Ok(None),
-        Some(suggestion) => judged(alloc, game, suggestion),
-    }
-}
-
-#[cfg(test)]
-mod tests {
-    use super::*;
-    use omega_game::{GameBuilder, Player};
-    use std::test::Fail;
-
-    /// One node that leads to itself.
-    fn one_node(alloc: Global) -> Result<Game, Refusal> {
-        let mut builder = GameBuilder::new(alloc);
-        builder.add_node(0, 0, Player::Zero, 0)?;
-        if builder.len() == 0 {
-            return Err(Refusal::Io);
-        }
-        builder.finish()
-    }
-
-    #[test]
-    fn the_search_gives_up_without_fuel(rt: HostRuntime) -> Result<(), Fail> {
-        let game = one_node(rt.alloc())?;
-        let found = solve_with(rt.alloc(), &game, 0)?;
-        assert!(rt; found.is_none());
-        let found = solve_with(rt.alloc(), &game, 64)?;
-        assert!(rt; found.is_some());
-        Ok(())
-    }
 }
