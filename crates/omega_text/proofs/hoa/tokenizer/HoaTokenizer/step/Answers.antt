@@ -29,3 +29,11 @@ returns-in-None-clause-settles c = λ seen lexemes read.
     let source = seen ++ c.args.byte ∷ [] in
     let kept = subst (λ fault. IsKept fault seen lexemes c.args.self.now.pending) c.in-None.is read.kept in
     kept_settled c.read_byte-pending.result.1.fault source (lexemes ++ settled_lexemes source c.read_byte-pending.result.1) c.read_byte-pending.result.0 (c.read_byte-pending.ensures seen lexemes read.place kept)
+
+pub returns-in-None-clause-reads : goal.returns-in-None-clause-reads
+returns-in-None-clause-reads c = λ seen lexemes read.
+    let kept = subst (λ fault. IsKept fault seen lexemes c.args.self.now.pending) c.in-None.is read.kept in
+    record {
+      place = omega (arith, read.place, length-append seen (c.args.byte ∷ []));
+      kept = c.read_byte-pending.ensures seen lexemes read.place kept;
+    }
