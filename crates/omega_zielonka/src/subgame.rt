@@ -1,8 +1,8 @@
-use crate::searching::chains::Chain;
+use crate::chains::Chain;
 use omega_game::Player;
 
 /// The places that each player wins.
-#[derive(Clone, Copy, Debug)]
+#[derive(Clone, Copy)]
 pub(crate) struct Won {
     pub zero: Chain,
     pub one: Chain,
@@ -39,7 +39,7 @@ impl Won {
 }
 
 /// A part of the game that is being solved: its places are those of a range of the list of places that are in play.
-#[derive(Clone, Copy, Debug)]
+#[derive(Clone, Copy)]
 pub(crate) struct Subgame {
     /// The range, in which priorities rise, and the length of the list when the subgame began.
     pub start: u32,

@@ -1,9 +1,9 @@
 //! Lists of places that are joined without being copied. Each place is in one list at most.
-use crate::searching::numbers::{NONE, Numbers};
+use crate::numbers::{NONE, Numbers};
 use std::alloc::{AllocError, Global};
 
 /// A list of places by its first and its last, none where it is empty.
-#[derive(Clone, Copy, Debug)]
+#[derive(Clone, Copy)]
 pub(crate) struct Chain {
     pub first: u32,
     pub last: u32,

@@ -1,5 +1,5 @@
 //! Which places are in play, and the attractors: the places from which a player forces a visit.
-use crate::searching::numbers::{NONE, Numbers, number_of};
+use crate::numbers::{NONE, Numbers, number_of};
 use omega_game::{Game, Player};
 use std::alloc::{AllocError, Global};
 
