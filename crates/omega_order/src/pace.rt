@@ -5,12 +5,12 @@
 /// cycle counts to top in focus while the others wait, and a region that must rise together does so in sweeps. Each goes on
 /// in proportion to what the other took, and both grow, so that a long focus is not disturbed. Nothing is claimed of it
 /// but that it is safe: numbers that would wrap stay where they are.
-#[derive(Clone, Copy, Debug)]
-pub(crate) struct Pace {
+#[derive(Drop)]
+pub struct Pace {
     /// Where to look for the next rank.
-    pub(crate) cursor: usize,
+    pub cursor: usize,
     /// Where the next sweep begins: no rank before it is pending that this sweep leaves behind.
-    pub(crate) low: usize,
+    pub low: usize,
     /// How many takes are left to focus; none in a sweep.
     fuel: u64,
     /// What sweeps have cost since the last focus.
@@ -34,7 +34,7 @@ const RANKS_PER_TAKE: usize = 512;
 
 impl Pace {
     /// Begins with a sweep over all ranks.
-    pub(crate) fn new() -> Pace {
+    pub fn new() -> Pace {
         Pace {
             cursor: 0,
             low: usize::MAX,
@@ -48,7 +48,7 @@ impl Pace {
 
     /// Goes on behind a rank that is taken. One before the cursor is the first of another sweep, or of a focus.
     #[inline(always)]
-    pub(crate) fn take(&mut self, rank: usize) {
+    pub fn take(&mut self, rank: usize) {
         if rank < self.cursor {
             self.turn();
         }
@@ -76,7 +76,7 @@ impl Pace {
 
     /// Goes back to a rank that is added, at once or in the next sweep.
     #[inline(always)]
-    pub(crate) fn add(&mut self, rank: usize) {
+    pub fn add(&mut self, rank: usize) {
         if rank >= self.cursor {
             return;
         }
@@ -89,7 +89,7 @@ impl Pace {
 
     /// Whether the rank taken last is taken again at once.
     #[inline(always)]
-    pub(crate) fn repeat(&mut self) -> bool {
+    pub fn repeat(&mut self) -> bool {
         if self.in_focus {
             let more = self.fuel > 0;
             self.fuel = self.fuel.saturating_sub(1);

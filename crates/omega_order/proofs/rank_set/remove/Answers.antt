@@ -1,8 +1,8 @@
 -- One bit is cleared.
 use Rattle.std.proofs.Common.{◌%◌, ◌<◌, arith, w64}
 use Rattle.std.proofs.lemmas.Nat.Bits.{bit_at_clear_other, bit_at_clear_same}
-use Rattle.omega_solve.proofs.schedules.Bits.{bit_kept, bit_written}
-use Rattle.omega_solve.proofs.rank_set.remove.Goals as goal
+use Rattle.omega_order.proofs.Bits.{bit_kept, bit_written}
+use Rattle.omega_order.proofs.rank_set.remove.Goals as goal
 
 pub returns-clause-outside : goal.returns-clause-outside
 returns-clause-outside c =

@@ -3,7 +3,7 @@ use Rattle.std.proofs.Common.{inl, inr, ◌≡◌, ◌≢◌, ◌==◌, ℕ, ◌
 use Rattle.std.specs.Int.{bit_at}
 use Rattle.std.proofs.lemmas.Bool.{cases_eq}
 use Rattle.std.proofs.lemmas.List.{get_or-set_other, get_or-set_same}
-use Rattle.omega_solve.specs.schedules.Nested.{is_set}
+use Rattle.omega_order.specs.RankSet.{is_set}
 
 -- the bit of a rank in the word that was written
 pub bit_written : (words : List ℕ) (rank word bit : ℕ) → rank / 64 < length words → bit_at word (rank % 64) ≡ bit

@@ -1,11 +1,11 @@
 //! A set of ranks, as words of 64 bits.
 ghost use Rattle.std.specs.Prelude.{◌≡◌, ◌≢◌, ℕ, ◌+◌, ◌-◌, ◌/◌, ◌<◌, ◌^◌, length, replicate, IfOk, true, false};
-ghost use Rattle.omega_solve.specs.schedules.Nested.{is_set};
+ghost use Rattle.omega_order.specs.RankSet.{is_set};
 
 use std::alloc::{AllocError, Global};
 
 /// The words of the set of all ranks that they have a bit for, of which there are more than `count`.
-pub(crate) fn all_ranks(alloc: Global, count: u32) -> Result<Vec<u64>, AllocError>
+pub fn all_ranks(alloc: Global, count: u32) -> Result<Vec<u64>, AllocError>
     ensures { IfOk result (λ words. words.items ≡ replicate (count / 64 + 1) (2 ^ 64 - 1)) }
 {
     vec![in alloc; u64::MAX; count as usize / 64 + 1]
@@ -13,7 +13,7 @@ pub(crate) fn all_ranks(alloc: Global, count: u32) -> Result<Vec<u64>, AllocErro
 
 /// Whether a rank is in the set.
 #[inline(always)]
-pub(crate) fn contains(words: &[u64], rank: usize) -> bool
+pub fn contains(words: &[u64], rank: usize) -> bool
     requires { rank / 64 < length words.now }
     ensures { result ≡ is_set words.now rank }
 {
@@ -22,7 +22,7 @@ pub(crate) fn contains(words: &[u64], rank: usize) -> bool
 
 /// Puts a rank into the set.
 #[inline(always)]
-pub(crate) fn insert(words: &mut [u64], rank: usize)
+pub fn insert(words: &mut [u64], rank: usize)
     requires { rank / 64 < length words.old }
     ensures inside { is_set words.new rank ≡ true }
     ensures others { (other : ℕ) → other ≢ rank → is_set words.new other ≡ is_set words.old other }
@@ -32,7 +32,7 @@ pub(crate) fn insert(words: &mut [u64], rank: usize)
 
 /// Takes a rank out of the set.
 #[inline(always)]
-pub(crate) fn remove(words: &mut [u64], rank: usize)
+pub fn remove(words: &mut [u64], rank: usize)
     requires { rank / 64 < length words.old }
     ensures outside { is_set words.new rank ≡ false }
     ensures others { (other : ℕ) → other ≢ rank → is_set words.new other ≡ is_set words.old other }
@@ -42,7 +42,7 @@ pub(crate) fn remove(words: &mut [u64], rank: usize)
 
 /// The least rank of the set from a rank on. Whoever uses it tests that it is in the set.
 #[inline(always)]
-pub(crate) fn least_from(words: &[u64], from: usize) -> Option<usize>
+pub fn least_from(words: &[u64], from: usize) -> Option<usize>
     requires { length words.now < 2 ^ 32 }
 {
     let first = from / 64;
