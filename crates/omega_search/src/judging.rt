@@ -7,9 +7,9 @@ ghost use Rattle.omega_search.specs.Regions.{AreRegions};
 ghost use Rattle.omega_search.specs.judging.Judging.{ChoosesWhereWon, HasPlaces, IsAccepted, WinsGiven};
 
 use crate::regions::Regions;
-use crate::searching::Suggestion;
 use omega_game::{Game, Player, Refusal, Seq, Strategy, check_strategy_by_order};
 use omega_region::regions_are_apart;
+use omega_zielonka::Suggestion;
 use std::alloc::{AllocError, Global};
 
 /// The regions that a search suggests where each player's choices win from all places given to that player, none else.

@@ -1,10 +1,9 @@
-//! Parity games solved by a fast search of which nothing is proved but that it is safe and ends. The checker of
-//! strategies judges what it suggests: what is accepted is exact, whatever the search did.
+//! Parity games solved by a fast search of which nothing is proved but that it is safe and ends (`omega_zielonka`). The
+//! checker of strategies judges what it suggests: what is accepted is exact, whatever the search did.
 #![tactic(auto)]
 
 mod judging;
 mod regions;
-mod searching;
 mod solving;
 
 pub use omega_game::{Game, Player, Refusal, Seq, Strategy};

@@ -3,8 +3,8 @@ ghost use Rattle.omega_search.specs.Regions.{AreRegions};
 
 use crate::judging::judged;
 use crate::regions::Regions;
-use crate::searching::search;
 use omega_game::{Game, Refusal};
+use omega_zielonka::search;
 use std::alloc::Global;
 
 /// The edges that the search may visit, for each place and each listed successor and for each bit of their number.

@@ -3,5 +3,4 @@ pub mod Flags
 pub mod Waking
 pub mod Sweeping
 pub mod Queueing
-pub mod Bits
 pub mod Nesting

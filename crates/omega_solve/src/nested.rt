@@ -1,12 +1,11 @@
 ghost use Rattle.std.specs.Prelude.{◌≡◌, ◌<◌, ◌^◌, length, false, IfSome, MatchOption};
-ghost use Rattle.omega_solve.specs.schedules.Nested.{is_set, HasBits, IsEmpty, IsPlaceAt, IsSomeRank};
+ghost use Rattle.omega_order.specs.RankSet.{is_set};
+ghost use Rattle.omega_solve.specs.schedules.Nested.{HasBits, IsEmpty, IsPlaceAt, IsSomeRank};
 
-use crate::order::nested_order;
-use crate::pace::Pace;
-use crate::rank_set::{all_ranks, contains, insert, least_from, remove};
-use crate::ranking::Ranking;
 use crate::schedule::Schedule;
 use omega_measure::{Game, Refusal};
+use omega_order::rank_set::{all_ranks, contains, insert, least_from, remove};
+use omega_order::{Pace, Ranking};
 use std::alloc::Global;
 use std::marker::Model;
 
@@ -50,11 +49,9 @@ impl Schedule for Nested {
     }
 
     fn prepare_for(alloc: Global, game: &Game) -> Result<Self, Refusal> {
-        let n = game.len() as u32;
-        let order = nested_order(alloc, game)?;
         Ok(Nested {
-            ranking: Ranking::along(alloc, n, order)?,
-            pending: all_ranks(alloc, n)?,
+            ranking: Ranking::nested(alloc, game)?,
+            pending: all_ranks(alloc, game.len() as u32)?,
             taken: 0,
             pace: Pace::new(),
         })

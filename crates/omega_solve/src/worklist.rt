@@ -1,10 +1,10 @@
-ghost use Rattle.std.specs.Prelude.{◌≡◌, ℕ, ◌+◌, ◌<◌, ◌≤◌, length, IfOk};
-ghost use Rattle.std.specs.List.{range_with_len};
+ghost use Rattle.std.specs.Prelude.{◌≡◌, ℕ, ◌+◌, ◌<◌, ◌≤◌, length};
 ghost use Rattle.omega_solve.specs.schedules.Worklist.{ClosesGap, queued, slot_of};
 
 use crate::schedule::Schedule;
 use omega_measure::Refusal;
-use std::alloc::{AllocError, Global};
+use omega_order::numbers_below;
+use std::alloc::Global;
 use std::marker::Model;
 
 /// Looks at the pending places first in, first out. At first all are pending, in rising order; an added place goes
@@ -75,13 +75,6 @@ impl Schedule for Worklist {
         self.count += 1;
         self.pending[place as usize] = true;
     }
-}
-
-/// The numbers below `n`.
-pub(crate) fn numbers_below(alloc: Global, n: u32) -> Result<Vec<u32>, AllocError>
-    ensures { IfOk result (λ ring. ring.items ≡ range_with_len 0 n) }
-{
-    (0..n).collect(alloc)
 }
 
 /// The slot of the `k`-th place of the queue, in a ring of `n` slots.

@@ -1,14 +1,15 @@
 -- What a nested schedule keeps, at its start and after takes and adds: the flags of places follow the bits of their ranks.
 use Rattle.std.proofs.Common.{◌≡◌, ◌≢◌, ℕ, ◌+◌, ◌-◌, ◌/◌, ◌%◌, ◌<◌, ◌^◌, zero, suc, Bool, true, false, List, [], ◌∷◌, Option, Some, None, length, arith, refl, sym, ap, ◌∙◌, get_or, map, set, replicate, slice_index, subst}
-use Rattle.std.specs.List.{range_with_len, slice_get}
+use Rattle.std.specs.List.{slice_get}
 use Rattle.std.specs.Int.{bit_at}
 use Rattle.std.specs.Option.{MatchOption}
 use Rattle.std.proofs.lemmas.List.{get_or-map, get_or-replicate, length-map, length-replicate}
-use Rattle.std.proofs.lemmas.List.FromFn.{get_or-range_with_len, length-range_with_len}
 use Rattle.std.proofs.lemmas.Nat.Bits.{bit_at_ones}
 use Rattle.std.proofs.lemmas.Option.{slice_get-get_or, slice_get_within}
 use Rattle.omega_solve.specs.Schedule.{IsIdle, IsPending}
-use Rattle.omega_solve.specs.schedules.Nested.{AreInverse, IsEmpty, IsNested, IsSomeRank, LeadsBack, flags_of, is_set}
+use Rattle.omega_order.specs.Ranking.{AreInverse}
+use Rattle.omega_order.specs.RankSet.{is_set}
+use Rattle.omega_solve.specs.schedules.Nested.{IsEmpty, IsNested, IsSomeRank, flags_of}
 
 -- functions that agree on a list's elements map it to the same list
 map_same : (f g : ℕ → Bool) (xs : List ℕ) → ((k : ℕ) → k < length xs → f (get_or xs k 0) ≡ g (get_or xs k 0)) → map f xs ≡ map g xs
@@ -136,20 +137,3 @@ nested_changed ranks places old new nested same = record {
   bits = omega (arith, nested.bits);
   small = omega (arith, nested.small);
 }
-
--- the places in rising order are their own ranks
-pub inverse_rising : (ranks places : List ℕ) (n : ℕ) → ranks ≡ range_with_len 0 n → places ≡ range_with_len 0 n → AreInverse ranks places
-inverse_rising ranks places n same_ranks same_places = record {
-  ranked = λ v lt. itself ranks places n v same_ranks same_places lt;
-  placed = λ r lt. itself places ranks n r same_places same_ranks lt;
-}
-  where
-    itself : (xs ys : List ℕ) (m i : ℕ) → xs ≡ range_with_len 0 m → ys ≡ range_with_len 0 m → i < length xs → LeadsBack xs ys i
-    itself xs ys m i same_xs same_ys lt =
-        let below : i < m = omega (arith, ap (λ (zs : List ℕ). length zs) same_xs, length-range_with_len 0 m) in
-        let entry : get_or (range_with_len 0 m) i 0 ≡ i = get_or-range_with_len 0 m i 0 below ∙ (omega arith) in
-        let here : get_or xs i 0 ≡ i = ap (λ (zs : List ℕ). get_or zs i 0) same_xs ∙ entry in
-        let there : get_or ys i 0 ≡ i = ap (λ (zs : List ℕ). get_or zs i 0) same_ys ∙ entry in (
-          omega (arith, here, ap (λ (zs : List ℕ). length zs) same_ys, length-range_with_len 0 m),
-          ap (λ (j : ℕ). get_or ys j 0) here ∙ there,
-        )

@@ -1,19 +1,7 @@
--- Places and their ranks, ranks in words of bits, and what a nested schedule keeps.
-use Rattle.std.specs.Prelude.{◌≡◌, ◌==◌, ℕ, ◌*◌, ◌/◌, ◌%◌, ◌<◌, ◌≤◌, ◌^◌, Bool, true, false, List, length, map, slice_index}
-use Rattle.std.specs.Int.{bit_at}
-
--- the number that a list has at an index is an index of another, where that one has the index
-abbrev pub LeadsBack : List ℕ → List ℕ → ℕ → Type 0
-LeadsBack xs ys i = (slice_index xs i < length ys) × (slice_index ys (slice_index xs i) ≡ i)
-
--- each place has a rank, and each rank a place
-pub record AreInverse (ranks places : List ℕ) : Type 0 where
-  pub ranked : (v : ℕ) → v < length ranks → LeadsBack ranks places v
-  pub placed : (r : ℕ) → r < length places → LeadsBack places ranks r
-
--- whether the bit of a rank is set
-abbrev pub is_set : List ℕ → ℕ → Bool
-is_set words rank = bit_at (slice_index words (rank / 64)) (rank % 64) == 1
+-- What a nested schedule keeps: for each place whether the bit of its rank is set.
+use Rattle.std.specs.Prelude.{◌≡◌, ℕ, ◌*◌, ◌<◌, ◌≤◌, ◌^◌, Bool, true, false, List, length, map, slice_index}
+use Rattle.omega_order.specs.Ranking.{AreInverse}
+use Rattle.omega_order.specs.RankSet.{is_set}
 
 -- for each place whether the bit of its rank is set
 abbrev pub flags_of : List ℕ → List ℕ → List Bool

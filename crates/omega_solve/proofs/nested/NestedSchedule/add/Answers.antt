@@ -2,7 +2,7 @@
 use Rattle.std.proofs.Common.{◌≡◌, Bool, List, ap, arith, length, subst, sym, true, ℕ, ◌<◌, ◌∙◌}
 use Rattle.std.proofs.lemmas.List.{get_or_default, length-map, with_items_is}
 use Rattle.omega_solve.specs.Schedule.{Pending, with_added}
-use Rattle.omega_solve.specs.schedules.Nested.{is_set}
+use Rattle.omega_order.specs.RankSet.{is_set}
 use Rattle.omega_solve.proofs.schedules.Nesting.{flags_changed}
 use Rattle.omega_solve.proofs.nested.NestedSchedule.add.Goals as goal
 

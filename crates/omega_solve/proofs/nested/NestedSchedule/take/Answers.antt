@@ -2,7 +2,7 @@
 use Rattle.std.proofs.Common.{◌≡◌, Bool, List, ap, arith, false, length, subst, sym, ℕ, ◌+◌, ◌∙◌}
 use Rattle.std.proofs.lemmas.List.{get_or_default, with_items_is}
 use Rattle.omega_solve.specs.Schedule.{IsPending, Pending, with_taken}
-use Rattle.omega_solve.specs.schedules.Nested.{is_set}
+use Rattle.omega_order.specs.RankSet.{is_set}
 use Rattle.omega_solve.proofs.schedules.Nesting.{flags_changed, pending_ranked}
 use Rattle.omega_solve.proofs.nested.NestedSchedule.take.Goals as goal
 

@@ -1,0 +1,3 @@
+-- The lemmas of orders and of sets of ranks.
+mod Bits
+mod Rising

@@ -1,0 +1,3 @@
+-- What contracts of orders cite.
+pub mod Ranking
+pub mod RankSet

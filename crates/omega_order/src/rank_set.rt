@@ -1,0 +1,63 @@
+//! A set of ranks, as words of 64 bits.
+ghost use Rattle.std.specs.Prelude.{◌≡◌, ◌≢◌, ℕ, ◌+◌, ◌-◌, ◌/◌, ◌<◌, ◌^◌, length, replicate, IfOk, true, false};
+ghost use Rattle.omega_order.specs.RankSet.{is_set};
+
+use std::alloc::{AllocError, Global};
+
+/// The words of the set of all ranks that they have a bit for, of which there are more than `count`.
+pub fn all_ranks(alloc: Global, count: u32) -> Result<Vec<u64>, AllocError>
+    ensures { IfOk result (λ words. words.items ≡ replicate (count / 64 + 1) (2 ^ 64 - 1)) }
+{
+    vec![in alloc; u64::MAX; count as usize / 64 + 1]
+}
+
+/// Whether a rank is in the set.
+#[inline(always)]
+pub fn contains(words: &[u64], rank: usize) -> bool
+    requires { rank / 64 < length words.now }
+    ensures { result ≡ is_set words.now rank }
+{
+    words[rank / 64] >> (rank % 64) & 1 == 1
+}
+
+/// Puts a rank into the set.
+#[inline(always)]
+pub fn insert(words: &mut [u64], rank: usize)
+    requires { rank / 64 < length words.old }
+    ensures inside { is_set words.new rank ≡ true }
+    ensures others { (other : ℕ) → other ≢ rank → is_set words.new other ≡ is_set words.old other }
+{
+    words[rank / 64] |= 1 << (rank % 64);
+}
+
+/// Takes a rank out of the set.
+#[inline(always)]
+pub fn remove(words: &mut [u64], rank: usize)
+    requires { rank / 64 < length words.old }
+    ensures outside { is_set words.new rank ≡ false }
+    ensures others { (other : ℕ) → other ≢ rank → is_set words.new other ≡ is_set words.old other }
+{
+    words[rank / 64] &= !(1 << (rank % 64));
+}
+
+/// The least rank of the set from a rank on. Whoever uses it tests that it is in the set.
+#[inline(always)]
+pub fn least_from(words: &[u64], from: usize) -> Option<usize>
+    requires { length words.now < 2 ^ 32 }
+{
+    let first = from / 64;
+    if first >= words.len() {
+        return None;
+    }
+    let rest = words[first] & (u64::MAX << (from % 64));
+    if rest != 0 {
+        return Some(first * 64 + rest.trailing_zeros() as usize);
+    }
+    for index in first + 1..words.len() {
+        let word = words[index];
+        if word != 0 {
+            return Some(index * 64 + word.trailing_zeros() as usize);
+        }
+    }
+    None
+}

@@ -1,0 +1,206 @@
+//! Which places are in play, and the attractors: the places from which a player forces a visit.
+use crate::numbers::{NONE, Numbers, number_of};
+use omega_game::{Game, Player};
+use std::alloc::{AllocError, Global};
+
+/// The depth of a place that is won.
+pub(crate) const WON: u32 = 0;
+
+/// The depth of a place that waits for the search of its component, or is lost there.
+pub(crate) const WAITING: u32 = 1;
+
+/// The places of a game by the depth of the subgame that took them out of play.
+#[derive(Drop)]
+pub(crate) struct Board {
+    // By place: that depth, or none while it is in play; the index of the successor that was seen in play last; and the
+    // place that its owner moves to.
+    depth: Numbers,
+    watched: Numbers,
+    moves: Numbers,
+    // The places taken out for the tops of the open subgames, in the order taken.
+    trail: Vec<u32>,
+    fuel: u64,
+}
+
+impl Board {
+    /// All places waiting.
+    pub(crate) fn new(alloc: Global, game: &Game, fuel: u64) -> Result<Board, AllocError> {
+        let count = game.len();
+        let depth = Numbers::filled(alloc, count, WAITING)?;
+        let watched = Numbers::filled(alloc, count, 0)?;
+        let moves = Numbers::filled(alloc, count, NONE)?;
+        let trail = Vec::with_capacity(alloc, count)?;
+        Ok(Board {
+            depth,
+            watched,
+            moves,
+            trail,
+            fuel,
+        })
+    }
+
+    /// Uses up fuel for so many edges.
+    #[inline(always)]
+    pub(crate) fn spend(&mut self, edges: usize) {
+        self.fuel = self.fuel.saturating_sub(edges as u64);
+    }
+
+    /// Whether no fuel is left.
+    pub(crate) fn is_spent(&self) -> bool {
+        self.fuel == 0
+    }
+
+    /// The place that each place's owner moves to.
+    pub(crate) fn into_moves(self) -> Vec<u32> {
+        let Board { moves, .. } = self;
+        moves.into_items()
+    }
+
+    /// The length of the trail.
+    pub(crate) fn reached(&self) -> u32 {
+        number_of(self.trail.len())
+    }
+
+    /// The place at a position of the trail, none past its end.
+    #[inline(always)]
+    pub(crate) fn on_trail(&self, position: u32) -> u32 {
+        match self.trail.get(position as usize) {
+            Some(place) => *place,
+            None => NONE,
+        }
+    }
+
+    /// Cuts off the trail.
+    pub(crate) fn cut(&mut self, length: u32) {
+        self.trail.truncate(length as usize);
+    }
+
+    /// Whether a place is in play in the subgame at a depth.
+    #[inline(always)]
+    pub(crate) fn is_in(&self, place: u32, depth: u32) -> bool {
+        self.depth.at(place) >= depth
+    }
+
+    /// Whether a place is in play.
+    #[inline(always)]
+    pub(crate) fn is_in_play(&self, place: u32) -> bool {
+        self.depth.at(place) == NONE
+    }
+
+    /// Whether a place waits.
+    pub(crate) fn is_waiting(&self, place: u32) -> bool {
+        self.depth.at(place) == WAITING
+    }
+
+    /// Notes the depth of a place.
+    #[inline(always)]
+    pub(crate) fn put(&mut self, place: u32, depth: u32) {
+        self.depth.put(place, depth);
+    }
+
+    /// Takes a place out at a depth, as one of the trail.
+    #[inline(always)]
+    pub(crate) fn take(&mut self, place: u32, depth: u32) -> Result<(), AllocError> {
+        self.depth.put(place, depth);
+        self.trail.push(place)?;
+        Ok(())
+    }
+
+    /// Takes out at a depth all places deeper in play from which the player forces a visit to those of the trail from a
+    /// position on.
+    pub(crate) fn attract(
+        &mut self,
+        game: &Game,
+        player: Player,
+        depth: u32,
+        from: u32,
+    ) -> Result<(), AllocError> {
+        for position in from..NONE {
+            let place = self.on_trail(position);
+            if place == NONE {
+                break;
+            }
+            self.attract_to(game, player, depth, place)?;
+        }
+        Ok(())
+    }
+
+    /// Takes out those from which the player forces a visit to a place by one step, which is out already.
+    pub(crate) fn attract_to(
+        &mut self,
+        game: &Game,
+        player: Player,
+        depth: u32,
+        place: u32,
+    ) -> Result<(), AllocError> {
+        if place as usize >= game.len() {
+            return Ok(());
+        }
+        let predecessors = game.predecessors(place);
+        self.spend(predecessors.len());
+        for before in predecessors {
+            let before = *before;
+            if self.depth.at(before) > depth && self.is_forced(game, player, depth, before, place) {
+                self.take(before, depth)?;
+            }
+        }
+        Ok(())
+    }
+
+    /// Whether the player forces a step from a place out of play, where the player may move to `target`.
+    fn is_forced(
+        &mut self,
+        game: &Game,
+        player: Player,
+        depth: u32,
+        place: u32,
+        target: u32,
+    ) -> bool {
+        if place as usize >= game.len() {
+            return false;
+        }
+        if game.owner(place) == player {
+            self.moves.put(place, target);
+            return true;
+        }
+        let successors = game.successors(place);
+        let watched = self.watched.at(place);
+        !self.finds(
+            successors,
+            watched,
+            number_of(successors.len()),
+            depth,
+            place,
+        ) && !self.finds(successors, 0, watched, depth, place)
+    }
+
+    /// Whether one of a range of successors is deeper in play, which is then watched.
+    fn finds(&mut self, successors: &[u32], start: u32, end: u32, depth: u32, place: u32) -> bool {
+        for index in start..end {
+            let successor = match successors.get(index as usize) {
+                Some(successor) => *successor,
+                None => return false,
+            };
+            if self.depth.at(successor) > depth {
+                self.watched.put(place, index);
+                return true;
+            }
+            self.spend(1);
+        }
+        false
+    }
+
+    /// Lets the player move from a place to the first successor that is in play at a depth.
+    pub(crate) fn choose(&mut self, game: &Game, player: Player, depth: u32, place: u32) {
+        if place as usize >= game.len() || game.owner(place) != player {
+            return;
+        }
+        for successor in game.successors(place) {
+            if self.is_in(*successor, depth) {
+                self.moves.put(place, *successor);
+                return;
+            }
+            self.spend(1);
+        }
+    }
+}
