@@ -1,14 +1,13 @@
 ghost use Rattle.std.specs.Prelude.{◌≡◌, None, IfErr, IfOk};
 ghost use Rattle.omega_automaton.specs.Meaning.{IsMeaningless};
-ghost use Rattle.omega_automaton.specs.layout.Draft.{IsDraftOf};
-ghost use Rattle.omega_automaton.specs.layout.Order.{early_fault as earliest};
+ghost use Rattle.omega_automaton.specs.layout.Draft.{IsDraftOf, IsOutlineOf};
+ghost use Rattle.omega_automaton.specs.layout.Order.{IsLastFault, last_fault as last};
 
-use crate::judging::{
-    early_fault, has_deep_acceptance, last_fault, late_fault, set_count, state_count,
-};
+use crate::judging::last_fault;
+use crate::making::definitions::Definitions;
 use crate::making::gathered::Gathered;
 use crate::making::items::gather;
-use omega_acc::Aliases;
+use crate::making::outline::{Outline, outline_of};
 use omega_raw::{RawAutomaton, RawState};
 use omega_text::{Refusal, Seq};
 use std::alloc::Global;
@@ -17,7 +16,7 @@ use std::alloc::Global;
 #[derive(Drop)]
 pub(crate) struct Draft {
     pub gathered: Gathered,
-    pub aliases: Aliases,
+    pub definitions: Definitions,
     pub states: Seq<RawState>,
     pub state_count: u32,
     pub set_count: u32,
@@ -28,38 +27,47 @@ pub(crate) fn draft_of(alloc: Global, raw: RawAutomaton) -> Result<Draft, Refusa
     ensures ok { IfOk result (λ draft. IsDraftOf raw draft) }
     ensures err { IfErr result (IsMeaningless raw) }
 {
-    let fault = early_fault(alloc, &raw)?;
-    match fault {
-        Some(fault) => Err(Refusal::Automaton(fault)),
-        None => later_draft(alloc, raw),
-    }
+    let outline = outline_of(alloc, &raw)?;
+    later_draft(alloc, raw, outline)
 }
 
 /// The same where none of the faults 20 to 26 applies.
-fn later_draft(alloc: Global, raw: RawAutomaton) -> Result<Draft, Refusal>
-    requires { earliest raw ≡ None }
+fn later_draft(alloc: Global, raw: RawAutomaton, outline: Outline) -> Result<Draft, Refusal>
+    requires { IsOutlineOf raw outline }
     ensures ok { IfOk result (λ draft. IsDraftOf raw draft) }
     ensures err { IfErr result (IsMeaningless raw) }
 {
-    let late = late_fault(alloc, &raw)?;
-    let acceptance = has_deep_acceptance(raw.items.as_slice());
-    let states_said = state_count(&raw);
-    let sets_said = set_count(&raw);
     let RawAutomaton {
         version: _version,
         items,
         states,
     } = raw;
     let (gathered, definitions) = gather(alloc, items)?;
-    let fault = last_fault(alloc, &definitions, states.as_slice(), late, acceptance)?;
+    let draft = Draft {
+        gathered,
+        definitions,
+        states,
+        state_count: outline.state_count,
+        set_count: outline.set_count,
+    };
+    judged(alloc, draft, outline)
+}
+
+/// The draft where none of the faults 27 to 33 applies. No definition has the fault 27.
+fn judged(alloc: Global, draft: Draft, outline: Outline) -> Result<Draft, Refusal>
+    ensures same { IfOk result (λ judged. judged ≡ draft) }
+    ensures ok { IfOk result (λ judged. last draft.definitions draft.states outline.late outline.deep ≡ None) }
+    ensures err { IfErr result (IsLastFault draft.definitions draft.states outline.late outline.deep) }
+{
+    let fault = last_fault(
+        alloc,
+        &draft.definitions,
+        draft.states.as_slice(),
+        outline.late,
+        outline.deep,
+    )?;
     match fault {
         Some(fault) => Err(Refusal::Automaton(fault)),
-        None => Ok(Draft {
-            gathered,
-            aliases: definitions.aliases,
-            states,
-            state_count: states_said,
-            set_count: sets_said,
-        }),
+        None => Ok(draft),
     }
 }
