@@ -58,12 +58,11 @@ impl Automaton {
         gathered: Gathered,
         states: u32,
         sets: u32,
-        acceptance: Acc,
         body: Body,
     ) -> Automaton
-        requires automaton { IsAutomaton (described gathered states sets acceptance body.defined) }
+        requires automaton { IsAutomaton (described gathered states sets body.acceptance body.defined) }
         requires counted { body.edge_count ≡ length (flat_map edges_from body.defined) }
-        ensures { result ≡ described gathered states sets acceptance body.defined }
+        ensures { result ≡ described gathered states sets body.acceptance body.defined }
     {
         let Gathered {
             tool,
@@ -83,7 +82,7 @@ impl Automaton {
             propositions: propositions.unwrap_or(Seq::new(alloc)),
             acc_name,
             set_count: sets,
-            acceptance,
+            acceptance: body.acceptance,
             properties: Seq::from_vec(properties),
             unknown: Seq::from_vec(unknown),
             defined: body.defined,

@@ -10,8 +10,7 @@ use Rattle.omega_raw.specs.declared.raw_automaton.RawAutomaton.{RawAutomaton}
 use Rattle.omega_automaton.specs.Automaton.{Description}
 use Rattle.omega_automaton.specs.Faults.{definitions_of, fault_of, passes, set_count, state_count}
 use Rattle.omega_automaton.specs.Items.{acceptance_in}
-use Rattle.omega_automaton.specs.Meaning.{Means}
-use Rattle.omega_automaton.specs.declared.making.draft.Draft.{Draft}
+use Rattle.omega_automaton.specs.declared.making.definitions.Definitions.{Definitions}
 use Rattle.omega_automaton.specs.declared.making.gathered.Gathered.{Gathered}
 use Rattle.omega_automaton.specs.declared.making.outline.Outline.{Outline}
 use Rattle.omega_automaton.specs.declared.state.State.{State}
@@ -26,22 +25,11 @@ pub record IsOutlineOf (raw : RawAutomaton) (outline : Outline) : Type 0 where
   pub counted : outline.state_count ≡ state_count raw
   pub sets : outline.set_count ≡ set_count raw
 
--- the draft of an automaton that is written and has no fault
-pub record IsDraftOf (raw : RawAutomaton) (draft : Draft) : Type 0 where
+-- what is written has no fault, and its items are gathered
+pub record IsDraftOf (raw : RawAutomaton) (all : Gathered) (definitions : Definitions) : Type 0 where
   pub faultless : fault_of raw ≡ None
-  pub gathered : HasGathered raw.items draft.gathered
-  pub aliases : draft.definitions.aliases ≡ definitions_of raw
-  pub states : draft.states ≡ raw.states
-  pub counted : draft.state_count ≡ state_count raw
-  pub sets : draft.set_count ≡ set_count raw
-
--- it is the draft of some automaton that is written
-abbrev pub IsDraft : Draft → Type 0
-IsDraft draft = (raw : RawAutomaton) × IsDraftOf raw draft
-
--- the automaton is what is meant wherever this is the draft
-abbrev pub IsMadeOf : Draft → Description → Type 0
-IsMadeOf draft automaton = (raw : RawAutomaton) → IsDraftOf raw draft → Means raw automaton
+  pub gathered : HasGathered raw.items all
+  pub aliases : definitions.aliases ≡ definitions_of raw
 
 -- a formula is there and has no fault
 abbrev pub IsSoundAcceptance : Option RawAccTree → Type 0
