@@ -1,8 +1,8 @@
--- `has_name_twice`: a name that is seen already stands twice.
+-- `sees_name_twice`: a name that is seen already stands twice.
 use Rattle.std.proofs.Common.{◌≡◌, ℕ, List, true, false, Bor, ◌∙◌, rules}
 use Rattle.std.specs.Str.{bytes_eq}
 use Rattle.omega_automaton.proofs.Repeats.{seen_once, seen_twice}
-use Rattle.omega_automaton.proofs.judging.repeats.has_name_twice.Goals as goal
+use Rattle.omega_automaton.proofs.judging.repeats.sees_name_twice.Goals as goal
 
 pub returns-then-not-branch-clause-ok : goal.returns-then-not-branch-clause-ok
 returns-then-not-branch-clause-ok c =

@@ -1,9 +1,9 @@
--- `has_number_twice`: a number that is seen already stands twice.
+-- `sees_number_twice`: a number that is seen already stands twice.
 use Rattle.std.proofs.Common.{◌≡◌, ◌<◌, ℕ, List, true, false, nat_eq, map, length, get_or, ap, sym, ◌∙◌, rules}
 use Rattle.std.proofs.lemmas.List.{get_or-map, length-map}
 use Rattle.omega_raw.specs.declared.raw_state.RawState.{RawState}
 use Rattle.omega_automaton.proofs.Repeats.{seen_once, seen_twice}
-use Rattle.omega_automaton.proofs.judging.repeats.has_number_twice.Goals as goal
+use Rattle.omega_automaton.proofs.judging.repeats.sees_number_twice.Goals as goal
 
 -- the numbers of states
 abbrev numbers : List RawState → List ℕ

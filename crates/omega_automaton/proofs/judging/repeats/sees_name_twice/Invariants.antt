@@ -1,8 +1,8 @@
--- What holds in the loop of `has_name_twice`: the names so far are seen, and no two are alike.
+-- What holds in the loop of `sees_name_twice`: the names so far are seen, and no two are alike.
 use Rattle.std.proofs.Common.{◌≡◌, List, ℕ, false, map, take, Bor}
 use Rattle.std.specs.Str.{bytes_eq}
 use Rattle.omega_automaton.specs.Automaton.{has_repeat}
-use Rattle.omega_automaton.proofs.judging.repeats.has_name_twice.Given as goal
+use Rattle.omega_automaton.proofs.judging.repeats.sees_name_twice.Given as goal
 
 abbrev pub invariant-loop-name : goal.invariant-loop-name
 invariant-loop-name l =

@@ -1,8 +1,8 @@
--- What holds in the loop of `has_number_twice`: the numbers so far are seen, and no two are alike.
+-- What holds in the loop of `sees_number_twice`: the numbers so far are seen, and no two are alike.
 use Rattle.std.proofs.Common.{◌≡◌, ℕ, false, nat_eq, map, take}
 use Rattle.omega_raw.specs.declared.raw_state.RawState.{RawState}
 use Rattle.omega_automaton.specs.Automaton.{has_repeat}
-use Rattle.omega_automaton.proofs.judging.repeats.has_number_twice.Given as goal
+use Rattle.omega_automaton.proofs.judging.repeats.sees_number_twice.Given as goal
 
 abbrev pub invariant-loop-state : goal.invariant-loop-state
 invariant-loop-state l =
