@@ -1,10 +1,11 @@
 -- Acceptance formulas as they are written in postfix order: what makes nodes and names a formula.
-use Rattle.std.proofs.Common.{◌≡◌, ℕ, List, [], ◌∷◌, ◌++◌, ap, append_assoc, sym, ◌∙◌}
+use Rattle.std.proofs.Common.{◌≡◌, ℕ, List, [], ◌∷◌, ◌++◌, ap, append_assoc, sym, ◌∙◌, ◌+◌, max, refl}
 use Rattle.omega_acc.specs.RawAcc.{RawAccTree, conjunction, disjunction, group, raw_acc_depth}
 use Rattle.omega_acc.specs.Depth.{counted}
 use Rattle.omega_acc.specs.layout.RawAcc.{IsRawAcc, atom_names, raw_acc_postfix, raw_acc_tree_of, raw_acc_tree_of-postfix}
+use Rattle.omega_acc.specs.layout.AccJoining.{IsJoining, joined_by}
 use Rattle.omega_acc.specs.declared.raw_acc.RawAccNode.{RawAccNode}
-use Rattle.omega_acc.specs.declared.raw_acc.RawAccNode.TheVariants.{And, Group, Or}
+use Rattle.omega_acc.specs.declared.raw_acc.RawAccNode.TheVariants.{And, Atom, Constant, Group, Or}
 
 -- nodes and names are those of a tree
 pub record AreOfAcc (tree : RawAccTree) (nodes : List RawAccNode) (names : List ℕ) : Type 0 where
@@ -60,3 +61,32 @@ AreOfAcc-disjunction left right one other both all these those names is_left is_
     let left_named = is_left.named in
     let right_named = is_right.named in
     record { flat = cc; named = cc }
+
+-- the nodes and names of two parts and an operator
+AreOfAcc-joined : (operator : RawAccNode) (left right : RawAccTree) (one other all : List RawAccNode) (these those names : List ℕ) → IsJoining operator
+    → AreOfAcc left one these → AreOfAcc right other those → all ≡ (one ++ other) ++ operator ∷ [] → names ≡ these ++ those
+    → AreOfAcc (joined_by operator left right) all names
+AreOfAcc-joined (Constant value) left right one other all these those names joins is_left is_right ended named = absurd joins
+AreOfAcc-joined (Atom count negated set) left right one other all these those names joins is_left is_right ended named = absurd joins
+AreOfAcc-joined Group left right one other all these those names joins is_left is_right ended named = absurd joins
+AreOfAcc-joined And left right one other all these those names joins is_left is_right ended named =
+    AreOfAcc-conjunction left right one other (one ++ other) all these those names is_left is_right refl ended named
+AreOfAcc-joined Or left right one other all these those names joins is_left is_right ended named =
+    AreOfAcc-disjunction left right one other (one ++ other) all these those names is_left is_right refl ended named
+
+-- the same of what was taken apart, appended and put together again
+pub AreOfAcc-appended : (operator : RawAccNode) (left right : RawAccTree) (one other first second all made : List RawAccNode) (these those before more names last : List ℕ)
+    → IsJoining operator → AreOfAcc left one these → AreOfAcc right other those → first ≡ one → before ≡ these → second ≡ other → more ≡ those
+    → all ≡ (first ++ second) ++ operator ∷ [] → names ≡ before ++ more → made ≡ all → last ≡ names → AreOfAcc (joined_by operator left right) made last
+AreOfAcc-appended operator left right one other first second all made these those before more names last joins is_left is_right opened opened_names lent lent_names flat named closed closed_names =
+    let nodes : made ≡ (one ++ other) ++ operator ∷ [] = cc in
+    let names_last : last ≡ these ++ those = cc in
+    AreOfAcc-joined operator left right one other made these those last joins is_left is_right nodes names_last
+
+-- an operator has one more than its deeper part
+pub joined_deep : (operator : RawAccNode) (left right : RawAccTree) → raw_acc_depth (joined_by operator left right) ≡ max (raw_acc_depth left) (raw_acc_depth right) + 1
+joined_deep (Constant value) left right = refl
+joined_deep (Atom count negated set) left right = refl
+joined_deep Group left right = refl
+joined_deep And left right = refl
+joined_deep Or left right = refl

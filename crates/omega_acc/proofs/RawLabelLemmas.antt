@@ -1,10 +1,11 @@
 -- Labels as they are written in postfix order: what makes nodes and names a label.
-use Rattle.std.proofs.Common.{◌≡◌, ℕ, List, [], ◌∷◌, ◌++◌, ap, append_assoc, sym, ◌∙◌}
+use Rattle.std.proofs.Common.{◌≡◌, ℕ, List, [], ◌∷◌, ◌++◌, ap, append_assoc, sym, ◌∙◌, ◌+◌, max, refl}
 use Rattle.omega_acc.specs.RawLabel.{RawLabelTree, conjunction, disjunction, group, negation, raw_depth}
 use Rattle.omega_acc.specs.Depth.{counted}
 use Rattle.omega_acc.specs.layout.RawLabel.{IsRawLabel, alias_names, raw_postfix, raw_tree_of, raw_tree_of-postfix}
+use Rattle.omega_acc.specs.layout.Joining.{IsJoining, joined_by}
 use Rattle.omega_acc.specs.declared.label.LabelNode.{LabelNode}
-use Rattle.omega_acc.specs.declared.label.LabelNode.TheVariants.{And, Group, Not, Or}
+use Rattle.omega_acc.specs.declared.label.LabelNode.TheVariants.{Alias, And, Constant, Group, Not, Or, Proposition}
 
 -- nodes and names are those of a tree
 pub record AreOf (tree : RawLabelTree) (nodes : List LabelNode) (names : List ℕ) : Type 0 where
@@ -65,3 +66,36 @@ AreOf-disjunction left right one other both all these those names is_left is_rig
     let left_named = is_left.named in
     let right_named = is_right.named in
     record { flat = cc; named = cc }
+
+-- the nodes and names of two parts and an operator
+AreOf-joined : (operator : LabelNode) (left right : RawLabelTree) (one other all : List LabelNode) (these those names : List ℕ) → IsJoining operator
+    → AreOf left one these → AreOf right other those → all ≡ (one ++ other) ++ operator ∷ [] → names ≡ these ++ those
+    → AreOf (joined_by operator left right) all names
+AreOf-joined (Constant value) left right one other all these those names joins is_left is_right ended named = absurd joins
+AreOf-joined (Proposition number) left right one other all these those names joins is_left is_right ended named = absurd joins
+AreOf-joined (Alias count) left right one other all these those names joins is_left is_right ended named = absurd joins
+AreOf-joined Not left right one other all these those names joins is_left is_right ended named = absurd joins
+AreOf-joined Group left right one other all these those names joins is_left is_right ended named = absurd joins
+AreOf-joined And left right one other all these those names joins is_left is_right ended named =
+    AreOf-conjunction left right one other (one ++ other) all these those names is_left is_right refl ended named
+AreOf-joined Or left right one other all these those names joins is_left is_right ended named =
+    AreOf-disjunction left right one other (one ++ other) all these those names is_left is_right refl ended named
+
+-- the same of what was taken apart, appended and put together again
+pub AreOf-appended : (operator : LabelNode) (left right : RawLabelTree) (one other first second all made : List LabelNode) (these those before more names last : List ℕ)
+    → IsJoining operator → AreOf left one these → AreOf right other those → first ≡ one → before ≡ these → second ≡ other → more ≡ those
+    → all ≡ (first ++ second) ++ operator ∷ [] → names ≡ before ++ more → made ≡ all → last ≡ names → AreOf (joined_by operator left right) made last
+AreOf-appended operator left right one other first second all made these those before more names last joins is_left is_right opened opened_names lent lent_names flat named closed closed_names =
+    let nodes : made ≡ (one ++ other) ++ operator ∷ [] = cc in
+    let names_last : last ≡ these ++ those = cc in
+    AreOf-joined operator left right one other made these those last joins is_left is_right nodes names_last
+
+-- an operator has one more than its deeper part
+pub joined_deep : (operator : LabelNode) (left right : RawLabelTree) → raw_depth (joined_by operator left right) ≡ max (raw_depth left) (raw_depth right) + 1
+joined_deep (Constant value) left right = refl
+joined_deep (Proposition number) left right = refl
+joined_deep (Alias count) left right = refl
+joined_deep Not left right = refl
+joined_deep Group left right = refl
+joined_deep And left right = refl
+joined_deep Or left right = refl

@@ -1,10 +1,10 @@
 -- Texts that lie in one buffer: one more, one taken, and what is put in its place.
-use Rattle.std.proofs.Common.{◌≡◌, ℕ, ◌+◌, ◌≤◌, Bool, false, List, [], ◌∷◌, ◌++◌, length, reverse, take, drop, min, ap, append_assoc, append-nil, refl, subst, sym, ◌∙◌, arith, length-append, length-take}
+use Rattle.std.proofs.Common.{◌≡◌, ℕ, ◌≤◌, Bool, false, List, [], ◌∷◌, ◌++◌, length, reverse, take, drop, min, ap, append_assoc, sym, ◌∙◌, arith, length-take}
 use Rattle.std.proofs.Math.Seq.{drop-append_seam, drop-length, take-append_seam, take-length}
 use Rattle.std.proofs.lemmas.List.{drop_min, reverse-append, take-append-drop, take_min}
 use Rattle.std.specs.List.{insert}
 use Rattle.std.specs.Prelude.{nat_le, nat_lt}
-use Rattle.omega_acc.specs.Writing.{Text, atom_text, bracketed, joined_text, negated_text}
+use Rattle.omega_acc.specs.Writing.{Text, bracketed, joined_text, negated_text}
 use Rattle.omega_acc.specs.layout.Texts.{IsPartBefore, joined_bytes, texts_below, texts_in, top_text}
 use Rattle.omega_acc.specs.declared.texts.Part.{Part}
 

@@ -7,7 +7,7 @@ use Rattle.omega_acc.specs.Writing.{Text, acc_text, label_text}
 use Rattle.omega_acc.specs.layout.Acceptance.{acc_postfix}
 use Rattle.omega_acc.specs.layout.Joins.{regrouped}
 use Rattle.omega_acc.specs.layout.Label.{postfix}
-use Rattle.omega_acc.specs.layout.Texts.{acc_texts_behind, texts_behind}
+use Rattle.omega_acc.specs.layout.Texts.{acc_texts_behind, texts_behind, top_text}
 use Rattle.omega_acc.specs.declared.acc.AccNode.{AccNode}
 use Rattle.omega_acc.specs.declared.acc.AccNode.TheVariants as node
 use Rattle.omega_acc.specs.declared.label.LabelNode.{LabelNode}
@@ -43,3 +43,15 @@ acc_texts_behind-postfix (acc.disjunction left right) stack rest =
 -- a formula's nodes alone leave its text alone
 pub texts_behind-formula : (tree : AccTree) → acc_texts_behind [] (acc_postfix tree) ≡ acc_text tree ∷ []
 texts_behind-formula tree = ap (acc_texts_behind []) (sym (append-nil (acc_postfix tree))) ∙ acc_texts_behind-postfix tree [] []
+
+-- the text on top is the label's, where the nodes of the label make what is there
+pub top_of-label : (label : LabelTree) (first texts : List Text) (nodes : List LabelNode) → first ≡ [] → nodes ≡ postfix label → texts ≡ texts_behind first nodes
+    → top_text texts ≡ label_text label
+top_of-label label first texts nodes none is behind =
+    ap top_text (behind ∙ (ap (λ front. texts_behind front nodes) none ∙ (ap (texts_behind []) is ∙ texts_behind-label label)))
+
+-- the text on top is the formula's, where the nodes of the formula make what is there
+pub top_of-formula : (formula : AccTree) (first texts : List Text) (nodes : List AccNode) → first ≡ [] → nodes ≡ acc_postfix formula
+    → texts ≡ acc_texts_behind first nodes → top_text texts ≡ acc_text formula
+top_of-formula formula first texts nodes none is behind =
+    ap top_text (behind ∙ (ap (λ front. acc_texts_behind front nodes) none ∙ (ap (acc_texts_behind []) is ∙ texts_behind-formula formula)))

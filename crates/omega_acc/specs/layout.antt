@@ -1,5 +1,6 @@
 pub mod AccBuilding
 pub mod AccFields
+pub mod AccJoining
 pub mod AccStates
 pub mod Acceptance
 pub mod Aliases
@@ -8,6 +9,7 @@ pub mod Building
 pub mod Chain
 pub mod Emitting
 pub mod Extents
+pub mod Joining
 pub mod Joins
 pub mod Label
 pub mod LabelFields

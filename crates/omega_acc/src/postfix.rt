@@ -1,6 +1,6 @@
 //! Nodes in postfix order, and the names that stand beside them.
 
-ghost use Rattle.std.specs.Prelude.{◌≡◌, ◌∷◌, ◌++◌, [], IfErr, IfOk};
+ghost use Rattle.std.specs.Prelude.{◌≡◌, ◌∷◌, ◌++◌, [], IfErr, IfOk, OnOk};
 ghost use Rattle.omega_acc.specs.Depth.{IsMemory};
 
 use omega_text::{Refusal, Seq};
@@ -34,6 +34,24 @@ pub(crate) fn with_all<N: Copy>(nodes: Seq<N>, others: Seq<N>) -> Result<Seq<N>,
     let mut nodes = nodes.into_vec();
     nodes.extend_from_slice(others.as_slice())?;
     Ok(Seq::from_vec(nodes))
+}
+
+/// Appends the nodes and names of another part, and behind them an operator.
+pub(crate) fn append<N: Copy + Drop>(
+    nodes: &mut Vec<N>,
+    names: &mut Vec<u8>,
+    others: &[N],
+    more: &[u8],
+    operator: N,
+) -> Result<(), Refusal>
+    ensures nodes { OnOk result (nodes.new.items ≡ (nodes.old.items ++ others.now) ++ operator ∷ []) }
+    ensures names { OnOk result (names.new.items ≡ names.old.items ++ more.now) }
+    ensures err { IfErr result IsMemory }
+{
+    nodes.extend_from_slice(others)?;
+    nodes.push(operator)?;
+    names.extend_from_slice(more)?;
+    Ok(())
 }
 
 /// The same nodes in as much memory as they need.

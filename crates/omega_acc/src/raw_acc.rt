@@ -4,12 +4,13 @@ ghost use Rattle.omega_acc.specs.RawAcc.{atom as atom_tree, conjunction, constan
 ghost use Rattle.omega_acc.specs.Depth.{IsDeeper, IsMemory, counted};
 ghost use Rattle.omega_acc.specs.Limits.{most_depth};
 ghost use Rattle.omega_acc.specs.layout.Plain.{set_below};
+ghost use Rattle.omega_acc.specs.layout.AccJoining.{IsJoining, joined_by};
 
 use crate::acc::Acc;
 use crate::depth::deeper;
 use crate::limits::MOST_DEPTH;
 use crate::plain::{depth_of, nodes_of};
-use crate::postfix::{alone, with_all, with_one};
+use crate::postfix::{alone, append, with_one};
 use omega_text::{AutomatonFault, Refusal, Seq};
 use std::alloc::Global;
 use std::marker::Model;
@@ -106,13 +107,7 @@ impl RawAcc {
         ensures shallow { IfOk result (λ formula. raw_acc_depth formula ≤ most_depth) }
         ensures err { IfErr result (IsDeeper (most_depth ≤ max (raw_acc_depth self) (raw_acc_depth other))) }
     {
-        let depth = deeper(self.depth.max(other.depth))?;
-        let nodes = with_all(self.nodes, other.nodes)?;
-        Ok(RawAcc {
-            nodes: with_one(nodes, RawAccNode::And)?,
-            names: with_all(self.names, other.names)?,
-            depth,
-        })
+        self.joined(other, RawAccNode::And)
     }
 
     /// Both formulas joined by `|`. Refusal 32 where they would be too deep.
@@ -121,11 +116,29 @@ impl RawAcc {
         ensures shallow { IfOk result (λ formula. raw_acc_depth formula ≤ most_depth) }
         ensures err { IfErr result (IsDeeper (most_depth ≤ max (raw_acc_depth self) (raw_acc_depth other))) }
     {
+        self.joined(other, RawAccNode::Or)
+    }
+
+    /// Both formulas joined by an operator. Refusal 32 where they would be too deep.
+    fn joined(self, other: RawAcc, operator: RawAccNode) -> Result<RawAcc, Refusal>
+        requires { IsJoining operator }
+        ensures ok { IfOk result (λ formula. formula ≡ joined_by operator self other) }
+        ensures shallow { IfOk result (λ formula. raw_acc_depth formula ≤ most_depth) }
+        ensures err { IfErr result (IsDeeper (most_depth ≤ max (raw_acc_depth self) (raw_acc_depth other))) }
+    {
         let depth = deeper(self.depth.max(other.depth))?;
-        let nodes = with_all(self.nodes, other.nodes)?;
+        let mut nodes = self.nodes.into_vec();
+        let mut names = self.names.into_vec();
+        append(
+            &mut nodes,
+            &mut names,
+            other.nodes.as_slice(),
+            other.names.as_slice(),
+            operator,
+        )?;
         Ok(RawAcc {
-            nodes: with_one(nodes, RawAccNode::Or)?,
-            names: with_all(self.names, other.names)?,
+            nodes: Seq::from_vec(nodes),
+            names: Seq::from_vec(names),
             depth,
         })
     }

@@ -6,11 +6,12 @@ ghost use Rattle.omega_acc.specs.Depth.{IsDeeper, IsMemory, counted};
 ghost use Rattle.omega_acc.specs.Limits.{most_depth};
 ghost use Rattle.omega_acc.specs.layout.Bare.{bare, is_alias, is_bare};
 ghost use Rattle.omega_acc.specs.layout.Propositions.{proposition_below};
+ghost use Rattle.omega_acc.specs.layout.Joining.{IsJoining, joined_by};
 
 use crate::depth::deeper;
 use crate::label::{Label, LabelNode};
 use crate::limits::MOST_DEPTH;
-use crate::postfix::{alone, with_all, with_one};
+use crate::postfix::{alone, append, with_one};
 use omega_text::{Refusal, Seq};
 use std::alloc::Global;
 use std::marker::Model;
@@ -121,13 +122,7 @@ impl RawLabel {
         ensures shallow { IfOk result (λ label. raw_depth label ≤ most_depth) }
         ensures err { IfErr result (IsDeeper (most_depth ≤ max (raw_depth self) (raw_depth other))) }
     {
-        let depth = deeper(self.depth.max(other.depth))?;
-        let nodes = with_all(self.nodes, other.nodes)?;
-        Ok(RawLabel {
-            nodes: with_one(nodes, LabelNode::And)?,
-            names: with_all(self.names, other.names)?,
-            depth,
-        })
+        self.joined(other, LabelNode::And)
     }
 
     /// Both labels joined by `|`. Refusal 32 where they would be too deep.
@@ -136,11 +131,29 @@ impl RawLabel {
         ensures shallow { IfOk result (λ label. raw_depth label ≤ most_depth) }
         ensures err { IfErr result (IsDeeper (most_depth ≤ max (raw_depth self) (raw_depth other))) }
     {
+        self.joined(other, LabelNode::Or)
+    }
+
+    /// Both labels joined by an operator. Refusal 32 where they would be too deep.
+    fn joined(self, other: RawLabel, operator: LabelNode) -> Result<RawLabel, Refusal>
+        requires { IsJoining operator }
+        ensures ok { IfOk result (λ label. label ≡ joined_by operator self other) }
+        ensures shallow { IfOk result (λ label. raw_depth label ≤ most_depth) }
+        ensures err { IfErr result (IsDeeper (most_depth ≤ max (raw_depth self) (raw_depth other))) }
+    {
         let depth = deeper(self.depth.max(other.depth))?;
-        let nodes = with_all(self.nodes, other.nodes)?;
+        let mut nodes = self.nodes.into_vec();
+        let mut names = self.names.into_vec();
+        append(
+            &mut nodes,
+            &mut names,
+            other.nodes.as_slice(),
+            other.names.as_slice(),
+            operator,
+        )?;
         Ok(RawLabel {
-            nodes: with_one(nodes, LabelNode::Or)?,
-            names: with_all(self.names, other.names)?,
+            nodes: Seq::from_vec(nodes),
+            names: Seq::from_vec(names),
             depth,
         })
     }

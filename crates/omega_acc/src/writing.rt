@@ -1,15 +1,14 @@
 //! Labels and acceptance formulas in their canonical text.
 
-ghost use Rattle.std.specs.Prelude.{◌≡◌, ◌++◌, IfErr, IfOk, OnErr, OnOk};
+ghost use Rattle.std.specs.Prelude.{◌≡◌, ◌++◌, IfErr, OnErr, OnOk};
 ghost use Rattle.omega_acc.specs.Depth.{IsMemory};
 ghost use Rattle.omega_acc.specs.Writing.{acc_text, label_text};
-ghost use Rattle.omega_acc.specs.layout.Texts.{top_text};
+ghost use Rattle.omega_acc.specs.layout.Texts.{acc_texts_behind, texts_behind};
 
 use crate::acc::{Acc, AccNode};
 use crate::label::{Label, LabelNode};
 use crate::texts::Texts;
 use omega_text::Refusal;
-use std::alloc::Global;
 
 /// Appends the canonical text of a label: no spaces, and parentheses only where an operator needs them. After refusal 60
 /// the vector is as before.
@@ -19,7 +18,8 @@ pub fn write_label(label: &Label, out: &mut Vec<u8>) -> Result<(), Refusal>
     ensures err { IfErr result IsMemory }
 {
     let alloc = *out.allocator();
-    let texts = texts_of_label(alloc, label)?;
+    let mut texts = Texts::new(alloc)?;
+    put_label(&mut texts, label.nodes())?;
     out.extend_from_slice(texts.top())?;
     Ok(())
 }
@@ -32,44 +32,43 @@ pub fn write_acc(formula: &Acc, out: &mut Vec<u8>) -> Result<(), Refusal>
     ensures err { IfErr result IsMemory }
 {
     let alloc = *out.allocator();
-    let texts = texts_of_formula(alloc, formula)?;
+    let mut texts = Texts::new(alloc)?;
+    put_formula(&mut texts, formula.nodes())?;
     out.extend_from_slice(texts.top())?;
     Ok(())
 }
 
-/// The text of a label, made part by part.
-fn texts_of_label(alloc: Global, label: &Label) -> Result<Texts, Refusal>
-    ensures ok { IfOk result (λ texts. top_text texts ≡ label_text label.now) }
+/// Puts the texts that the nodes of a label make of those before them.
+fn put_label(texts: &mut Texts, nodes: &[LabelNode]) -> Result<(), Refusal>
+    ensures ok { OnOk result (texts.new ≡ texts_behind texts.old nodes.now) }
     ensures err { IfErr result IsMemory }
 {
-    let mut stack = Texts::new(alloc)?;
-    for node in label.nodes() {
+    for node in nodes {
         match node {
-            LabelNode::Constant(value) => stack.truth(*value)?,
-            LabelNode::Proposition(number) => stack.number(*number)?,
-            LabelNode::Not => stack.negate()?,
-            LabelNode::And => stack.join(2, b'&')?,
-            LabelNode::Or => stack.join(1, b'|')?,
+            LabelNode::Constant(value) => texts.truth(*value)?,
+            LabelNode::Proposition(number) => texts.number(*number)?,
+            LabelNode::Not => texts.negate()?,
+            LabelNode::And => texts.join(2, b'&')?,
+            LabelNode::Or => texts.join(1, b'|')?,
             LabelNode::Alias(_) | LabelNode::Group => {}
         }
     }
-    Ok(stack)
+    Ok(())
 }
 
-/// The text of an acceptance formula, made part by part.
-fn texts_of_formula(alloc: Global, formula: &Acc) -> Result<Texts, Refusal>
-    ensures ok { IfOk result (λ texts. top_text texts ≡ acc_text formula.now) }
+/// Puts the texts that the nodes of a formula make of those before them.
+fn put_formula(texts: &mut Texts, nodes: &[AccNode]) -> Result<(), Refusal>
+    ensures ok { OnOk result (texts.new ≡ acc_texts_behind texts.old nodes.now) }
     ensures err { IfErr result IsMemory }
 {
-    let mut stack = Texts::new(alloc)?;
-    for node in formula.nodes() {
+    for node in nodes {
         match node {
-            AccNode::Constant(value) => stack.truth(*value)?,
-            AccNode::Inf(negated, set) => stack.set(b"Inf".as_slice(), *negated, *set)?,
-            AccNode::Fin(negated, set) => stack.set(b"Fin".as_slice(), *negated, *set)?,
-            AccNode::And => stack.join(2, b'&')?,
-            AccNode::Or => stack.join(1, b'|')?,
+            AccNode::Constant(value) => texts.truth(*value)?,
+            AccNode::Inf(negated, set) => texts.set(b"Inf".as_slice(), *negated, *set)?,
+            AccNode::Fin(negated, set) => texts.set(b"Fin".as_slice(), *negated, *set)?,
+            AccNode::And => texts.join(2, b'&')?,
+            AccNode::Or => texts.join(1, b'|')?,
         }
     }
-    Ok(stack)
+    Ok(())
 }

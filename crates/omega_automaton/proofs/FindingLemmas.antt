@@ -1,11 +1,10 @@
 -- What is found of labels, label by label.
-use Rattle.std.proofs.Common.{◌≡◌, ℕ, ◌+◌, ◌<◌, ◌≤◌, Bool, false, ◌||◌, List, Option, is_none, length, get_or, take, sum_by, ap, refl, sym, ◌∙◌, arith}
+use Rattle.std.proofs.Common.{◌≡◌, ℕ, ◌+◌, ◌<◌, Bool, ◌||◌, List, Option, is_none, length, get_or, take, sum_by, ap, sym, ◌∙◌, arith}
 use Rattle.std.specs.List.{list_any}
 use Rattle.std.proofs.lemmas.List.Folds.{list_any_more}
 use Rattle.std.proofs.lemmas.List.Sums.{sum_by_more}
 use Rattle.omega_acc.specs.Expanding.{Meaning}
 use Rattle.omega_automaton.specs.Faults.{is_deep, is_large}
-use Rattle.omega_automaton.specs.Limits.{most_total_size}
 use Rattle.omega_automaton.specs.declared.judging.findings.Findings.{Findings}
 use Rattle.omega_automaton.specs.layout.Findings.{AreFound, AreJoined, capped, is_faulty}
 use Rattle.omega_automaton.proofs.SoundLemmas.{or_first, or_second}

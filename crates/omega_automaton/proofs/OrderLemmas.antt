@@ -12,7 +12,7 @@ use Rattle.omega_raw.specs.declared.raw_automaton.RawAutomaton.{RawAutomaton}
 use Rattle.omega_raw.specs.declared.raw_item.RawItem.{RawItem}
 use Rattle.omega_raw.specs.declared.raw_state.RawState.{RawState}
 use Rattle.omega_automaton.specs.Automaton.{has_repeat}
-use Rattle.omega_automaton.specs.Faults.{applies, definitions_of, fault_of, faults, has_deep_expression, has_large_expression, has_wrong_alias, passes}
+use Rattle.omega_automaton.specs.Faults.{applies, definitions_of, fault_of, has_deep_expression, has_large_expression, has_wrong_alias, passes}
 use Rattle.omega_automaton.specs.Items.{Accepted, acceptance_in}
 use Rattle.omega_automaton.specs.declared.making.definitions.Definitions.{Definitions}
 use Rattle.omega_automaton.specs.layout.Definitions.{AreNoted, has_wrong_definition}

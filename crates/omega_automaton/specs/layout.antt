@@ -5,3 +5,4 @@ pub mod Gathered
 pub mod Order
 pub mod Definitions
 pub mod Draft
+pub mod Single

@@ -3,7 +3,7 @@ ghost use Rattle.std.specs.List.{flat_map};
 ghost use Rattle.std.specs.Option.{option_copied};
 
 use crate::header::Header;
-use crate::making::Gathered;
+use crate::making::{Body, Gathered};
 use crate::state::State;
 use crate::tool::Tool;
 use omega_acc::{Acc, AccName};
@@ -58,13 +58,11 @@ impl Automaton {
         gathered: Gathered,
         states: u32,
         sets: u32,
-        acceptance: Acc,
-        defined: Seq<State>,
-        edges: u32,
+        body: Body,
     ) -> Automaton
-        requires automaton { IsAutomaton (described gathered states sets acceptance defined) }
-        requires counted { edges ≡ length (flat_map edges_from defined) }
-        ensures { result ≡ described gathered states sets acceptance defined }
+        requires automaton { IsAutomaton (described gathered states sets body.acceptance body.defined) }
+        requires counted { body.edge_count ≡ length (flat_map edges_from body.defined) }
+        ensures { result ≡ described gathered states sets body.acceptance body.defined }
     {
         let Gathered {
             tool,
@@ -84,11 +82,11 @@ impl Automaton {
             propositions: propositions.unwrap_or(Seq::new(alloc)),
             acc_name,
             set_count: sets,
-            acceptance,
+            acceptance: body.acceptance,
             properties: Seq::from_vec(properties),
             unknown: Seq::from_vec(unknown),
-            defined,
-            edge_count: edges,
+            defined: body.defined,
+            edge_count: body.edge_count,
         }
     }
 

@@ -14,7 +14,7 @@ mod states;
 mod version;
 
 pub(crate) use acceptance::has_deep_acceptance;
-pub(crate) use expansions::last_fault;
+pub(crate) use expansions::judge_last;
 pub(crate) use findings::findings_of;
 pub(crate) use order::{early_fault, late_fault};
 pub(crate) use sets::set_count;

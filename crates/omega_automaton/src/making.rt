@@ -1,21 +1,28 @@
 //! What an automaton that is written means (docs/formats.md, meaning of an automaton text): a file a part.
-ghost use Rattle.std.specs.Prelude.{IfErr, IfOk};
+ghost use Rattle.std.specs.Prelude.{◌≡◌, [], length, IfErr, IfOk};
+ghost use Rattle.std.specs.List.{flat_map};
+ghost use Rattle.omega_automaton.specs.Automaton.{edges_from};
 ghost use Rattle.omega_automaton.specs.Meaning.{IsMeaningless, Means};
+ghost use Rattle.omega_automaton.specs.layout.Definitions.{AreNoted};
+ghost use Rattle.omega_automaton.specs.layout.Draft.{IsOutlineOf, described};
+ghost use Rattle.omega_automaton.specs.layout.Gathered.{HasGathered};
 
 mod acceptance;
+mod body;
 mod definitions;
-mod draft;
 mod edges;
 mod gathered;
 mod items;
 mod marks;
+mod outline;
 mod states;
 
 use crate::automaton::Automaton;
-use crate::making::acceptance::acceptance_of;
-use crate::making::draft::{Draft, draft_of};
-use crate::making::edges::count_edges;
-use crate::making::states::states_of;
+use crate::judging::judge_last;
+use crate::making::body::body_of;
+use crate::making::items::gather;
+use crate::making::outline::{Outline, outline_of};
+pub(crate) use body::Body;
 pub(crate) use definitions::Definitions;
 pub(crate) use gathered::Gathered;
 use omega_raw::RawAutomaton;
@@ -32,25 +39,46 @@ pub fn automaton_of(alloc: Global, raw: RawAutomaton) -> Result<Automaton, Refus
     ensures ok { IfOk result (λ automaton. Means raw automaton) }
     ensures err { IfErr result (IsMeaningless raw) }
 {
-    let Draft {
+    let outline = outline_of(alloc, &raw)?;
+    let mut gathered = Gathered::new(alloc);
+    let mut definitions = Definitions::new(alloc);
+    let body = body_with(alloc, &mut gathered, &mut definitions, raw, outline)?;
+    Ok(Automaton::of_parts(
+        alloc,
         gathered,
-        aliases,
+        outline.state_count,
+        outline.set_count,
+        body,
+    ))
+}
+
+/// Gathers the items, and makes the body where none of the faults 27 to 33 applies. Refusals by the least of them, and 60.
+fn body_with(
+    alloc: Global,
+    gathered: &mut Gathered,
+    definitions: &mut Definitions,
+    raw: RawAutomaton,
+    outline: Outline,
+) -> Result<Body, Refusal>
+    requires outline { IsOutlineOf raw outline }
+    requires gathered { HasGathered [] gathered.old }
+    requires noted { AreNoted [] definitions.old }
+    ensures ok { IfOk result (λ body. Means raw (described gathered.new outline.state_count outline.set_count body.acceptance body.defined)) }
+    ensures counted { IfOk result (λ body. body.edge_count ≡ length (flat_map edges_from body.defined)) }
+    ensures err { IfErr result (IsMeaningless raw) }
+{
+    let RawAutomaton {
+        version: _version,
+        items,
         states,
-        state_count,
-        set_count,
-    } = draft_of(alloc, raw)?;
-    let defined = states_of(alloc, &aliases, states)?;
-    let acceptance = acceptance_of(alloc, &gathered.acceptance)?;
-    match count_edges(defined.as_slice()) {
-        Some(edges) => Ok(Automaton::of_parts(
-            alloc,
-            gathered,
-            state_count,
-            set_count,
-            acceptance,
-            defined,
-            edges,
-        )),
-        None => Err(Refusal::Memory),
-    }
+    } = raw;
+    gather(alloc, gathered, definitions, items)?;
+    judge_last(
+        alloc,
+        definitions,
+        states.as_slice(),
+        outline.late,
+        outline.deep,
+    )?;
+    body_of(alloc, &gathered.acceptance, &definitions.aliases, states)
 }

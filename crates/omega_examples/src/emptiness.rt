@@ -13,8 +13,7 @@ pub fn lasso_in(alloc: Global, text: &str) -> Result<Verdict, Refusal>
     ensures verdict { IfOk result (λ verdict. (a : Description) × IsAutomatonText text.now a × IsVerdict a verdict) }
 {
     let automaton = read_one(alloc, text.as_bytes())?;
-    let verdict = lasso(alloc, &automaton)?;
-    Ok(verdict)
+    lasso(alloc, &automaton)
 }
 
 #[cfg(test)]

@@ -45,14 +45,18 @@ mod tests {
     use omega_game::Seq;
     use std::test::Fail;
 
-    // At place 0 player 0 moves to the successor given; the other places are player 1's.
-    fn report_of(alloc: Global, successor: u32) -> Result<Vec<u8>, Refusal> {
+    fn report_of(alloc: Global, strategy: &Strategy) -> Result<Vec<u8>, Refusal> {
         let game = three_nodes(alloc)?;
+        report(alloc, &game, Player::Zero, 2, strategy)
+    }
+
+    // At place 0 player 0 moves to the successor given; the other places are player 1's.
+    fn report_of_choice(alloc: Global, successor: u32) -> Result<Vec<u8>, Refusal> {
         let choice = vec![in alloc; Some(successor), None, None]?;
         let strategy = Strategy {
             choice: Seq::from_vec(choice),
         };
-        report(alloc, &game, Player::Zero, 2, &strategy)
+        report_of(alloc, &strategy)
     }
 
     #[test]
@@ -63,7 +67,7 @@ mod tests {
         );
         let none = "no strategy of this player for this game\n";
         for (successor, wanted) in [(2, wins), (1, loses), (0, none)] {
-            let said = report_of(rt.alloc(), successor)?;
+            let said = report_of_choice(rt.alloc(), successor)?;
             assert_eq!(rt; said.as_slice(), wanted.as_bytes());
         }
         Ok(())

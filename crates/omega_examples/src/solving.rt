@@ -1,5 +1,5 @@
 //! A game is built node by node, and solved for both players.
-ghost use Rattle.std.specs.Prelude.{IfOk};
+ghost use Rattle.std.specs.Prelude.{◌<◌, length, IfOk, OnOk};
 ghost use Rattle.omega_solve.specs.Headline.{IsExact};
 
 use omega_game::{Game, GameBuilder, Player, Refusal};
@@ -9,12 +9,18 @@ use std::alloc::Global;
 /// The game of `examples/three_nodes.pg`: player 0 moves from node 0 to node 1 or 2, and player 1 back to node 0.
 pub fn three_nodes(alloc: Global) -> Result<Game, Refusal> {
     let mut nodes = GameBuilder::new(alloc);
+    add_three(&mut nodes)?;
+    nodes.finish()
+}
+
+fn add_three(nodes: &mut GameBuilder) -> Result<(), Refusal>
+    ensures some { OnOk result (0 < length nodes.new) }
+{
     // Identifier, priority, owner, and the first successor.
     nodes.add_node(0, 0, Player::Zero, 1)?;
     nodes.add_successor(2)?;
     nodes.add_node(1, 1, Player::One, 0)?;
-    nodes.add_node(2, 2, Player::One, 0)?;
-    nodes.finish()
+    nodes.add_node(2, 2, Player::One, 0)
 }
 
 /// The nodes that a player wins, and the player's choices, with as many lifts as it takes.

@@ -1,7 +1,9 @@
 -- The faults in the order in which they are asked for: those before aliases, those between aliases and deep expressions, and
 -- the others.
-use Rattle.std.specs.Prelude.{Bool, ◌||◌, List, [], ◌∷◌, Option, None, Some, find, if◌then◌else◌, is_none, nat_lt, sum_by}
+use Rattle.std.specs.Prelude.{◌≡◌, Bool, ◌||◌, List, [], ◌∷◌, Option, None, Some, find, if◌then◌else◌, is_none, nat_lt, sum_by}
 use Rattle.std.specs.Option.{option_or}
+use Rattle.omega_text.specs.Cases.{never, or_automaton, or_memory}
+use Rattle.omega_text.specs.declared.refusal.Refusal.{Refusal}
 use Rattle.omega_text.specs.declared.refusal.automaton.AutomatonFault.{AutomatonFault}
 use Rattle.omega_text.specs.declared.refusal.automaton.AutomatonFault.TheVariants.{AcceptanceAtom, Alias, Expansion, ImplicitCount, MissingAcceptance, MixedLabels, Proposition, RepeatedHeader, SetRange, StateRange, StateTwice, TooDeep, UnknownHeader, Version}
 use Rattle.omega_raw.specs.declared.raw_automaton.RawAutomaton.{RawAutomaton}
@@ -39,6 +41,10 @@ last_fault definitions states late acceptance =
     else option_or late
     (if is_any_deep definitions states acceptance then Some TooDeep
     else (if is_any_large definitions states then Some Expansion else None))
+
+-- a refusal by that fault, or want of memory
+abbrev pub IsLastFault : Definitions → List RawState → Option AutomatonFault → Bool → Refusal → Type 0
+IsLastFault definitions states late acceptance = or_automaton (λ fault. last_fault definitions states late acceptance ≡ Some fault) (or_memory never)
 
 -- the same by what is found of the labels
 abbrev pub fault_found : Definitions → Findings → Option AutomatonFault → Bool → Option AutomatonFault

@@ -62,7 +62,12 @@ fn means_nothing(alloc: Global, formula: &RawAcc) -> Result<bool, Refusal>
 pub(crate) fn has_deep_acceptance(items: &[RawItem]) -> bool
     ensures { result ≡ list_any (λ item. passes (λ accepted. nat_lt most_depth (raw_acc_depth accepted.formula)) (acceptance_in item)) items.now }
 {
-    items.iter().any(|item| is_deep(item))
+    for item in items {
+        if is_deep(item) {
+            return true;
+        }
+    }
+    false
 }
 
 /// Whether an item is an acceptance that is too deep.

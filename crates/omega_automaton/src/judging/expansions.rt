@@ -1,6 +1,5 @@
-ghost use Rattle.std.specs.Prelude.{◌≡◌, IfErr, IfOk};
-ghost use Rattle.omega_acc.specs.Depth.{IsMemory};
-ghost use Rattle.omega_automaton.specs.layout.Order.{fault_found, last_fault as last};
+ghost use Rattle.std.specs.Prelude.{◌≡◌, None, IfErr, OnOk};
+ghost use Rattle.omega_automaton.specs.layout.Order.{IsLastFault, fault_found, last_fault};
 
 use crate::judging::findings::{Findings, findings_of_states};
 use crate::limits::MOST_TOTAL_SIZE;
@@ -9,25 +8,28 @@ use omega_raw::RawState;
 use omega_text::{AutomatonFault, Refusal};
 use std::alloc::Global;
 
-/// The least of the faults 27 to 33 that applies, none where none does. No definition has the fault 27; `late` is the least
-/// of 28 to 31, and `acceptance` says whether an acceptance is too deep.
+/// Refuses by the least of the faults 27 to 33 that applies. No definition has the fault 27; `late` is the least of 28 to 31,
+/// and `acceptance` says whether an acceptance is too deep.
 ///
 /// Each label is measured once.
-pub(crate) fn last_fault(
+pub(crate) fn judge_last(
     alloc: Global,
     definitions: &Definitions,
     states: &[RawState],
     late: Option<AutomatonFault>,
     acceptance: bool,
-) -> Result<Option<AutomatonFault>, Refusal>
-    ensures ok { IfOk result (λ fault. fault ≡ last definitions.now states.now late acceptance) }
-    ensures err { IfErr result IsMemory }
+) -> Result<(), Refusal>
+    ensures ok { OnOk result (last_fault definitions.now states.now late acceptance ≡ None) }
+    ensures err { IfErr result (IsLastFault definitions.now states.now late acceptance) }
 {
     let found = findings_of_states(alloc, states, &definitions.aliases)?;
-    Ok(least_fault(definitions, found, late, acceptance))
+    match least_fault(definitions, found, late, acceptance) {
+        Some(fault) => Err(Refusal::Automaton(fault)),
+        None => Ok(()),
+    }
 }
 
-/// The same by what is found of the labels.
+/// The least of the faults 27 to 33 that applies, by what is found of the labels.
 fn least_fault(
     definitions: &Definitions,
     found: Findings,

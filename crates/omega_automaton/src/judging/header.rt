@@ -1,9 +1,21 @@
-ghost use Rattle.std.specs.Prelude.{◌≡◌, is_some};
+ghost use Rattle.std.specs.Prelude.{◌≡◌, count_by, is_some, nat_lt};
 ghost use Rattle.std.specs.List.{list_any};
-ghost use Rattle.omega_automaton.specs.Faults.{begins_capital as capital, has_repeated_item as repeated_item, has_unknown_capital as unknown_capital, lacks_acceptance as no_acceptance, passes, stands_twice};
-ghost use Rattle.omega_automaton.specs.Items.{acc_name_in, acceptance_in, name_in, propositions_in, states_in, tool_in, unknown_in};
+ghost use Rattle.omega_automaton.specs.Faults.{begins_capital as capital, has_repeated_item as repeated_item, has_unknown_capital as unknown_capital, lacks_acceptance as no_acceptance, passes};
+ghost use Rattle.omega_automaton.specs.Items.{acceptance_in, unknown_in};
+ghost use Rattle.omega_automaton.specs.layout.Single.{says};
 
 use omega_raw::{RawAutomaton, RawItem};
+
+/// The items that may not repeat.
+#[derive(Clone, Copy)]
+pub(crate) enum Single {
+    States,
+    Propositions,
+    Acceptance,
+    AccName,
+    Tool,
+    Name,
+}
 
 /// Whether an item stands twice that may not repeat (refusal 21).
 #[tactic(auto, unfolding(crate::specs::Faults::has_repeated_item))]
@@ -11,84 +23,39 @@ pub(crate) fn has_repeated_item(raw: &RawAutomaton) -> bool
     ensures { result ≡ repeated_item raw.now }
 {
     let items = raw.items.as_slice();
-    states_twice(items)
-        || propositions_twice(items)
-        || acceptance_twice(items)
-        || acc_name_twice(items)
-        || tool_twice(items)
-        || name_twice(items)
+    is_twice(Single::States, items)
+        || is_twice(Single::Propositions, items)
+        || is_twice(Single::Acceptance, items)
+        || is_twice(Single::AccName, items)
+        || is_twice(Single::Tool, items)
+        || is_twice(Single::Name, items)
 }
 
-fn states_twice(items: &[RawItem]) -> bool
-    ensures { result ≡ stands_twice states_in items.now }
+/// Whether two or more of the items are of this kind.
+fn is_twice(kind: Single, items: &[RawItem]) -> bool
+    ensures { result ≡ nat_lt 1 (count_by (says kind) items.now) }
 {
-    1 < items.iter().filter(|item| says_states(item)).count()
+    1 < items.iter().filter(|item| is_of(kind, item)).count()
 }
 
-fn propositions_twice(items: &[RawItem]) -> bool
-    ensures { result ≡ stands_twice propositions_in items.now }
+/// Whether an item is of this kind.
+fn is_of(kind: Single, item: &RawItem) -> bool
+    ensures { result ≡ says kind item.now }
 {
-    1 < items.iter().filter(|item| says_propositions(item)).count()
-}
-
-fn acceptance_twice(items: &[RawItem]) -> bool
-    ensures { result ≡ stands_twice acceptance_in items.now }
-{
-    1 < items.iter().filter(|item| says_acceptance(item)).count()
-}
-
-fn acc_name_twice(items: &[RawItem]) -> bool
-    ensures { result ≡ stands_twice acc_name_in items.now }
-{
-    1 < items.iter().filter(|item| says_acc_name(item)).count()
-}
-
-fn tool_twice(items: &[RawItem]) -> bool
-    ensures { result ≡ stands_twice tool_in items.now }
-{
-    1 < items.iter().filter(|item| says_tool(item)).count()
-}
-
-fn name_twice(items: &[RawItem]) -> bool
-    ensures { result ≡ stands_twice name_in items.now }
-{
-    1 < items.iter().filter(|item| says_name(item)).count()
-}
-
-fn says_states(item: &RawItem) -> bool
-    ensures { result ≡ is_some (states_in item.now) }
-{
-    matches!(item, RawItem::States(_))
-}
-
-fn says_propositions(item: &RawItem) -> bool
-    ensures { result ≡ is_some (propositions_in item.now) }
-{
-    matches!(item, RawItem::Propositions { .. })
+    match kind {
+        Single::States => matches!(item, RawItem::States(_)),
+        Single::Propositions => matches!(item, RawItem::Propositions { .. }),
+        Single::Acceptance => says_acceptance(item),
+        Single::AccName => matches!(item, RawItem::AccName(_)),
+        Single::Tool => matches!(item, RawItem::Tool { .. }),
+        Single::Name => matches!(item, RawItem::Name(_)),
+    }
 }
 
 fn says_acceptance(item: &RawItem) -> bool
     ensures { result ≡ is_some (acceptance_in item.now) }
 {
     matches!(item, RawItem::Acceptance { .. })
-}
-
-fn says_acc_name(item: &RawItem) -> bool
-    ensures { result ≡ is_some (acc_name_in item.now) }
-{
-    matches!(item, RawItem::AccName(_))
-}
-
-fn says_tool(item: &RawItem) -> bool
-    ensures { result ≡ is_some (tool_in item.now) }
-{
-    matches!(item, RawItem::Tool { .. })
-}
-
-fn says_name(item: &RawItem) -> bool
-    ensures { result ≡ is_some (name_in item.now) }
-{
-    matches!(item, RawItem::Name(_))
 }
 
 /// Whether there is no acceptance (refusal 22).
@@ -103,7 +70,12 @@ pub(crate) fn lacks_acceptance(raw: &RawAutomaton) -> bool
 fn any_acceptance(items: &[RawItem]) -> bool
     ensures { result ≡ list_any (λ item. is_some (acceptance_in item)) items.now }
 {
-    items.iter().any(|item| says_acceptance(item))
+    for item in items {
+        if says_acceptance(item) {
+            return true;
+        }
+    }
+    false
 }
 
 /// Whether a header that the format leaves open begins with a capital (refusal 23).
@@ -111,7 +83,7 @@ fn any_acceptance(items: &[RawItem]) -> bool
 pub(crate) fn has_unknown_capital(raw: &RawAutomaton) -> bool
     ensures { result ≡ unknown_capital raw.now }
 {
-    raw.items.as_slice().iter().any(|item| is_capital(item))
+    raw.items.as_slice().iter().any(is_capital)
 }
 
 /// Whether an item is a header that the format leaves open and begins with a capital.

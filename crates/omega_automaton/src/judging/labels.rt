@@ -9,7 +9,7 @@ use omega_raw::{RawAutomaton, RawEdge, RawState};
 pub(crate) fn has_mixed_labels(raw: &RawAutomaton) -> bool
     ensures { result ≡ mixed_labels raw.now }
 {
-    raw.states.as_slice().iter().any(|state| is_mixed(state))
+    raw.states.as_slice().iter().any(is_mixed)
 }
 
 /// Whether a state mixes labels.
@@ -24,12 +24,22 @@ fn is_mixed(state: &RawState) -> bool
 pub(crate) fn any_label(edges: &[RawEdge]) -> bool
     ensures { result ≡ list_any labelled edges.now }
 {
-    edges.iter().any(|edge| edge.label.is_some())
+    for edge in edges {
+        if edge.label.is_some() {
+            return true;
+        }
+    }
+    false
 }
 
 /// Whether one of the edges has no label.
 fn lacks_label(edges: &[RawEdge]) -> bool
     ensures { result ≡ list_any (λ edge. not (labelled edge)) edges.now }
 {
-    edges.iter().any(|edge| !edge.label.is_some())
+    for edge in edges {
+        if !edge.label.is_some() {
+            return true;
+        }
+    }
+    false
 }

@@ -85,7 +85,12 @@ fn is_misnamed(alloc: Global, count: u32, names: &Seq<Seq<u8>>) -> Result<bool, 
 fn any_alias_beyond(items: &[RawItem], count: u32) -> bool
     ensures { result ≡ list_any (λ item. passes (λ defined. beyond count defined.body) (alias_in item)) items.now }
 {
-    items.iter().any(|item| alias_beyond(item, count))
+    for item in items {
+        if alias_beyond(item, count) {
+            return true;
+        }
+    }
+    false
 }
 
 /// Whether an item is an alias whose definition mentions a proposition that is not below a count.
@@ -102,7 +107,12 @@ fn alias_beyond(item: &RawItem, count: u32) -> bool
 fn any_label_beyond(states: &[RawState], count: u32) -> bool
     ensures { result ≡ list_any (is_labelled (beyond count)) states.now }
 {
-    states.iter().any(|state| labels_beyond(state, count))
+    for state in states {
+        if labels_beyond(state, count) {
+            return true;
+        }
+    }
+    false
 }
 
 /// Whether a label of a state or of an edge of it mentions a proposition that is not below a count.
@@ -116,7 +126,12 @@ fn labels_beyond(state: &RawState, count: u32) -> bool
 fn edges_beyond(edges: &[RawEdge], count: u32) -> bool
     ensures { result ≡ list_any (λ edge. passes (beyond count) edge.label) edges.now }
 {
-    edges.iter().any(|edge| label_beyond(&edge.label, count))
+    for edge in edges {
+        if label_beyond(&edge.label, count) {
+            return true;
+        }
+    }
+    false
 }
 
 /// Whether there is a label that mentions a proposition that is not below a count.

@@ -1,4 +1,4 @@
-ghost use Rattle.std.specs.Prelude.{◌≡◌, false, map, nat_eq, IfErr, IfOk, IsTrue};
+ghost use Rattle.std.specs.Prelude.{◌≡◌, [], false, map, nat_eq, IfErr, IfOk, IsTrue};
 ghost use Rattle.std.specs.Str.{bytes_eq};
 ghost use Rattle.omega_acc.specs.Depth.{IsMemory};
 ghost use Rattle.omega_automaton.specs.Automaton.{has_repeat};
@@ -44,6 +44,15 @@ fn has_number_twice(alloc: Global, states: &[RawState]) -> Result<bool, Refusal>
     ensures err { IfErr result IsMemory }
 {
     let mut seen = IndexSet::new(alloc);
+    sees_number_twice(&mut seen, states)
+}
+
+/// The same where no number is seen yet.
+fn sees_number_twice(seen: &mut IndexSet<u32>, states: &[RawState]) -> Result<bool, Refusal>
+    requires { seen.old.keys ≡ [] }
+    ensures ok { IfOk result (λ twice. twice ≡ has_repeat nat_eq (map (λ state. state.number) states.now)) }
+    ensures err { IfErr result IsMemory }
+{
     for state in states {
         if !seen.insert(state.number)? {
             return Ok(true);
@@ -57,7 +66,16 @@ pub(crate) fn has_name_twice(alloc: Global, names: &[Seq<u8>]) -> Result<bool, R
     ensures ok { IfOk result (λ twice. twice ≡ has_repeat bytes_eq names.now) }
     ensures err { IfErr result IsMemory }
 {
-    let mut seen: IndexSet<&[u8]> = IndexSet::new(alloc);
+    let mut seen = IndexSet::new(alloc);
+    sees_name_twice(&mut seen, names)
+}
+
+/// The same where no name is seen yet.
+fn sees_name_twice<'a>(seen: &mut IndexSet<&'a [u8]>, names: &'a [Seq<u8>]) -> Result<bool, Refusal>
+    requires { seen.old.keys ≡ [] }
+    ensures ok { IfOk result (λ twice. twice ≡ has_repeat bytes_eq names.now) }
+    ensures err { IfErr result IsMemory }
+{
     for name in names {
         if !seen.insert(name.as_slice())? {
             return Ok(true);

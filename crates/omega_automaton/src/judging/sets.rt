@@ -40,7 +40,12 @@ fn stated_count(items: &[RawItem]) -> u32
 fn any_accepted_beyond(items: &[RawItem], count: u32) -> bool
     ensures { result ≡ list_any (λ item. passes (set_beyond count) (acceptance_in item)) items.now }
 {
-    items.iter().any(|item| accepted_beyond(item, count))
+    for item in items {
+        if accepted_beyond(item, count) {
+            return true;
+        }
+    }
+    false
 }
 
 /// Whether an item is an acceptance with a set that is not below a count.
@@ -57,7 +62,12 @@ fn accepted_beyond(item: &RawItem, count: u32) -> bool
 fn any_marked_beyond(states: &[RawState], count: u32) -> bool
     ensures { result ≡ list_any (is_marked (nat_le count)) states.now }
 {
-    states.iter().any(|state| marked_beyond(state, count))
+    for state in states {
+        if marked_beyond(state, count) {
+            return true;
+        }
+    }
+    false
 }
 
 /// Whether a state of the body or an edge of it has a mark that is not below a count.
@@ -71,7 +81,12 @@ fn marked_beyond(state: &RawState, count: u32) -> bool
 fn edges_beyond(edges: &[RawEdge], count: u32) -> bool
     ensures { result ≡ list_any (λ edge. passes (list_any (nat_le count)) edge.marks) edges.now }
 {
-    edges.iter().any(|edge| marks_beyond(&edge.marks, count))
+    for edge in edges {
+        if marks_beyond(&edge.marks, count) {
+            return true;
+        }
+    }
+    false
 }
 
 /// Whether there are marks and one of them is not below a count.

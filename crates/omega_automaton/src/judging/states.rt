@@ -20,14 +20,24 @@ pub(crate) fn has_state_out_of_range(raw: &RawAutomaton) -> bool
 fn any_start_out_of_range(items: &[RawItem], count: u32) -> bool
     ensures { result ≡ list_any (λ item. passes (out_of_range count) (start_in item)) items.now }
 {
-    items.iter().any(|item| is_start_out_of_range(item, count))
+    for item in items {
+        if is_start_out_of_range(item, count) {
+            return true;
+        }
+    }
+    false
 }
 
 /// Whether one of the states of the body is out of range.
 fn any_state_out_of_range(states: &[RawState], count: u32) -> bool
     ensures { result ≡ list_any (state_is_out_of_range count) states.now }
 {
-    states.iter().any(|state| is_out_of_range(state, count))
+    for state in states {
+        if is_out_of_range(state, count) {
+            return true;
+        }
+    }
+    false
 }
 
 /// Whether one of the numbers is not below a count.
@@ -65,9 +75,12 @@ fn is_out_of_range(state: &RawState, count: u32) -> bool
 fn any_edge_out_of_range(edges: &[RawEdge], count: u32) -> bool
     ensures { result ≡ list_any (λ edge. out_of_range count edge.targets) edges.now }
 {
-    edges
-        .iter()
-        .any(|edge| are_out_of_range(edge.targets.as_slice(), count))
+    for edge in edges {
+        if are_out_of_range(edge.targets.as_slice(), count) {
+            return true;
+        }
+    }
+    false
 }
 
 /// The count of states: that of `States:`, or by the states mentioned, where a count over the greatest number of a text is

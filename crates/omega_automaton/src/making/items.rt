@@ -1,4 +1,4 @@
-ghost use Rattle.std.specs.Prelude.{IfErr, IfOk, OnOk};
+ghost use Rattle.std.specs.Prelude.{[], IfErr, OnOk};
 ghost use Rattle.std.specs.List.{filter_map};
 ghost use Rattle.omega_automaton.specs.Items.{alias_in};
 ghost use Rattle.omega_automaton.specs.layout.Definitions.{AreNoted, HasMet, IsUnmet, IsUnnoted};
@@ -10,19 +10,24 @@ use omega_raw::RawItem;
 use omega_text::{Refusal, Seq};
 use std::alloc::Global;
 
-/// What the items of a header say. Refusal 27 where two aliases have one name, or one reaches an alias that has no item
-/// before it.
-pub(crate) fn gather(alloc: Global, items: Seq<RawItem>) -> Result<(Gathered, Definitions), Refusal>
-    ensures gathered { IfOk result (λ header. HasGathered items header.0) }
-    ensures noted { IfOk result (λ header. AreNoted (filter_map alias_in items) header.1) }
+/// Takes the items of a header, of which nothing is taken yet. Refusal 27 where two aliases have one name, or one reaches an
+/// alias that has no item before it.
+pub(crate) fn gather(
+    alloc: Global,
+    gathered: &mut Gathered,
+    definitions: &mut Definitions,
+    items: Seq<RawItem>,
+) -> Result<(), Refusal>
+    requires gathered { HasGathered [] gathered.old }
+    requires noted { AreNoted [] definitions.old }
+    ensures gathered { OnOk result (HasGathered items gathered.new) }
+    ensures noted { OnOk result (AreNoted (filter_map alias_in items) definitions.new) }
     ensures err { IfErr result (IsUnnoted (filter_map alias_in items)) }
 {
-    let mut gathered = Gathered::new(alloc);
-    let mut definitions = Definitions::new(alloc);
     for item in items.into_vec() {
-        gather_one(alloc, &mut gathered, &mut definitions, item)?;
+        gather_one(alloc, gathered, definitions, item)?;
     }
-    Ok((gathered, definitions))
+    Ok(())
 }
 
 /// Takes one more item. Refusal 27 where it is an alias whose name is there already or that reaches an undefined one.

@@ -1,5 +1,5 @@
 -- A label without aliases has its own extent.
-use Rattle.std.proofs.Common.{[], ap, min, sym, ◌∙◌}
+use Rattle.std.proofs.Common.{[], ap, min, ◌∙◌}
 use Rattle.omega_acc.specs.Expanding.{entries_of}
 use Rattle.omega_acc.proofs.BareLemmas.{extent-bare}
 use Rattle.omega_acc.proofs.aliases.Aliases.measure.Goals as goal

@@ -1,0 +1,13 @@
+-- The text on top is put behind.
+use Rattle.std.proofs.Common.{◌++◌, ap, ◌∙◌}
+use Rattle.omega_acc.specs.Writing.{Text}
+use Rattle.omega_acc.proofs.TextLemmas.{top_of-label}
+use Rattle.omega_acc.proofs.writing.write_label.Goals as goal
+
+pub returns-clause-ok : goal.returns-clause-ok
+returns-clause-ok c =
+    c.in_ok-extend_from_slice.ensures.items
+    ∙ ap (λ bytes. c.args.out.now.items ++ bytes)
+    (c.top.ensures
+    ∙ ap (λ (text : Text). text.bytes)
+    (top_of-label c.args.label.now c.in_ok-texts.texts c.put_label.new.texts _ c.in_ok-texts.ensures.ok c.nodes.ensures.nodes c.in_ok-put_label.ensures.ok))
