@@ -1,0 +1,18 @@
+-- `draw_lasso_text`: what is drawn is the automaton that was read, with the verdict on it.
+use Rattle.std.proofs.lemmas.Result.{IfErr-weaker, IfOk-weaker}
+use Rattle.omega_automaton_answers.proofs.draw.draw_lasso_text.Goals as goal
+
+pub returns-clause-answer : goal.returns-clause-answer
+returns-clause-answer c =
+    IfOk-weaker c.draw_verdict.result _ _
+    (λ output written. record {
+      automaton = c.in_ok-automaton.automaton;
+      read = c.in_ok-automaton.ensures.automaton;
+      verdict = c.in_ok-verdict.verdict;
+      right = c.in_ok-verdict.ensures.verdict;
+      written = written;
+    })
+    c.draw_verdict.ensures.text
+
+pub returns-clause-refused : goal.returns-clause-refused
+returns-clause-refused c = IfErr-weaker c.draw_verdict.result _ _ (λ refusal e. rw e tt) c.draw_verdict.ensures.memory
