@@ -2,9 +2,10 @@ ghost use Rattle.std.specs.Prelude.{◌≡◌, IfOk, IfErr, IsOkUnless};
 ghost use Rattle.omega_hoa.specs.Alone.{IsAutomatonRefusal};
 ghost use Rattle.omega_text.specs.Cases.{or_memory};
 ghost use Rattle.omega_text.specs.declared.refusal.Refusal.TheVariants.{Memory};
-ghost use Rattle.omega_empty.specs.Verdict.{IsVerdict};
+ghost use Rattle.omega_empty.specs.Refusing.{IsGameRefusal};
 ghost use Rattle.omega_automaton_answers.specs.Draw.{IsAutomatonDrawingAnswer, IsLassoDrawingAnswer, drawing_of_verdict};
 ghost use Rattle.omega_automaton_answers.specs.empty.Answer.{IsEmptySearchRefusal};
+ghost use Rattle.omega_automaton_answers.specs.steps.Drawn.{IsLassoDrawn};
 
 use crate::automaton_text::automaton_in;
 use omega_automaton::{Automaton, Refusal};
@@ -28,8 +29,16 @@ pub fn draw_lasso_text(alloc: Global, text: Vec<u8>) -> Result<Vec<u8>, Refusal>
     ensures refused { IfErr result (or_memory (IsEmptySearchRefusal text.items)) }
 {
     let automaton = automaton_in(alloc, text)?;
-    let verdict = lasso(alloc, &automaton)?;
-    draw_verdict(alloc, &automaton, &verdict)
+    draw_searched(alloc, &automaton)
+}
+
+/// The drawing of an automaton with an accepting lasso, or without one where no lasso accepts. 13, 40, 41, 42 or 60.
+fn draw_searched(alloc: Global, automaton: &Automaton) -> Result<Vec<u8>, Refusal>
+    ensures drawn { IfOk result (λ output. IsLassoDrawn automaton.now output.items) }
+    ensures refused { IfErr result (IsGameRefusal automaton.now) }
+{
+    let verdict = lasso(alloc, automaton)?;
+    draw_verdict(alloc, automaton, &verdict)
 }
 
 /// The drawing of an automaton with the lasso of a verdict, or alone. 60 alone.

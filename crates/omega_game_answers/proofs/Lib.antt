@@ -4,6 +4,7 @@ pub mod Explaining
 pub mod Identifiers
 pub mod Parts
 pub mod Places
+pub mod Refused
 pub mod Solutions
 pub mod Solved
 pub mod Solving

@@ -11,6 +11,10 @@ use Rattle.omega_game_answers.specs.solve.Refusing.{IsSolvedFor}
 use Rattle.omega_game_answers.specs.solve.Solution.{IsExactSolutionOf}
 use Rattle.omega_game_answers.specs.solve.Solving.{IsSolveAnswer, SolvesWhole}
 
+-- no player is both
+not_both : (player : Player) → Zero ≡ player → One ≡ player → ⊥
+not_both player zero one = cc
+
 -- a right answer for both players is the text of an exact solution
 exact-both : (nodes : List Node) (asked : Asked) (budget : ℕ) (output : List ℕ) → ((player : Player) → IsSolvedFor asked player)
     → SolvesWhole nodes asked budget output → IsExactSolutionOf nodes output
@@ -18,8 +22,7 @@ exact-both nodes way.Both budget output both answer =
     record { solution = answer.solution; exact = answer.right.exact; written = answer.written }
 exact-both nodes way.Search budget output both answer = answer
 exact-both nodes (way.Player player) budget output both answer =
-    let zero : Zero ≡ player = both Zero in
-    let one : One ≡ player = both One in cc
+    absurd (not_both player (both Zero) (both One))
 
 exact-answer : (text : List ℕ) (asked : Asked) (from : Option ℕ) (budget : ℕ) (output : List ℕ)
     → ((player : Player) → IsSolvedFor asked player) → IsSolveAnswer text asked from budget output

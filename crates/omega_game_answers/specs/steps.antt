@@ -2,5 +2,6 @@
 pub mod GameRefusal
 pub mod PartRefusal
 pub mod Places
+pub mod Solved
 pub mod Verdict
 pub mod Winners

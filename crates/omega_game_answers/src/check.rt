@@ -1,4 +1,5 @@
-ghost use Rattle.std.specs.Prelude.{◌≡◌, IfOk, IfErr};
+ghost use Rattle.std.specs.Prelude.{◌≡◌, IfOk, IfErr, IsOkUnless, codes};
+ghost use Rattle.omega_text.specs.declared.refusal.Refusal.TheVariants.{Memory};
 ghost use Rattle.omega_pg.specs.game.Refusing.{IsReadRefusal};
 ghost use Rattle.omega_game_answers.specs.Check.{IsCheckAnswer};
 
@@ -12,5 +13,13 @@ pub fn check_game(alloc: Global, text: Vec<u8>) -> Result<Vec<u8>, Refusal>
     ensures refused { IfErr result (IsReadRefusal text.items) }
 {
     let _game = game_of(alloc, text)?;
+    accepted(alloc)
+}
+
+/// What is written of a text that is accepted. 60 alone.
+fn accepted(alloc: Global) -> Result<Vec<u8>, Refusal>
+    ensures text { IfOk result (λ output. output.items ≡ codes "accepted\n") }
+    ensures memory { IsOkUnless result Memory }
+{
     Ok(Vec::from_slice(alloc, b"accepted\n")?)
 }

@@ -8,6 +8,7 @@ ghost use Rattle.omega_pg.specs.solution.Text.{IsSolutionText};
 ghost use Rattle.omega_game_answers.specs.Part.{IsPartText, IsPartTextRefusal};
 ghost use Rattle.omega_game_answers.specs.Verify.{IsJudged, IsJudgedRefusal, IsVerdict, IsVerifyAnswer, IsVerifyRefusal};
 ghost use Rattle.omega_game_answers.specs.solve.Solution.{WinsAsGiven, WinsGiven};
+ghost use Rattle.omega_game_answers.specs.steps.Solved.{IsSolutionJudged};
 ghost use Rattle.omega_game_answers.specs.steps.Verdict.{given_to, is_given, verdict_exit, verdict_text};
 
 mod explaining;
@@ -34,8 +35,21 @@ pub fn verify_solution(
     ensures refused { IfErr result (or_memory (IsVerifyRefusal game.now from text.items)) }
 {
     let game = judged_game(alloc, game, from)?;
-    let solution = solution_in(alloc, &game, text)?;
-    verdict_on(alloc, &game, &solution, explain)
+    judged(alloc, &game, text, explain)
+}
+
+/// The verdict on the solution of a game that a text stands for. 1 to 4, 53 or 60.
+fn judged(
+    alloc: Global,
+    game: &Game,
+    text: Vec<u8>,
+    explain: bool,
+) -> Result<(Exit, Vec<u8>), Refusal>
+    ensures judged { IfOk result (λ made. IsSolutionJudged game.now text.items explain made.0 made.1.items) }
+    ensures refused { IfErr result (IsReadSolutionRefusal game.now text.items) }
+{
+    let solution = solution_in(alloc, game, text)?;
+    verdict_on(alloc, game, &solution, explain)
 }
 
 /// The game that a text stands for, or where an identifier is given, the part of it that its node reaches. 1 to 4, 10 to
