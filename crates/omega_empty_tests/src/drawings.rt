@@ -1,7 +1,8 @@
 //! Drawings of games, solutions, automata and lassos.
 use crate::texts::{automaton_in, is_text};
-use omega_draw::{draw_automaton, draw_game, draw_lasso, draw_solution};
+use omega_automaton_drawing::{draw_automaton, draw_lasso};
 use omega_game::Game;
+use omega_game_drawing::{draw_game, draw_solution};
 use omega_pg::{read_game, read_solution};
 use omega_text::Refusal;
 use std::alloc::Global;

@@ -9,23 +9,22 @@ use Rattle.omega_command.specs.declared.command.Command.TheVariants.{Canon, Cano
 use Rattle.omega_command.specs.declared.command.Format.TheVariants.{Hoa, Pg}
 use Rattle.omega_io.specs.declared.exit.Exit.{Exit}
 use Rattle.omega_io.specs.declared.exit.Exit.TheVariants.{Done}
-use Rattle.omega_answers.specs.Game.{IsEmptinessGameAnswer, IsEmptinessGameRefusal}
-use Rattle.omega_answers.specs.Part.{IsPartTextRefusal}
-use Rattle.omega_answers.specs.Verify.{IsVerifyAnswer, IsVerifyRefusal}
-use Rattle.omega_answers.specs.canon.Hoa.{IsStreamCanonAnswer}
-use Rattle.omega_answers.specs.canon.Part.{IsCanonPartAnswer}
-use Rattle.omega_answers.specs.canon.Pg.{IsCanonAnswer}
-use Rattle.omega_answers.specs.check.Hoa.{IsStreamCheckAnswer}
-use Rattle.omega_answers.specs.check.Pg.{IsCheckAnswer}
-use Rattle.omega_answers.specs.draw.Hoa.{IsAutomatonDrawingAnswer, IsLassoDrawingAnswer}
-use Rattle.omega_answers.specs.draw.Pg.{IsGameDrawingAnswer, IsSolutionDrawingAnswer, IsSolutionDrawingRefusal}
-use Rattle.omega_answers.specs.empty.Answer.{IsEmptyAnswer, IsEmptyRefusal, IsEmptySearchRefusal}
-use Rattle.omega_answers.specs.show.Hoa.{IsStreamShowAnswer}
-use Rattle.omega_answers.specs.show.Pg.{IsShowAnswer}
-use Rattle.omega_answers.specs.declared.solve.asked.Asked.{Asked}
-use Rattle.omega_answers.specs.declared.solve.asked.Asked.TheVariants as way
-use Rattle.omega_answers.specs.solve.Refusing.{IsSolveRefusal}
-use Rattle.omega_answers.specs.solve.Solving.{IsSolveAnswer}
+use Rattle.omega_automaton_answers.specs.Game.{IsEmptinessGameAnswer, IsEmptinessGameRefusal}
+use Rattle.omega_game_answers.specs.Part.{IsPartTextRefusal}
+use Rattle.omega_game_answers.specs.Verify.{IsVerifyAnswer, IsVerifyRefusal}
+use Rattle.omega_automaton_answers.specs.Canon.{IsStreamCanonAnswer}
+use Rattle.omega_game_answers.specs.Canon.{IsCanonAnswer, IsCanonPartAnswer}
+use Rattle.omega_automaton_answers.specs.Check.{IsStreamCheckAnswer}
+use Rattle.omega_game_answers.specs.Check.{IsCheckAnswer}
+use Rattle.omega_automaton_answers.specs.Draw.{IsAutomatonDrawingAnswer, IsLassoDrawingAnswer}
+use Rattle.omega_game_answers.specs.Draw.{IsGameDrawingAnswer, IsSolutionDrawingAnswer, IsSolutionDrawingRefusal}
+use Rattle.omega_automaton_answers.specs.empty.Answer.{IsEmptyAnswer, IsEmptyRefusal, IsEmptySearchRefusal}
+use Rattle.omega_automaton_answers.specs.Show.{IsStreamShowAnswer}
+use Rattle.omega_game_answers.specs.Show.{IsShowAnswer}
+use Rattle.omega_game_answers.specs.declared.solve.asked.Asked.{Asked}
+use Rattle.omega_game_answers.specs.declared.solve.asked.Asked.TheVariants as way
+use Rattle.omega_game_answers.specs.solve.Refusing.{IsSolveRefusal}
+use Rattle.omega_game_answers.specs.solve.Solving.{IsSolveAnswer}
 use Rattle.omega_hoa.specs.Alone.{IsAutomatonRefusal}
 use Rattle.omega_hoa.specs.Stream.{IsStreamRefusal}
 use Rattle.omega_io.specs.Reading.{ReadsText, ReadsWhole}

@@ -3,13 +3,16 @@ ghost use Rattle.omega_solve.specs.Limits.{most_lifts};
 ghost use Rattle.omega_run.specs.Respond.{IsRunRefusal, Responds, asked_for};
 ghost use Rattle.omega_io.specs.Failures.{failures_of};
 
-use omega_answers::{
-    Asked, canon_game, canon_part, canon_stream, check_game, check_stream, decide_emptiness,
-    draw_automaton_text, draw_game_text, draw_lasso_text, draw_solution_text, search_emptiness,
-    show_game, show_stream, solve_game, verify_solution, write_emptiness_game,
+use omega_automaton_answers::{
+    canon_stream, check_stream, decide_emptiness, draw_automaton_text, draw_lasso_text,
+    search_emptiness, show_stream, write_emptiness_game,
 };
 use omega_command::{Command, Format};
 use omega_game::Player;
+use omega_game_answers::{
+    Asked, canon_game, canon_part, check_game, draw_game_text, draw_solution_text, show_game,
+    solve_game, verify_solution,
+};
 use omega_io::{Exit, Input, Refusal, read_all};
 use omega_solve::{Nested, PackedTable};
 use std::alloc::Global;

@@ -1,3 +1,0 @@
--- What `check` answers, format by format.
-pub mod Hoa
-pub mod Pg

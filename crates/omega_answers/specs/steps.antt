@@ -1,6 +1,0 @@
--- What stands between a text and its answer: cited by private contracts alone.
-pub mod GameRefusal
-pub mod PartRefusal
-pub mod Places
-pub mod Verdict
-pub mod Winners

@@ -1,3 +1,0 @@
-pub mod hoa;
-pub mod part;
-pub mod pg;

@@ -1,2 +1,0 @@
-pub mod hoa;
-pub mod pg;

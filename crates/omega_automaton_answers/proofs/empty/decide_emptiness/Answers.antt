@@ -1,0 +1,18 @@
+-- `decide_emptiness`: what is written is the verdict on the automaton that was read.
+use Rattle.std.proofs.lemmas.Result.{IfErr-weaker, IfOk-weaker}
+use Rattle.omega_automaton_answers.proofs.empty.decide_emptiness.Goals as goal
+
+pub returns-clause-answer : goal.returns-clause-answer
+returns-clause-answer c =
+    IfOk-weaker c.emptiness_text.result _ _
+    (λ output written. record {
+      automaton = c.in_ok-automaton.automaton;
+      read = c.in_ok-automaton.ensures.automaton;
+      verdict = c.in_ok-verdict.verdict;
+      right = c.in_ok-verdict.ensures.verdict;
+      written = written;
+    })
+    c.emptiness_text.ensures.text
+
+pub returns-clause-refused : goal.returns-clause-refused
+returns-clause-refused c = IfErr-weaker c.emptiness_text.result _ _ (λ refusal e. rw e tt) c.emptiness_text.ensures.memory

@@ -1,0 +1,8 @@
+-- What each subcommand answers and refuses of automata; in `steps` what private contracts alone cite.
+pub mod Canon
+pub mod Check
+pub mod Draw
+pub mod Game
+pub mod Show
+pub mod empty
+pub mod steps

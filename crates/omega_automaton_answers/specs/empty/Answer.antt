@@ -1,0 +1,37 @@
+-- What `empty` answers for the text of one automaton: an accepting lasso, or `empty` only where no lasso accepts; and its refusals.
+use Rattle.std.specs.Prelude.{◌≡◌, ◌⊎◌, List, ℕ, codes}
+use Rattle.omega_text.specs.declared.refusal.Refusal.{Refusal}
+use Rattle.omega_automaton.specs.Automaton.{Description}
+use Rattle.omega_empty.specs.Verdict.{IsEmptinessRefusal, IsVerdict}
+use Rattle.omega_empty.specs.declared.verdict.Verdict.{Verdict}
+use Rattle.omega_empty.specs.declared.verdict.Verdict.TheVariants.{Empty, Lasso}
+use Rattle.omega_hoa.specs.Alone.{IsAutomatonRefusal, IsAutomatonText}
+use Rattle.omega_automaton_answers.specs.Game.{IsEmptinessGameRefusal}
+use Rattle.omega_automaton_answers.specs.empty.LassoText.{lasso_text}
+
+-- what is written of a verdict: `empty`, or the lines of the lasso
+abbrev pub emptiness_text : Verdict → List ℕ
+emptiness_text Empty = codes "empty\n"
+emptiness_text (Lasso stem cycle) = lasso_text stem cycle
+
+-- what `empty` answers: the text stands for an automaton, and a right verdict on it is written, an accepting lasso or that none accepts
+pub record IsEmptyAnswer (text output : List ℕ) : Type 0 where
+  pub automaton : Description
+  pub read : IsAutomatonText text automaton
+  pub verdict : Verdict
+  pub right : IsVerdict automaton verdict
+  pub written : output ≡ emptiness_text verdict
+
+-- the text stands for an automaton whose emptiness is not decided within the budget: 13, 40, 41, 42, 50 or 51
+pub record RefusesEmptiness (text : List ℕ) (budget : ℕ) (refusal : Refusal) : Type 0 where
+  pub automaton : Description
+  pub read : IsAutomatonText text automaton
+  pub refused : IsEmptinessRefusal automaton budget refusal
+
+-- the refusal of `empty`: that of the text, or else that of deciding its automaton by lifting
+abbrev pub IsEmptyRefusal : List ℕ → ℕ → Refusal → Type 0
+IsEmptyRefusal text budget refusal = IsAutomatonRefusal text refusal ⊎ RefusesEmptiness text budget refusal
+
+-- the refusal of `empty --search`, which has no budget: that of the emptiness game
+abbrev pub IsEmptySearchRefusal : List ℕ → Refusal → Type 0
+IsEmptySearchRefusal = IsEmptinessGameRefusal

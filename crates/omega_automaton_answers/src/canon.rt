@@ -1,0 +1,37 @@
+ghost use Rattle.std.specs.Prelude.{◌≡◌, ◌+◌, ◌-◌, ◌^◌, ◌<◌, IfOk, IfErr};
+ghost use Rattle.omega_text.specs.Cases.{or_io, or_memory};
+ghost use Rattle.omega_hoa.specs.Stream.{IsStreamRefusal};
+ghost use Rattle.omega_io.specs.Failures.{failures_of};
+ghost use Rattle.omega_io.specs.Reading.{ReadsText, ReadsWhole};
+ghost use Rattle.omega_automaton_answers.specs.Canon.{IsStreamCanonAnswer, canonical_part};
+
+use omega_canon::canonical;
+use omega_feed::{Input, Item, ItemText, tell_stream};
+use omega_text::Refusal;
+use std::alloc::Global;
+
+/// The canonical texts of the automata of the stream that an input gives, one behind the other. 1 to 4, 20 to 33, 60 or 61.
+pub fn canon_stream<R: Input>(alloc: Global, input: &mut R) -> Result<Vec<u8>, Refusal>
+    requires { R.failed input.old < 2 ^ 64 - 1 }
+    ensures answer { IfOk result (λ output. ReadsWhole (R.remaining input.old) (R.remaining input.new) (λ text. IsStreamCanonAnswer text output.items)) }
+    ensures refused { IfErr result (or_memory (or_io (λ refusal. ReadsText (R.remaining input.old) (R.remaining input.new) (λ text. IsStreamRefusal text refusal)))) }
+    ensures counted { R.failed input.new ≡ R.failed input.old + failures_of result }
+{
+    tell_stream::<CanonicalPart, R>(alloc, input)
+}
+
+/// What is told of an item: the canonical text of an automaton.
+struct CanonicalPart;
+
+impl ItemText for CanonicalPart {
+    ghost text = { canonical_part };
+
+    fn append(_number: usize, item: &Item, out: &mut Vec<u8>) -> Result<(), Refusal> {
+        if let Item::Automaton(automaton) = item {
+            let alloc = *out.allocator();
+            let text = canonical(alloc, automaton)?;
+            out.extend_from_slice(text.as_slice())?;
+        }
+        Ok(())
+    }
+}

@@ -1,0 +1,55 @@
+ghost use Rattle.std.specs.Prelude.{◌≡◌, IfOk, IfErr, IsOkUnless};
+ghost use Rattle.omega_hoa.specs.Alone.{IsAutomatonRefusal};
+ghost use Rattle.omega_text.specs.Cases.{or_memory};
+ghost use Rattle.omega_text.specs.declared.refusal.Refusal.TheVariants.{Memory};
+ghost use Rattle.omega_empty.specs.Refusing.{IsGameRefusal};
+ghost use Rattle.omega_automaton_answers.specs.Draw.{IsAutomatonDrawingAnswer, IsLassoDrawingAnswer, drawing_of_verdict};
+ghost use Rattle.omega_automaton_answers.specs.empty.Answer.{IsEmptySearchRefusal};
+ghost use Rattle.omega_automaton_answers.specs.steps.Drawn.{IsLassoDrawn};
+
+use crate::automaton_text::automaton_in;
+use omega_automaton::{Automaton, Refusal};
+use omega_automaton_drawing::{draw_automaton, draw_lasso};
+use omega_empty::{Verdict, lasso};
+use std::alloc::Global;
+
+/// The drawing of the automaton that a text stands for. 1 to 4, 20 to 33 or 60.
+pub fn draw_automaton_text(alloc: Global, text: Vec<u8>) -> Result<Vec<u8>, Refusal>
+    ensures answer { IfOk result (λ output. IsAutomatonDrawingAnswer text.items output.items) }
+    ensures refused { IfErr result (or_memory (IsAutomatonRefusal text.items)) }
+{
+    let automaton = automaton_in(alloc, text)?;
+    draw_automaton(alloc, &automaton)
+}
+
+/// The drawing of the automaton that a text stands for, with an accepting lasso, found by a search of the emptiness game,
+/// or without one where no lasso accepts. 1 to 4, 20 to 33, then 13, 40, 41 or 42, or 60.
+pub fn draw_lasso_text(alloc: Global, text: Vec<u8>) -> Result<Vec<u8>, Refusal>
+    ensures answer { IfOk result (λ output. IsLassoDrawingAnswer text.items output.items) }
+    ensures refused { IfErr result (or_memory (IsEmptySearchRefusal text.items)) }
+{
+    let automaton = automaton_in(alloc, text)?;
+    draw_searched(alloc, &automaton)
+}
+
+/// The drawing of an automaton with an accepting lasso, or without one where no lasso accepts. 13, 40, 41, 42 or 60.
+fn draw_searched(alloc: Global, automaton: &Automaton) -> Result<Vec<u8>, Refusal>
+    ensures drawn { IfOk result (λ output. IsLassoDrawn automaton.now output.items) }
+    ensures refused { IfErr result (IsGameRefusal automaton.now) }
+{
+    let verdict = lasso(alloc, automaton)?;
+    draw_verdict(alloc, automaton, &verdict)
+}
+
+/// The drawing of an automaton with the lasso of a verdict, or alone. 60 alone.
+fn draw_verdict(alloc: Global, automaton: &Automaton, verdict: &Verdict) -> Result<Vec<u8>, Refusal>
+    ensures text { IfOk result (λ text. text.items ≡ drawing_of_verdict automaton.now verdict.now) }
+    ensures memory { IsOkUnless result Memory }
+{
+    match verdict {
+        Verdict::Empty => draw_automaton(alloc, automaton),
+        Verdict::Lasso { stem, cycle } => {
+            draw_lasso(alloc, automaton, stem.as_slice(), cycle.as_slice())
+        }
+    }
+}

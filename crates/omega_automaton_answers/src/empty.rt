@@ -1,0 +1,67 @@
+ghost use Rattle.std.specs.Prelude.{◌≡◌, ◌≤◌, IfOk, IfErr, IsOkUnless};
+ghost use Rattle.omega_automaton_answers.specs.empty.Answer.{IsEmptyAnswer, IsEmptyRefusal, IsEmptySearchRefusal, emptiness_text};
+ghost use Rattle.omega_empty.specs.Refusing.{IsGameRefusal};
+ghost use Rattle.omega_empty.specs.Verdict.{IsEmptinessRefusal, IsVerdict};
+ghost use Rattle.omega_solve.specs.Limits.{most_lifts};
+ghost use Rattle.omega_text.specs.Cases.{or_memory};
+ghost use Rattle.omega_text.specs.declared.refusal.Refusal.TheVariants.{Memory};
+
+mod lasso_text;
+
+use crate::automaton_text::automaton_in;
+use lasso_text::lasso_text;
+use omega_automaton::Automaton;
+use omega_empty::{Verdict, emptiness, lasso};
+use omega_game::Refusal;
+use std::alloc::Global;
+
+/// An accepting lasso of the automaton that a text stands for, or `empty` where no lasso accepts, by lifting in the
+/// emptiness game. 1 to 4, 20 to 33, then 13, 40, 41 or 42, then 50, then 51, or 60.
+pub fn decide_emptiness(alloc: Global, text: Vec<u8>, budget: u64) -> Result<Vec<u8>, Refusal>
+    requires { budget ≤ most_lifts }
+    ensures answer { IfOk result (λ output. IsEmptyAnswer text.items output.items) }
+    ensures refused { IfErr result (or_memory (IsEmptyRefusal text.items budget)) }
+{
+    let automaton = automaton_in(alloc, text)?;
+    let verdict = decided(alloc, automaton, budget)?;
+    emptiness_text(alloc, verdict)
+}
+
+/// An accepting lasso of the automaton that a text stands for, or `empty` where no lasso accepts, by a search of the
+/// emptiness game. 1 to 4, 20 to 33, then 13, 40, 41 or 42, or 60.
+pub fn search_emptiness(alloc: Global, text: Vec<u8>) -> Result<Vec<u8>, Refusal>
+    ensures answer { IfOk result (λ output. IsEmptyAnswer text.items output.items) }
+    ensures refused { IfErr result (or_memory (IsEmptySearchRefusal text.items)) }
+{
+    let automaton = automaton_in(alloc, text)?;
+    let verdict = searched(alloc, automaton)?;
+    emptiness_text(alloc, verdict)
+}
+
+/// The verdict on an automaton, which is let go, by lifting. 13, 40, 41, 42, 50, 51 or 60.
+fn decided(alloc: Global, automaton: Automaton, budget: u64) -> Result<Verdict, Refusal>
+    requires { budget ≤ most_lifts }
+    ensures verdict { IfOk result (IsVerdict automaton) }
+    ensures refused { IfErr result (IsEmptinessRefusal automaton budget) }
+{
+    emptiness(alloc, &automaton, budget)
+}
+
+/// The verdict on an automaton, which is let go, by a search. 13, 40, 41, 42 or 60.
+fn searched(alloc: Global, automaton: Automaton) -> Result<Verdict, Refusal>
+    ensures verdict { IfOk result (IsVerdict automaton) }
+    ensures refused { IfErr result (IsGameRefusal automaton) }
+{
+    lasso(alloc, &automaton)
+}
+
+/// What is written of a verdict. 60 alone.
+fn emptiness_text(alloc: Global, verdict: Verdict) -> Result<Vec<u8>, Refusal>
+    ensures text { IfOk result (λ text. text.items ≡ emptiness_text verdict) }
+    ensures memory { IsOkUnless result Memory }
+{
+    match verdict {
+        Verdict::Empty => Ok(Vec::from_slice(alloc, b"empty\n")?),
+        Verdict::Lasso { stem, cycle } => lasso_text(alloc, stem.as_slice(), cycle.as_slice()),
+    }
+}

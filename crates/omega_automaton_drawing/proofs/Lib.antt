@@ -1,0 +1,6 @@
+-- Lemmas of drawings of automata.
+pub mod Bodies
+pub mod Lines
+pub mod Marks
+pub mod Named
+pub mod Passed

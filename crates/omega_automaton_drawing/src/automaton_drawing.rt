@@ -1,0 +1,46 @@
+//! Drawings of automata.
+
+ghost use Rattle.std.specs.Prelude.{◌≡◌, IfOk, IsOkUnless};
+ghost use Rattle.omega_automaton_drawing.specs.AutomatonDrawing.{drawing_of_automaton, drawing_of_lasso};
+
+use crate::edges::write_edges;
+use crate::role::roles_of;
+use crate::states::{write_front, write_starts, write_states};
+use omega_automaton::Automaton;
+use omega_text::Refusal;
+use std::alloc::Global;
+
+/// The drawing of an automaton as a graph in DOT. 60 alone.
+///
+/// Its name and its acceptance formula stand above it. A state has its number, its name, its own label in brackets and
+/// its sets in braces; an edge its label, with the names of propositions, and its sets. An arrow from nowhere leads to
+/// each start. A universal branch, and a start of several states, leads to a point and from there to each of its states.
+/// States that are only counted, and neither defined nor started from nor entered, are not drawn. The text is in the DOT
+/// language (graphviz.org/doc/info/lang.html). The cost is linear in it.
+pub fn draw_automaton(alloc: Global, automaton: &Automaton) -> Result<Vec<u8>, Refusal>
+    ensures text { IfOk result (λ text. text.items ≡ drawing_of_automaton automaton.now) }
+    ensures memory { IsOkUnless result Refusal.Memory }
+{
+    draw_lasso(alloc, automaton, &[], &[])
+}
+
+/// The drawing of an automaton with a lasso, given by the numbers of its edges: as that of the automaton, the edges of
+/// the cycle bold and red, and others of the stem bold and blue. Numbers of no edge change nothing. 60 alone.
+pub fn draw_lasso(
+    alloc: Global,
+    automaton: &Automaton,
+    stem: &[u32],
+    cycle: &[u32],
+) -> Result<Vec<u8>, Refusal>
+    ensures text { IfOk result (λ text. text.items ≡ drawing_of_lasso automaton.now stem.now cycle.now) }
+    ensures memory { IsOkUnless result Refusal.Memory }
+{
+    let roles = roles_of(alloc, automaton.edge_count(), stem, cycle)?;
+    let mut out = Vec::with_capacity(alloc, 128)?;
+    write_front(automaton, &mut out)?;
+    write_starts(automaton, &mut out)?;
+    write_states(automaton, &mut out)?;
+    write_edges(automaton, roles.as_slice(), &mut out)?;
+    out.extend_from_slice(b"}\n")?;
+    Ok(out)
+}

@@ -1,0 +1,2 @@
+-- Lemmas of texts of items.
+pub mod Rows

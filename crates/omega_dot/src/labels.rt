@@ -1,0 +1,50 @@
+//! Lines of labels, and names in them.
+
+ghost use Rattle.std.specs.Prelude.{◌≡◌, ◌++◌, IsOkUnless, OnOk, option_map};
+ghost use Rattle.omega_dot.specs.Labels.{escaped, escaped_byte, name_line};
+
+use omega_text::Refusal;
+
+/// Appends a name so that DOT draws its bytes.
+pub fn write_escaped(name: &[u8], out: &mut Vec<u8>) -> Result<(), Refusal>
+    ensures ok { OnOk result (out.new.items ≡ out.old.items ++ escaped name.now) }
+    ensures memory { IsOkUnless result Refusal.Memory }
+{
+    for byte in name {
+        write_escaped_byte(*byte, out)?;
+    }
+    Ok(())
+}
+
+/// Appends a byte of a name.
+fn write_escaped_byte(byte: u8, out: &mut Vec<u8>) -> Result<(), Refusal>
+    ensures ok { OnOk result (out.new.items ≡ out.old.items ++ escaped_byte byte) }
+    ensures memory { IsOkUnless result Refusal.Memory }
+{
+    if byte == b'"' {
+        out.extend_from_slice(b"\\\"")?;
+    } else if byte == b'\\' {
+        out.extend_from_slice(b"\\\\")?;
+    } else if byte == b'&' {
+        out.extend_from_slice(b"&amp;")?;
+    } else if byte == b'\n' {
+        out.extend_from_slice(b"\\n")?;
+    } else if byte < b' ' {
+        out.push(b' ')?;
+    } else {
+        out.push(byte)?;
+    }
+    Ok(())
+}
+
+/// Appends the line of a name, if there is one.
+pub fn write_name_line(name: Option<&[u8]>, out: &mut Vec<u8>) -> Result<(), Refusal>
+    ensures ok { OnOk result (out.new.items ≡ out.old.items ++ name_line (option_map (λ name. name.now) name.entry)) }
+    ensures memory { IsOkUnless result Refusal.Memory }
+{
+    if let Some(name) = name {
+        write_escaped(name, out)?;
+        out.extend_from_slice(b"\\n")?;
+    }
+    Ok(())
+}

@@ -1,9 +1,0 @@
--- `draw_game`: the nodes before this place are drawn.
-use Rattle.std.proofs.Common.{◌≡◌, ◌++◌, None, take, codes}
-use Rattle.omega_draw.specs.GameDrawing.{node_text}
-use Rattle.omega_draw.specs.Numbered.{numbered}
-use Rattle.omega_draw.proofs.game_drawing.draw_game.Given as goal
-
-abbrev pub invariant-loop-place : goal.invariant-loop-place
-invariant-loop-place l =
-    l.out.items ≡ codes "digraph game {\n" ++ numbered (λ place node. node_text l.game None None node) 0 (take l.place l.game)

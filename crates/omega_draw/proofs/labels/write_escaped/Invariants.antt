@@ -1,7 +1,0 @@
--- `write_escaped`: the bytes before this one are written.
-use Rattle.std.proofs.Common.{◌≡◌, ◌++◌, take}
-use Rattle.omega_draw.specs.Labels.{escaped}
-use Rattle.omega_draw.proofs.labels.write_escaped.Given as goal
-
-abbrev pub invariant-loop-byte : goal.invariant-loop-byte
-invariant-loop-byte l = l.out.items ≡ l.fn.out.items ++ escaped (take l.byte-index l.name)

@@ -1,0 +1,11 @@
+-- Lemmas by theme.
+pub mod Accepting
+pub mod Explaining
+pub mod Identifiers
+pub mod Parts
+pub mod Places
+pub mod Refused
+pub mod Solutions
+pub mod Solved
+pub mod Solving
+pub mod Verifying

@@ -1,0 +1,108 @@
+-- What was found within a budget is a right answer, and which refusals of its parts are those of solving.
+use Rattle.std.proofs.Common.{◌≡◌, ℕ, ◌+◌, Bool, true, false, List, Option, Some, None, is_some, ap, subst, arith}
+use Rattle.std.specs.List.{Contains, slice_get}
+use Rattle.std.proofs.lemmas.Option.{get_or_from_slice_get}
+use Rattle.omega_text.specs.declared.refusal.Refusal.{Refusal}
+use Rattle.omega_text.specs.declared.refusal.Refusal.TheVariants.{Automaton, Game, Io, Memory, Task, Text}
+use Rattle.omega_text.specs.declared.refusal.task.TaskFault.TheVariants.{BadSolution, Budget, NotParity, TooManyPropositions, TooWide, UniversalBranch, UnknownNode}
+use Rattle.omega_game.specs.declared.player.Player.{Player}
+use Rattle.omega_game.specs.Game.{Node, priorities}
+use Rattle.omega_measure.specs.Table.{is_too_wide}
+use Rattle.omega_solve.specs.Headline.{IsExact}
+use Rattle.omega_solve.specs.Within.{IsBudgetRefusal, IsFound}
+use Rattle.omega_solve.specs.declared.found.Found.{Found}
+use Rattle.omega_game_answers.specs.Part.{IsPartFrom}
+use Rattle.omega_game_answers.specs.solve.AnswerText.{IsAnswerOf, WinsExactly, answer_text}
+use Rattle.omega_game_answers.specs.declared.solve.asked.Asked.{Asked}
+use Rattle.omega_game_answers.specs.solve.Refusing.{IsSolvedFor}
+use Rattle.omega_game_answers.specs.steps.GameRefusal.{IsGameRefusal}
+use Rattle.omega_game_answers.specs.steps.PartRefusal.{IsPartRefusal}
+use Rattle.omega_game_answers.specs.steps.Places.{places_from}
+use Rattle.omega_game_answers.proofs.Places.{Contains-places_from, IsStrictlyIncreasing-places_from, places_from-true}
+
+-- ---- the places won
+
+-- the places won are those whose flag is true
+pub Contains-won : (won : List Bool) (v : ℕ) → Contains (places_from 0 won) v → slice_get won v ≡ Some true
+Contains-won won v there =
+    let found = places_from-true 0 won v there in
+    let place : found.0 ≡ v = omega (arith, found.1) in
+    subst (λ (i : ℕ). slice_get won i ≡ Some true) place found.2
+
+pub won-Contains : (won : List Bool) (v : ℕ) → slice_get won v ≡ Some true → Contains (places_from 0 won) v
+won-Contains won v e =
+    let place : 0 + v ≡ v = omega arith in
+    subst (Contains (places_from 0 won)) place (Contains-places_from 0 won v e)
+
+-- an exact answer by place wins exactly at the places won
+wins_exactly : (nodes : List Node) (player : Player) (won : List Bool) (choices : List (Option ℕ)) → IsExact nodes player won choices
+    → WinsExactly nodes player (places_from 0 won) choices
+wins_exactly nodes player won choices exact = record {
+  rising = IsStrictlyIncreasing-places_from 0 won;
+  exactly = λ v. (
+    λ there. (exact.exactly v).0 (Contains-won won v there),
+    λ region. won-Contains won v ((exact.exactly v).1 region),
+  );
+  strategy = exact.strategy;
+  chosen = λ v there owned.
+      let found = exact.chosen v (Contains-won won v there) owned in
+      ap is_some (get_or_from_slice_get choices v (Some found.0) None found.1);
+  printed = λ v w chooses. won-Contains won v (exact.only v w chooses);
+  wins = λ v there. exact.wins v ((exact.exactly v).0 (Contains-won won v there));
+}
+
+-- the text of what was found is a right answer
+pub right_answer : (nodes : List Node) (player : Player) (budget : ℕ) (found : Found) (output : List ℕ)
+    → is_too_wide player (priorities nodes) ≡ false → IsFound nodes player budget found
+    → output ≡ answer_text player found.lifts nodes (places_from 0 found.won.items) found.choice.items
+    → IsAnswerOf nodes player budget output
+right_answer nodes player budget found output narrow is_found written = record {
+  narrow = narrow;
+  lifts = found.lifts;
+  won = places_from 0 found.won.items;
+  choices = found.choice.items;
+  written = written;
+  ended = is_found.ended;
+  won_exactly = wins_exactly nodes player found.won.items found.choice.items is_found.exact;
+}
+
+-- ---- refusals
+
+-- what is refused for a player's budget is refused of the game, which is too wide for no player for whom it is solved
+pub refused-budget : (nodes : List Node) (asked : Asked) (player : Player) (budget : ℕ) (refusal : Refusal)
+    → ((other : Player) → IsSolvedFor asked other → is_too_wide other (priorities nodes) ≡ false) → IsSolvedFor asked player
+    → IsBudgetRefusal nodes player budget refusal → IsGameRefusal nodes asked None budget refusal
+refused-budget nodes asked player budget (Task fault) narrow solved_for (e, unfinished) =
+    rw e (record { narrow = narrow; player = player; solved_for = solved_for; unfinished = unfinished })
+refused-budget nodes asked player budget Memory narrow solved_for h = tt
+refused-budget nodes asked player budget (Text fault) narrow solved_for h = h
+refused-budget nodes asked player budget (Game fault) narrow solved_for h = h
+refused-budget nodes asked player budget (Automaton fault) narrow solved_for h = h
+refused-budget nodes asked player budget Io narrow solved_for h = h
+
+-- what refuses taking the part of a node refuses the solving from it
+pub refused-unknown : (game : List Node) (asked : Asked) (identifier budget : ℕ) (refusal : Refusal)
+    → IsPartRefusal game identifier refusal → IsGameRefusal game asked (Some identifier) budget refusal
+refused-unknown game asked identifier budget (Task fault) (e, unknown) = rw e unknown
+refused-unknown game asked identifier budget Memory h = tt
+refused-unknown game asked identifier budget (Text fault) h = h
+refused-unknown game asked identifier budget (Game fault) h = h
+refused-unknown game asked identifier budget (Automaton fault) h = h
+refused-unknown game asked identifier budget Io h = h
+
+-- what refuses the part of a node refuses the solving from it
+pub refused-part : (game : List Node) (asked : Asked) (identifier budget : ℕ) (part : List Node) (refusal : Refusal)
+    → IsPartFrom game identifier part → IsGameRefusal part asked None budget refusal
+    → IsGameRefusal game asked (Some identifier) budget refusal
+refused-part game asked identifier budget part (Task UnknownNode) part_of h = absurd h
+refused-part game asked identifier budget part (Task TooWide) part_of h = record { part = part; part_of = part_of; fault_there = h }
+refused-part game asked identifier budget part (Task Budget) part_of h = record { part = part; part_of = part_of; fault_there = h }
+refused-part game asked identifier budget part (Task BadSolution) part_of h = absurd h
+refused-part game asked identifier budget part (Task NotParity) part_of h = absurd h
+refused-part game asked identifier budget part (Task UniversalBranch) part_of h = absurd h
+refused-part game asked identifier budget part (Task TooManyPropositions) part_of h = absurd h
+refused-part game asked identifier budget part Memory part_of h = tt
+refused-part game asked identifier budget part (Text fault) part_of h = h
+refused-part game asked identifier budget part (Game fault) part_of h = h
+refused-part game asked identifier budget part (Automaton fault) part_of h = h
+refused-part game asked identifier budget part Io part_of h = h

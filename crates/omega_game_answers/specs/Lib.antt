@@ -1,0 +1,11 @@
+-- What each subcommand answers and refuses of games; in `steps` what private contracts alone cite.
+pub mod Canon
+pub mod Check
+pub mod Draw
+pub mod Laws
+pub mod Part
+pub mod PlayerText
+pub mod Show
+pub mod Verify
+pub mod solve
+pub mod steps

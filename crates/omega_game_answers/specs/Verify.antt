@@ -1,0 +1,78 @@
+-- What `verify` answers for a game text, or a part of its game, and a solution text.
+use Rattle.std.specs.Prelude.{◌≡◌, ◌⊎◌, ◌<◌, ◌++◌, ◌∷◌, [], Bool, true, false, List, Option, Some, None, ℕ, codes, decimal, length}
+use Rattle.std.specs.List.{flat_map}
+use Rattle.omega_text.specs.declared.refusal.Refusal.{Refusal}
+use Rattle.omega_game.specs.declared.lasso.Lasso.{Lasso}
+use Rattle.omega_game.specs.declared.player.Player.{Player}
+use Rattle.omega_game.specs.Counterexample.{IsCounterexample}
+use Rattle.omega_game.specs.Game.{Node, identifier_at}
+use Rattle.omega_game.specs.Player.{player_number}
+use Rattle.omega_pg.specs.game.Refusing.{IsRefusal}
+use Rattle.omega_pg.specs.solution.Refusing.{IsSolutionRefusal}
+use Rattle.omega_pg.specs.solution.Text.{IsSolutionText}
+use Rattle.omega_pg.specs.solution.Solution.{choices_of, winner_at}
+use Rattle.omega_pg.specs.game.Text.{IsGameText}
+use Rattle.omega_pg.specs.declared.solution.Solution.{Solution}
+use Rattle.omega_io.specs.declared.exit.Exit.{Exit}
+use Rattle.omega_io.specs.declared.exit.Exit.TheVariants.{Done, No}
+use Rattle.omega_game_answers.specs.Part.{IsPartText, IsPartTextRefusal}
+use Rattle.omega_game_answers.specs.solve.Solution.{WinsAsGiven, WinsGiven}
+
+-- the identifiers of the nodes at the places, a space before each
+abbrev pub identifiers_text : List Node → List ℕ → List ℕ
+identifiers_text nodes places = flat_map (λ place. codes " " ++ decimal (identifier_at nodes place)) places
+
+-- `no`, the player, and the nodes of the stem and of the cycle, a line for each
+abbrev pub explained_text : List Node → Player → Lasso → List ℕ
+explained_text nodes player lasso =
+    codes "no\nplayer " ++ (decimal (player_number player) ++ (codes "\nstem" ++ (identifiers_text nodes lasso.stem
+    ++ (codes "\ncycle" ++ (identifiers_text nodes lasso.cycle ++ codes "\n")))))
+
+-- a lasso shows that the player's choices do not win from a node that is given to the player
+pub record LosesGiven (nodes : List Node) (solution : Solution) (player : Player) (lasso : Lasso) : Type 0 where
+  pub start : ℕ
+  pub node : start < length nodes
+  pub given : winner_at solution start ≡ player
+  pub lost : IsCounterexample nodes player (choices_of solution player) (start ∷ []) lasso
+
+-- `no` is explained: a lasso is written for the least player whose choices do not win as given
+pub record IsExplained (nodes : List Node) (solution : Solution) (output : List ℕ) : Type 0 where
+  pub player : Player
+  pub least : (other : Player) → player_number other < player_number player → WinsGiven nodes solution other
+  pub lasso : Lasso
+  pub loses : LosesGiven nodes solution player lasso
+  pub written : output ≡ explained_text nodes player lasso
+
+-- `yes` where for each player the choices win from all nodes given to that player, else `no`, with an exit of its own; this is explained where that is asked for
+abbrev pub IsVerdict : List Node → Solution → Bool → Exit → List ℕ → Type 0
+IsVerdict nodes solution explain Done output = WinsAsGiven nodes solution × (output ≡ codes "yes\n")
+IsVerdict nodes solution false No output = (¬ WinsAsGiven nodes solution) × (output ≡ codes "no\n")
+IsVerdict nodes solution true No output = IsExplained nodes solution output
+
+-- the game that is judged: that of the text, or where an identifier is given, the part of it that its node reaches
+abbrev pub IsJudged : List ℕ → Option ℕ → List Node → Type 0
+IsJudged game_text None game = IsGameText game_text game
+IsJudged game_text (Some identifier) game = IsPartText game_text identifier game
+
+-- what `verify` answers: the texts stand for a game that is judged and for a solution of it, and the verdict is written
+pub record IsVerifyAnswer (game_text : List ℕ) (from : Option ℕ) (text : List ℕ) (explain : Bool) (exit : Exit) (output : List ℕ) : Type 0 where
+  pub game : List Node
+  pub judged : IsJudged game_text from game
+  pub solution : Solution
+  pub read : IsSolutionText game text solution
+  pub verdict : IsVerdict game solution explain exit output
+
+-- the refusal of the game that is judged: that of the text, or where an identifier is given, that of the part
+abbrev pub IsJudgedRefusal : List ℕ → Option ℕ → Refusal → Type 0
+IsJudgedRefusal game_text None refusal = IsRefusal game_text refusal
+IsJudgedRefusal game_text (Some identifier) refusal = IsPartTextRefusal game_text identifier refusal
+
+-- the one text stands for a game that is judged, and the other is refused as a solution of it
+pub record RefusesSolution (game_text : List ℕ) (from : Option ℕ) (text : List ℕ) (refusal : Refusal) : Type 0 where
+  pub game : List Node
+  pub judged : IsJudged game_text from game
+  pub refused : IsSolutionRefusal game text refusal
+
+-- the refusal of `verify`: that of the game that is judged, or else that of the solution's text
+abbrev pub IsVerifyRefusal : List ℕ → Option ℕ → List ℕ → Refusal → Type 0
+IsVerifyRefusal game_text from text refusal = IsJudgedRefusal game_text from refusal ⊎ RefusesSolution game_text from text refusal

@@ -1,0 +1,62 @@
+-- Which refusal `solve` answers: that of the text, or else the first fault of its game.
+use Rattle.std.specs.Prelude.{◌≡◌, List, Option, Some, None, true, false, ℕ}
+use Rattle.omega_text.specs.Cases.{or_task}
+use Rattle.omega_text.specs.declared.refusal.Refusal.{Refusal}
+use Rattle.omega_text.specs.declared.refusal.task.TaskFault.{TaskFault}
+use Rattle.omega_text.specs.declared.refusal.task.TaskFault.TheVariants.{Budget, TooWide, UnknownNode}
+use Rattle.omega_game.specs.declared.player.Player.{Player}
+use Rattle.omega_game.specs.Game.{Node, priorities}
+use Rattle.omega_measure.specs.Table.{is_too_wide}
+use Rattle.omega_pg.specs.game.Refusing.{IsRefusal}
+use Rattle.omega_pg.specs.game.Text.{IsGameText}
+use Rattle.omega_solve.specs.Within.{GoesOnAfter}
+use Rattle.omega_game_answers.specs.declared.solve.asked.Asked.{Asked}
+use Rattle.omega_game_answers.specs.declared.solve.asked.Asked.TheVariants as way
+use Rattle.omega_game_answers.specs.Part.{IsPartFrom, IsUnknown}
+
+-- the game is solved for this player: for the one asked for, or for both
+abbrev pub IsSolvedFor : Asked → Player → Type 0
+IsSolvedFor way.Both player = Unit {0}
+IsSolvedFor way.Search player = Unit {0}
+IsSolvedFor (way.Player one) player = player ≡ one
+
+-- the game is too wide for a player for whom it is solved
+pub record IsTooWide (nodes : List Node) (asked : Asked) : Type 0 where
+  pub player : Player
+  pub solved_for : IsSolvedFor asked player
+  pub wide : is_too_wide player (priorities nodes) ≡ true
+
+-- the game is too wide for no player for whom it is solved, and for one of them a lifting run of exactly the budget's entries leaves a lift due
+pub record IsOverBudget (nodes : List Node) (asked : Asked) (budget : ℕ) : Type 0 where
+  pub narrow : (player : Player) → IsSolvedFor asked player → is_too_wide player (priorities nodes) ≡ false
+  pub player : Player
+  pub solved_for : IsSolvedFor asked player
+  pub unfinished : GoesOnAfter nodes player budget
+
+-- the fault of solving a whole game: it is too wide, or else the budget is used up
+abbrev pub IsWholeFault : List Node → Asked → ℕ → TaskFault → Type 0
+IsWholeFault nodes asked budget TooWide = IsTooWide nodes asked
+IsWholeFault nodes asked budget Budget = IsOverBudget nodes asked budget
+IsWholeFault nodes asked budget fault = ⊥
+
+-- the part that the node with the identifier reaches has this fault
+pub record IsPartFault (game : List Node) (asked : Asked) (identifier budget : ℕ) (fault : TaskFault) : Type 0 where
+  pub part : List Node
+  pub part_of : IsPartFrom game identifier part
+  pub fault_there : IsWholeFault part asked budget fault
+
+-- the fault of solving a game, or where an identifier is given, the part that its node reaches: first, that no node has it
+abbrev pub IsSolvingFault : List Node → Asked → Option ℕ → ℕ → TaskFault → Type 0
+IsSolvingFault game asked None budget fault = IsWholeFault game asked budget fault
+IsSolvingFault game asked (Some identifier) budget UnknownNode = IsUnknown game identifier
+IsSolvingFault game asked (Some identifier) budget fault = IsPartFault game asked identifier budget fault
+
+-- the text stands for a game that has this fault
+pub record IsTaskFault (text : List ℕ) (asked : Asked) (from : Option ℕ) (budget : ℕ) (fault : TaskFault) : Type 0 where
+  pub game : List Node
+  pub read : IsGameText text game
+  pub fault_there : IsSolvingFault game asked from budget fault
+
+-- the refusal of `solve`: the fault of the game, or else the refusal of the text
+abbrev pub IsSolveRefusal : List ℕ → Asked → Option ℕ → ℕ → Refusal → Type 0
+IsSolveRefusal text asked from budget = or_task (IsTaskFault text asked from budget) (IsRefusal text)

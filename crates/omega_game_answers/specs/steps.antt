@@ -1,0 +1,7 @@
+-- What stands between a text and its answer: cited by private contracts alone.
+pub mod GameRefusal
+pub mod PartRefusal
+pub mod Places
+pub mod Solved
+pub mod Verdict
+pub mod Winners

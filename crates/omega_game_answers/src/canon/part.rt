@@ -1,0 +1,21 @@
+ghost use Rattle.std.specs.Prelude.{IfOk, IfErr};
+ghost use Rattle.omega_text.specs.Cases.{or_memory};
+ghost use Rattle.omega_game_answers.specs.Part.{IsPartTextRefusal};
+ghost use Rattle.omega_game_answers.specs.Canon.{IsCanonPartAnswer};
+
+use crate::game_text::game_of;
+use crate::part::part_from;
+use omega_game::Refusal;
+use omega_pg::write_game;
+use std::alloc::Global;
+
+/// The canonical text of the part that the node with an identifier reaches in the game that a text stands for. 1 to 4,
+/// 10 to 14, 54 or 60.
+pub fn canon_part(alloc: Global, text: Vec<u8>, from: u32) -> Result<Vec<u8>, Refusal>
+    ensures answer { IfOk result (λ output. IsCanonPartAnswer text.items from output.items) }
+    ensures refused { IfErr result (or_memory (IsPartTextRefusal text.items from)) }
+{
+    let game = game_of(alloc, text)?;
+    let part = part_from(alloc, game, from)?;
+    write_game(alloc, &part)
+}

@@ -1,0 +1,25 @@
+//! What each subcommand answers to the texts of games and of their solutions.
+#![tactic(auto)]
+
+mod canon;
+mod check;
+mod draw;
+mod game_text;
+mod laws;
+mod part;
+mod player_text;
+mod show;
+mod solve;
+mod verify;
+
+pub use canon::canon_game;
+pub use canon::part::canon_part;
+pub use check::check_game;
+pub use draw::{draw_game_text, draw_solution_text};
+pub use laws::{solved_is_not_refused, solved_is_verified};
+pub use omega_io::Exit;
+pub use omega_solve::{MeasureTable, PackedTable, Player, Refusal, Schedule, Worklist};
+pub use show::show_game;
+pub use solve::asked::Asked;
+pub use solve::solve_game;
+pub use verify::verify_solution;

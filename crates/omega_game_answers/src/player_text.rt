@@ -1,0 +1,15 @@
+ghost use Rattle.std.specs.Prelude.{◌≡◌, ◌++◌, OnOk, IsOkUnless};
+ghost use Rattle.omega_text.specs.declared.refusal.Refusal.TheVariants.{Memory};
+ghost use Rattle.omega_game_answers.specs.PlayerText.{player_text};
+
+use omega_game::{Player, Refusal};
+use omega_text::write_number;
+
+/// Begins a line that speaks of a player.
+pub fn append_player(player: Player, out: &mut Vec<u8>) -> Result<(), Refusal>
+    ensures text { OnOk result (out.new.items ≡ out.old.items ++ player_text player) }
+    ensures memory { IsOkUnless result Memory }
+{
+    out.extend_from_slice(b"player ")?;
+    write_number(u128::from(player.number()), out)
+}

@@ -1,0 +1,63 @@
+ghost use Rattle.std.specs.Prelude.{◌≡◌, ◌++◌, IfOk, IfErr, OnOk, IsOkUnless};
+ghost use Rattle.omega_text.specs.declared.refusal.Refusal.TheVariants.{Memory};
+ghost use Rattle.omega_pg.specs.game.Refusing.{IsReadRefusal};
+ghost use Rattle.omega_game_answers.specs.Show.{IsShowAnswer, bound_line, description, size_line};
+
+use crate::game_text::game_of;
+use crate::player_text::append_player;
+use omega_game::{Game, Player, Refusal, bound};
+use omega_text::write_number;
+use std::alloc::Global;
+
+/// The size of the game that a text stands for, and the bounds on lifts. 1 to 4, 10 to 14 or 60.
+pub fn show_game(alloc: Global, text: Vec<u8>) -> Result<Vec<u8>, Refusal>
+    ensures answer { IfOk result (λ output. IsShowAnswer text.items output.items) }
+    ensures refused { IfErr result (IsReadRefusal text.items) }
+{
+    let game = game_of(alloc, text)?;
+    describe(alloc, &game)
+}
+
+fn describe(alloc: Global, game: &Game) -> Result<Vec<u8>, Refusal>
+    ensures text { IfOk result (λ output. output.items ≡ description game.now) }
+    ensures memory { IsOkUnless result Memory }
+{
+    let mut out = Vec::new(alloc);
+    append_size(game, &mut out)?;
+    append_bound(game, Player::Zero, &mut out)?;
+    append_bound(game, Player::One, &mut out)?;
+    Ok(out)
+}
+
+fn append_size(game: &Game, out: &mut Vec<u8>) -> Result<(), Refusal>
+    ensures text { OnOk result (out.new.items ≡ out.old.items ++ size_line game.now) }
+    ensures memory { IsOkUnless result Memory }
+{
+    let nodes = game.len();
+    let greatest = game.id((nodes - 1) as u32);
+    out.extend_from_slice(b"game nodes ")?;
+    write_number(nodes as u128, out)?;
+    out.extend_from_slice(b" edges ")?;
+    write_number(game.edges() as u128, out)?;
+    out.extend_from_slice(b" greatest ")?;
+    write_number(u128::from(greatest), out)?;
+    out.extend_from_slice(b"\n")?;
+    Ok(())
+}
+
+fn append_bound(game: &Game, player: Player, out: &mut Vec<u8>) -> Result<(), Refusal>
+    ensures text { OnOk result (out.new.items ≡ out.old.items ++ bound_line player game.now) }
+    ensures memory { IsOkUnless result Memory }
+{
+    append_player(player, out)?;
+    out.extend_from_slice(b" ")?;
+    match bound(game, player) {
+        Some(lifts) => {
+            out.extend_from_slice(b"bound ")?;
+            write_number(lifts, out)?;
+        }
+        None => out.extend_from_slice(b"bound over 128 bits")?,
+    }
+    out.extend_from_slice(b"\n")?;
+    Ok(())
+}

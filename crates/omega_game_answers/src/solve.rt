@@ -1,0 +1,79 @@
+ghost use Rattle.std.specs.Prelude.{◌≤◌, IfOk, IfErr, Some, None};
+ghost use Rattle.omega_solve.specs.Limits.{most_lifts};
+ghost use Rattle.omega_text.specs.Cases.{or_memory};
+ghost use Rattle.omega_game_answers.specs.solve.Refusing.{IsSolveRefusal};
+ghost use Rattle.omega_game_answers.specs.solve.Solving.{IsSolveAnswer, SolvesPart, SolvesWhole};
+ghost use Rattle.omega_game_answers.specs.steps.GameRefusal.{IsGameRefusal};
+
+mod answer_text;
+pub mod asked;
+mod both;
+mod one;
+mod searched;
+
+use crate::game_text::game_of;
+use crate::part::part_from;
+use asked::Asked;
+use both::solve_both;
+use omega_game::{Game, Refusal};
+use omega_region::regions_of_parts;
+use omega_solve::{MeasureTable, Schedule};
+use one::solve_one;
+use searched::solve_by_judged_search;
+use std::alloc::Global;
+
+/// The answer text of a player for the game that a text stands for, or its solution text. Where
+/// an identifier is given, that of the part that its node reaches. 1 to 4, 10 to 14, 54, 50, 51 or 60.
+pub fn solve_game<T: MeasureTable, S: Schedule>(
+    alloc: Global,
+    text: Vec<u8>,
+    asked: Asked,
+    from: Option<u32>,
+    budget: u64,
+) -> Result<Vec<u8>, Refusal>
+    requires { budget ≤ most_lifts }
+    ensures answer { IfOk result (λ output. IsSolveAnswer text.items asked from budget output.items) }
+    ensures refused { IfErr result (or_memory (IsSolveRefusal text.items asked from budget)) }
+{
+    let game = game_of(alloc, text)?;
+    match from {
+        None => solve_whole::<T, S>(alloc, &game, asked, budget),
+        Some(identifier) => solve_part::<T, S>(alloc, game, asked, identifier, budget),
+    }
+}
+
+/// The text for the part that the node with an identifier reaches. The game is let go. 54, 50, 51 or 60.
+fn solve_part<T: MeasureTable, S: Schedule>(
+    alloc: Global,
+    game: Game,
+    asked: Asked,
+    identifier: u32,
+    budget: u64,
+) -> Result<Vec<u8>, Refusal>
+    requires { budget ≤ most_lifts }
+    ensures answer { IfOk result (λ output. SolvesPart game asked identifier budget output.items) }
+    ensures refused { IfErr result (IsGameRefusal game asked (Some identifier) budget) }
+{
+    regions_of_parts();
+    game.keeps_limits();
+    let part = part_from(alloc, game, identifier)?;
+    solve_whole::<T, S>(alloc, &part, asked, budget)
+}
+
+/// The text for a whole game. 50, 51 or 60.
+fn solve_whole<T: MeasureTable, S: Schedule>(
+    alloc: Global,
+    game: &Game,
+    asked: Asked,
+    budget: u64,
+) -> Result<Vec<u8>, Refusal>
+    requires { budget ≤ most_lifts }
+    ensures answer { IfOk result (λ output. SolvesWhole game.now asked budget output.items) }
+    ensures refused { IfErr result (IsGameRefusal game.now asked None budget) }
+{
+    match asked {
+        Asked::Both => solve_both::<T, S>(alloc, game, budget),
+        Asked::Search => solve_by_judged_search::<T, S>(alloc, game, budget),
+        Asked::Player(player) => solve_one::<T, S>(alloc, game, player, budget),
+    }
+}

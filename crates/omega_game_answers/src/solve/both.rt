@@ -1,0 +1,69 @@
+ghost use Rattle.std.specs.Prelude.{◌≡◌, ◌≤◌, IfOk, IfErr, IsOkUnless, None};
+ghost use Rattle.omega_solve.specs.Limits.{most_lifts};
+ghost use Rattle.omega_text.specs.declared.refusal.Refusal.TheVariants.{Memory};
+ghost use Rattle.omega_game_answers.specs.declared.solve.asked.Asked.TheVariants.{Both};
+ghost use Rattle.omega_game_answers.specs.solve.Solution.{IsRight, IsSolutionOf};
+ghost use Rattle.omega_game_answers.specs.steps.GameRefusal.{IsGameRefusal};
+ghost use Rattle.omega_game_answers.specs.steps.Winners.{winners_of};
+
+use omega_game::{Game, Player, Refusal, Seq, Strategy};
+use omega_pg::{Solution, write_solution};
+use omega_region::{regions_are_apart, regions_cover};
+use omega_solve::{Found, MeasureTable, Schedule, Solver};
+use std::alloc::Global;
+
+/// The solution text of a game. 50, 51 or 60.
+pub fn solve_both<T: MeasureTable, S: Schedule>(
+    alloc: Global,
+    game: &Game,
+    budget: u64,
+) -> Result<Vec<u8>, Refusal>
+    requires { budget ≤ most_lifts }
+    ensures answer { IfOk result (λ output. IsSolutionOf game.now budget output.items) }
+    ensures refused { IfErr result (IsGameRefusal game.now Both None budget) }
+{
+    let solution = solution_of::<T, S>(alloc, game, budget)?;
+    write_solution(alloc, game, &solution)
+}
+
+/// The solution of a game. Both solvers are prepared before either runs, so that 50 comes before 51, and each may make
+/// the whole budget of lifts. 50, 51 or 60.
+pub fn solution_of<T: MeasureTable, S: Schedule>(
+    alloc: Global,
+    game: &Game,
+    budget: u64,
+) -> Result<Solution, Refusal>
+    requires { budget ≤ most_lifts }
+    ensures right { IfOk result (IsRight game.now budget) }
+    ensures refused { IfErr result (IsGameRefusal game.now Both None budget) }
+{
+    regions_are_apart();
+    regions_cover();
+    game.keeps_limits();
+    let for_zero: Solver<'_, T, S> = Solver::prepare(alloc, game, Player::Zero)?;
+    let for_one: Solver<'_, T, S> = Solver::prepare(alloc, game, Player::One)?;
+    let zero = Found::by(alloc, for_zero, budget)?;
+    let one = Found::by(alloc, for_one, budget)?;
+    let winners = winners_of(alloc, zero.won.as_slice())?;
+    Ok(Solution {
+        winners: Seq::from_vec(winners),
+        zero: Strategy {
+            choice: Seq::from_vec(zero.choice),
+        },
+        one: Strategy {
+            choice: Seq::from_vec(one.choice),
+        },
+    })
+}
+
+/// The winner of each node, of which player 0 wins these.
+fn winners_of(alloc: Global, won: &[bool]) -> Result<Vec<Player>, Refusal>
+    ensures winners { IfOk result (λ winners. winners.items ≡ winners_of won.now) }
+    ensures memory { IsOkUnless result Memory }
+{
+    let mut winners = Vec::with_capacity(alloc, won.len())?;
+    for is_won in won {
+        winners.push(if *is_won { Player::Zero } else { Player::One })?;
+    }
+    Ok(winners)
+}

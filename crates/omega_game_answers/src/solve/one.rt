@@ -1,0 +1,33 @@
+ghost use Rattle.std.specs.Prelude.{◌≡◌, ◌≤◌, IfOk, IfErr, None};
+ghost use Rattle.omega_game_answers.specs.declared.solve.asked.Asked.TheVariants as way;
+ghost use Rattle.omega_solve.specs.Limits.{most_lifts};
+ghost use Rattle.omega_game_answers.specs.solve.AnswerText.{IsAnswerOf};
+ghost use Rattle.omega_game_answers.specs.steps.GameRefusal.{IsGameRefusal};
+
+use super::answer_text::write_answer;
+use omega_game::{Game, Player, Refusal};
+use omega_solve::{Found, MeasureTable, Schedule, Solver};
+use std::alloc::Global;
+
+/// The answer text of a player for a game. 50, 51 or 60.
+pub fn solve_one<T: MeasureTable, S: Schedule>(
+    alloc: Global,
+    game: &Game,
+    player: Player,
+    budget: u64,
+) -> Result<Vec<u8>, Refusal>
+    requires { budget ≤ most_lifts }
+    ensures answer { IfOk result (λ output. IsAnswerOf game.now player budget output.items) }
+    ensures refused { IfErr result (IsGameRefusal game.now (way.Player player) None budget) }
+{
+    let solver: Solver<'_, T, S> = Solver::prepare(alloc, game, player)?;
+    let found = Found::by(alloc, solver, budget)?;
+    write_answer(
+        alloc,
+        game,
+        player,
+        found.lifts,
+        found.won.as_slice(),
+        found.choice.as_slice(),
+    )
+}

@@ -1,0 +1,91 @@
+//! Why the choices of a solution do not win.
+ghost use Rattle.std.specs.Prelude.{◌≡◌, ◌<◌, ◌++◌, All, IfNone, IfOk, IfSome, IsOkUnless, OnOk, length, true};
+ghost use Rattle.omega_text.specs.declared.refusal.Refusal.TheVariants.{Memory};
+ghost use Rattle.omega_pg.specs.solution.Solution.{IsSolution};
+ghost use Rattle.omega_game_answers.specs.Verify.{IsVerdict, LosesGiven, explained_text, identifiers_text};
+ghost use Rattle.omega_game_answers.specs.solve.Solution.{WinsGiven};
+
+use crate::verify::{given_to, strategy_of};
+use omega_game::{Game, Lasso, Player, Refusal, counterexample};
+use omega_io::Exit;
+use omega_pg::Solution;
+use omega_text::write_number;
+use std::alloc::Global;
+
+/// The verdict on a solution, where `no` is explained for the least player whose choices do not win as given. 60 alone.
+pub(crate) fn explained(
+    alloc: Global,
+    game: &Game,
+    solution: &Solution,
+) -> Result<(Exit, Vec<u8>), Refusal>
+    requires { IsSolution game.now solution.now }
+    ensures verdict { IfOk result (λ made. IsVerdict game.now solution.now true made.0 made.1.items) }
+    ensures memory { IsOkUnless result Memory }
+{
+    if let Some(lasso) = lost_by(alloc, game, solution, Player::Zero)? {
+        let text = explanation(alloc, game, Player::Zero, &lasso)?;
+        return Ok((Exit::No, text));
+    }
+    if let Some(lasso) = lost_by(alloc, game, solution, Player::One)? {
+        let text = explanation(alloc, game, Player::One, &lasso)?;
+        return Ok((Exit::No, text));
+    }
+    Ok((Exit::Done, Vec::from_slice(alloc, b"yes\n")?))
+}
+
+/// Why the choices of a player do not win from all nodes given to the player, none where they do. 60 alone.
+fn lost_by(
+    alloc: Global,
+    game: &Game,
+    solution: &Solution,
+    player: Player,
+) -> Result<Option<Lasso>, Refusal>
+    requires { IsSolution game.now solution.now }
+    ensures wins { IfOk result (λ found. IfNone found (WinsGiven game.now solution.now player)) }
+    ensures loses { IfOk result (λ found. IfSome found (LosesGiven game.now solution.now player)) }
+    ensures inside { IfOk result (λ found. IfSome found (λ lasso. All (λ place. place < length game.now) lasso.stem)) }
+    ensures round { IfOk result (λ found. IfSome found (λ lasso. All (λ place. place < length game.now) lasso.cycle)) }
+    ensures memory { IsOkUnless result Memory }
+{
+    game.keeps_limits();
+    let places = given_to(alloc, player, solution.winners.as_slice())?;
+    let strategy = strategy_of(solution, player);
+    let found = counterexample(alloc, game, player, places.as_slice(), strategy)?;
+    Ok(found)
+}
+
+/// The text of `no` with its explanation. 60 alone.
+fn explanation(
+    alloc: Global,
+    game: &Game,
+    player: Player,
+    lasso: &Lasso,
+) -> Result<Vec<u8>, Refusal>
+    requires stem { All (λ place. place < length game.now) lasso.now.stem }
+    requires cycle { All (λ place. place < length game.now) lasso.now.cycle }
+    ensures text { IfOk result (λ text. text.items ≡ explained_text game.now player lasso.now) }
+    ensures memory { IsOkUnless result Memory }
+{
+    let mut out = Vec::new(alloc);
+    out.extend_from_slice(b"no\nplayer ")?;
+    write_number(u128::from(player.number()), &mut out)?;
+    out.extend_from_slice(b"\nstem")?;
+    write_identifiers(game, lasso.stem.as_slice(), &mut out)?;
+    out.extend_from_slice(b"\ncycle")?;
+    write_identifiers(game, lasso.cycle.as_slice(), &mut out)?;
+    out.extend_from_slice(b"\n")?;
+    Ok(out)
+}
+
+/// Appends the identifiers of nodes, a space before each. 60 alone.
+fn write_identifiers(game: &Game, places: &[u32], out: &mut Vec<u8>) -> Result<(), Refusal>
+    requires { All (λ place. place < length game.now) places.now }
+    ensures ok { OnOk result (out.new.items ≡ out.old.items ++ identifiers_text game.now places.now) }
+    ensures memory { IsOkUnless result Memory }
+{
+    for place in places {
+        out.push(b' ')?;
+        write_number(u128::from(game.id(*place)), out)?;
+    }
+    Ok(())
+}

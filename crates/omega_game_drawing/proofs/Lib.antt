@@ -1,0 +1,2 @@
+-- Lemmas of drawings of games.
+pub mod Places

@@ -1,0 +1,160 @@
+//! The nodes of a game and their edges.
+
+ghost use Rattle.std.specs.Prelude.{◌≡◌, ◌<◌, ◌++◌, All, IsOkUnless, OnOk, codes, decimal, length};
+ghost use Rattle.std.specs.List.{flat_map};
+ghost use Rattle.omega_game.specs.Game.{node_at};
+ghost use Rattle.omega_game_drawing.specs.GameDrawing.{colour_of, edge_end, edge_line, fill_part, is_chosen, node_label, node_line, node_text, shape_of};
+
+use omega_dot::write_name_line;
+use omega_game::{Game, Player, Refusal};
+use omega_text::write_number;
+
+/// Appends the node at a place and its edges, with its winner and its choice if they are known.
+pub(crate) fn write_node(
+    game: &Game,
+    place: u32,
+    winner: Option<Player>,
+    choice: Option<u32>,
+    out: &mut Vec<u8>,
+) -> Result<(), Refusal>
+    requires { place < length game.now }
+    ensures ok { OnOk result (out.new.items ≡ out.old.items ++ node_text game.now winner choice (node_at game.now place)) }
+    ensures memory { IsOkUnless result Refusal.Memory }
+{
+    write_line(game, place, winner, out)?;
+    write_edges(game, place, choice, out)
+}
+
+/// Appends the line of the node at a place.
+fn write_line(
+    game: &Game,
+    place: u32,
+    winner: Option<Player>,
+    out: &mut Vec<u8>,
+) -> Result<(), Refusal>
+    requires { place < length game.now }
+    ensures ok { OnOk result (out.new.items ≡ out.old.items ++ node_line winner (node_at game.now place)) }
+    ensures memory { IsOkUnless result Refusal.Memory }
+{
+    out.extend_from_slice(b"  ")?;
+    write_number(u128::from(game.id(place)), out)?;
+    write_shape(game.owner(place), out)?;
+    write_label(game, place, out)?;
+    write_fill(winner, out)
+}
+
+/// Appends the shape of a player's nodes.
+fn write_shape(owner: Player, out: &mut Vec<u8>) -> Result<(), Refusal>
+    ensures ok { OnOk result (out.new.items ≡ out.old.items ++ (codes " [shape=" ++ (shape_of owner ++ codes ", label=\""))) }
+    ensures memory { IsOkUnless result Refusal.Memory }
+{
+    out.extend_from_slice(b" [shape=")?;
+    match owner {
+        Player::Zero => out.extend_from_slice(b"diamond")?,
+        Player::One => out.extend_from_slice(b"box")?,
+    }
+    out.extend_from_slice(b", label=\"")?;
+    Ok(())
+}
+
+/// Appends the label of the node at a place.
+fn write_label(game: &Game, place: u32, out: &mut Vec<u8>) -> Result<(), Refusal>
+    requires { place < length game.now }
+    ensures ok { OnOk result (out.new.items ≡ out.old.items ++ node_label (node_at game.now place)) }
+    ensures memory { IsOkUnless result Refusal.Memory }
+{
+    write_number(u128::from(game.id(place)), out)?;
+    out.extend_from_slice(b"\\n")?;
+    write_name_line(game.name(place), out)?;
+    out.extend_from_slice(b"priority ")?;
+    write_number(u128::from(game.priority(place)), out)?;
+    out.extend_from_slice(b"\\n")?;
+    Ok(())
+}
+
+/// Appends the end of a node's line, with the colour of its winner if that is known.
+fn write_fill(winner: Option<Player>, out: &mut Vec<u8>) -> Result<(), Refusal>
+    ensures ok { OnOk result (out.new.items ≡ out.old.items ++ (codes "\"" ++ (fill_part winner ++ codes "];\n"))) }
+    ensures memory { IsOkUnless result Refusal.Memory }
+{
+    out.push(b'"')?;
+    if let Some(winner) = winner {
+        out.extend_from_slice(b", style=filled, fillcolor=")?;
+        write_colour(winner, out)?;
+    }
+    out.extend_from_slice(b"];\n")?;
+    Ok(())
+}
+
+/// Appends the colour of what a player wins.
+fn write_colour(winner: Player, out: &mut Vec<u8>) -> Result<(), Refusal>
+    ensures ok { OnOk result (out.new.items ≡ out.old.items ++ colour_of winner) }
+    ensures memory { IsOkUnless result Refusal.Memory }
+{
+    match winner {
+        Player::Zero => out.extend_from_slice(b"lightblue")?,
+        Player::One => out.extend_from_slice(b"orange")?,
+    }
+    Ok(())
+}
+
+/// Appends the edges of the node at a place.
+fn write_edges(
+    game: &Game,
+    place: u32,
+    choice: Option<u32>,
+    out: &mut Vec<u8>,
+) -> Result<(), Refusal>
+    requires { place < length game.now }
+    ensures ok { OnOk result (out.new.items ≡ out.old.items ++ flat_map (edge_line game.now choice (node_at game.now place)) (node_at game.now place).successors) }
+    ensures memory { IsOkUnless result Refusal.Memory }
+{
+    game.keeps_limits();
+    for successor in game.successors(place) {
+        write_edge(game, place, choice, *successor, out)?;
+    }
+    Ok(())
+}
+
+/// Appends the edge from the node at a place to a successor.
+fn write_edge(
+    game: &Game,
+    place: u32,
+    choice: Option<u32>,
+    successor: u32,
+    out: &mut Vec<u8>,
+) -> Result<(), Refusal>
+    requires place { place < length game.now }
+    requires successor { successor < length game.now }
+    ensures ok { OnOk result (out.new.items ≡ out.old.items ++ edge_line game.now choice (node_at game.now place) successor) }
+    ensures memory { IsOkUnless result Refusal.Memory }
+{
+    out.extend_from_slice(b"  ")?;
+    write_number(u128::from(game.id(place)), out)?;
+    out.extend_from_slice(b" -> ")?;
+    write_number(u128::from(game.id(successor)), out)?;
+    write_edge_end(is_chosen(choice, successor), out)
+}
+
+/// Appends the end of an edge's line, bold if it is chosen.
+fn write_edge_end(chosen: bool, out: &mut Vec<u8>) -> Result<(), Refusal>
+    ensures ok { OnOk result (out.new.items ≡ out.old.items ++ edge_end chosen) }
+    ensures memory { IsOkUnless result Refusal.Memory }
+{
+    if chosen {
+        out.extend_from_slice(b" [style=bold];\n")?;
+    } else {
+        out.extend_from_slice(b";\n")?;
+    }
+    Ok(())
+}
+
+/// Whether a choice, if there is one, is this place.
+fn is_chosen(choice: Option<u32>, place: u32) -> bool
+    ensures { result ≡ is_chosen choice place }
+{
+    match choice {
+        Some(choice) => choice == place,
+        None => false,
+    }
+}
