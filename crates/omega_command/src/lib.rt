@@ -1,16 +1,10 @@
-//! The command line: what its words ask the program for, and the texts of help.
+//! The command line: what its words ask the program for.
 #![tactic(auto)]
 
-mod command;
-mod help;
-mod line;
-mod version;
+mod found;
 mod words;
 
-pub use command::{Command, Format};
-pub use line::Line;
-pub use omega_game::{Player, Refusal, Seq};
-pub use words::line_for::line_for;
-pub use words::mistake::{Mistake, Reason};
-pub use words::options::{OptionName, Options};
+pub use omega_line::{
+    Command, Format, Line, Mistake, OptionName, Options, Player, Reason, Refusal, Seq, line_for,
+};
 pub use words::read_words;

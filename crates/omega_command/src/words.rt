@@ -1,32 +1,23 @@
 ghost use Rattle.std.specs.Prelude.{IfOk, IsOkUnless};
 ghost use Rattle.clap.specs.Words.{found_of, kind_of, rows_of, subcommand_rows_of};
 ghost use Rattle.omega_text.specs.declared.refusal.Refusal.TheVariants.{Memory};
-ghost use Rattle.omega_command.specs.CommandLine.{IsFaultOf, IsLineFor, IsLineFound, IsPrinted};
-ghost use Rattle.omega_command.specs.Line.{IsRunnable};
+ghost use Rattle.omega_command.specs.Found.{IsFaultOf, IsLineFor, IsLineFound, IsPrinted};
+ghost use Rattle.omega_line.specs.Line.{IsRunnable};
 
-use crate::help::program::whole_program;
-use crate::line::Line;
+use crate::found::options_in;
 use clap::error::ErrorKind;
 use clap::{ArgMatches, Error};
-use line_for::line_for;
-use mistake::Mistake;
+use omega_help::matches_of;
+use omega_line::{Line, Mistake, line_for};
 use omega_text::Refusal;
-use options::Options;
 use std::alloc::Global;
-
-pub mod line_for;
-pub mod mistake;
-pub mod number;
-pub mod options;
-mod values;
 
 /// What the words of a command line ask for, of which the first is the program's name. 60 alone.
 pub fn read_words<'a>(alloc: Global, words: &'a [String]) -> Result<Line, Refusal>
     ensures runnable { IfOk result IsRunnable }
     ensures memory { IsOkUnless result Memory }
 {
-    let mut program: clap::Command<'a> = whole_program(alloc)?;
-    match program.try_get_matches_from_mut(words) {
+    match matches_of(alloc, words) {
         Ok(found) => asked_for(alloc, &found),
         Err(error) => printed(alloc, &error),
     }
@@ -50,7 +41,7 @@ fn answered(alloc: Global, subcommand: &str, matches: &ArgMatches<'_>) -> Result
     ensures runnable { IfOk result IsRunnable }
     ensures memory { IsOkUnless result Memory }
 {
-    match line_for(alloc, subcommand, &Options::of(matches)) {
+    match line_for(alloc, subcommand, &options_in(matches)) {
         Ok(line) => Ok(line),
         Err(mistake) => mistaken(alloc, &mistake),
     }

@@ -4,12 +4,12 @@ use Rattle.std.specs.Io.KnownBytes.{Appends, Keeps}
 use Rattle.omega_text.specs.declared.refusal.Refusal.{Refusal}
 use Rattle.omega_text.specs.declared.refusal.Refusal.TheVariants.{Io, Memory}
 use Rattle.omega_solve.specs.Limits.{most_lifts}
-use Rattle.omega_command.specs.declared.command.Command.{Command}
-use Rattle.omega_command.specs.declared.command.Command.TheVariants as command
+use Rattle.omega_line.specs.declared.command.Command.{Command}
+use Rattle.omega_line.specs.declared.command.Command.TheVariants as command
 use Rattle.omega_io.specs.declared.exit.Exit.{Exit}
 use Rattle.omega_io.specs.declared.exit.Exit.TheVariants.{Done}
-use Rattle.omega_command.specs.declared.line.Line.{Line}
-use Rattle.omega_command.specs.declared.line.Line.TheVariants.{DrawSolution, Fault, Help, Run, Verify}
+use Rattle.omega_line.specs.declared.line.Line.{Line}
+use Rattle.omega_line.specs.declared.line.Line.TheVariants.{DrawSolution, Fault, Help, Run, Verify}
 use Rattle.omega_io.specs.Exit.{fault_status, status_of}
 use Rattle.omega_io.specs.RefusalLine.{line_of}
 use Rattle.omega_run.specs.Respond.{IsRunRefusal}

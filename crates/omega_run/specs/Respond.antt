@@ -4,9 +4,9 @@ use Rattle.omega_text.specs.Cases.{or_io, or_memory}
 use Rattle.omega_text.specs.declared.refusal.Refusal.{Refusal}
 use Rattle.omega_pg.specs.game.Refusing.{IsRefusal}
 use Rattle.omega_game.specs.declared.player.Player.{Player}
-use Rattle.omega_command.specs.declared.command.Command.{Command}
-use Rattle.omega_command.specs.declared.command.Command.TheVariants.{Canon, CanonPart, Check, Draw, DrawLasso, DrawSolution, Empty, EmptySearch, Game, Search, Show, Solve, Verify}
-use Rattle.omega_command.specs.declared.command.Format.TheVariants.{Hoa, Pg}
+use Rattle.omega_line.specs.declared.command.Command.{Command}
+use Rattle.omega_line.specs.declared.command.Command.TheVariants.{Canon, CanonPart, Check, Draw, DrawLasso, DrawSolution, Empty, EmptySearch, Game, Search, Show, Solve, Verify}
+use Rattle.omega_line.specs.declared.command.Format.TheVariants.{Hoa, Pg}
 use Rattle.omega_io.specs.declared.exit.Exit.{Exit}
 use Rattle.omega_io.specs.declared.exit.Exit.TheVariants.{Done}
 use Rattle.omega_automaton_answers.specs.Game.{IsEmptinessGameAnswer, IsEmptinessGameRefusal}
@@ -73,6 +73,26 @@ Refuses (Draw Pg) budget text refusal = IsRefusal text refusal
 Refuses (Draw Hoa) budget text refusal = IsAutomatonRefusal text refusal
 Refuses (DrawSolution solution) budget text refusal = IsSolutionDrawingRefusal text solution refusal
 Refuses DrawLasso budget text refusal = IsEmptySearchRefusal text refusal
+
+-- the command reads one text, with no other beside it, and is done where it answers
+abbrev pub IsOfOneText : Command → Type 0
+IsOfOneText (Show Pg) = Unit {0}
+IsOfOneText (Show Hoa) = ⊥
+IsOfOneText (Check Pg) = Unit {0}
+IsOfOneText (Check Hoa) = ⊥
+IsOfOneText (Canon Pg) = Unit {0}
+IsOfOneText (Canon Hoa) = ⊥
+IsOfOneText (CanonPart from) = Unit {0}
+IsOfOneText (Solve player from) = Unit {0}
+IsOfOneText (Search from) = Unit {0}
+IsOfOneText (Verify game from explain) = ⊥
+IsOfOneText Empty = Unit {0}
+IsOfOneText EmptySearch = Unit {0}
+IsOfOneText Game = Unit {0}
+IsOfOneText (Draw Pg) = Unit {0}
+IsOfOneText (Draw Hoa) = Unit {0}
+IsOfOneText (DrawSolution solution) = Unit {0}
+IsOfOneText DrawLasso = Unit {0}
 
 -- the whole input was read, and this is the command's answer to it
 abbrev pub Responds : Command → ℕ → (unread_before unread_after : Option (List ℕ)) → Exit → List ℕ → Type 0

@@ -6,8 +6,8 @@ mod respond;
 mod run;
 
 pub use obeying::obey;
-pub use omega_command::{Command, Format, Line, Player, Seq, read_words};
 pub use omega_io::{
     Exit, FromRead, GameFiles, HostFiles, Input, Output, Refusal, ToWrite, exit_code, refusal_line,
 };
+pub use omega_line::{Command, Format, Line, Player, Seq};
 pub use run::run_command;

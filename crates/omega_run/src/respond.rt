@@ -1,19 +1,22 @@
-ghost use Rattle.std.specs.Prelude.{◌≡◌, ◌+◌, ◌-◌, ◌^◌, ◌<◌, ◌≤◌, IfOk, IfErr};
+ghost use Rattle.std.specs.Prelude.{◌≡◌, ◌+◌, ◌-◌, ◌^◌, ◌<◌, ◌≤◌, IfOk, IfErr, OnOk, length};
+ghost use Rattle.omega_text.specs.Cases.{or_memory};
+ghost use Rattle.omega_text.specs.Limits.{most_text};
 ghost use Rattle.omega_solve.specs.Limits.{most_lifts};
-ghost use Rattle.omega_run.specs.Respond.{IsRunRefusal, Responds, asked_for};
+ghost use Rattle.omega_run.specs.Respond.{Answers, IsOfOneText, IsRunRefusal, Refuses, Responds, asked_for};
 ghost use Rattle.omega_io.specs.Failures.{failures_of};
+ghost use Rattle.omega_io.specs.declared.exit.Exit.TheVariants.{Done};
 
 use omega_automaton_answers::{
     canon_stream, check_stream, decide_emptiness, draw_automaton_text, draw_lasso_text,
     search_emptiness, show_stream, write_emptiness_game,
 };
-use omega_command::{Command, Format};
 use omega_game::Player;
 use omega_game_answers::{
     Asked, canon_game, canon_part, check_game, draw_game_text, draw_solution_text, show_game,
     solve_game, verify_solution,
 };
 use omega_io::{Exit, Input, Refusal, read_all};
+use omega_line::{Command, Format};
 use omega_solve::{Nested, PackedTable};
 use std::alloc::Global;
 
@@ -32,42 +35,9 @@ pub fn respond<R: Input>(
     ensures counted { R.failed input.new ≡ R.failed input.old + failures_of result }
 {
     match command {
-        Command::Show(Format::Pg) => {
-            let text = read_all(alloc, input)?;
-            Ok((Exit::Done, show_game(alloc, text)?))
-        }
         Command::Show(Format::Hoa) => Ok((Exit::Done, show_stream(alloc, input)?)),
-        Command::Check(Format::Pg) => {
-            let text = read_all(alloc, input)?;
-            Ok((Exit::Done, check_game(alloc, text)?))
-        }
         Command::Check(Format::Hoa) => Ok((Exit::Done, check_stream(alloc, input)?)),
-        Command::Canon(Format::Pg) => {
-            let text = read_all(alloc, input)?;
-            Ok((Exit::Done, canon_game(alloc, text)?))
-        }
         Command::Canon(Format::Hoa) => Ok((Exit::Done, canon_stream(alloc, input)?)),
-        Command::CanonPart { from } => {
-            let text = read_all(alloc, input)?;
-            Ok((Exit::Done, canon_part(alloc, text, *from)?))
-        }
-        Command::Solve { player, from } => {
-            let text = read_all(alloc, input)?;
-            let asked = asked_for(*player);
-            let made = solve_game::<PackedTable, Nested>(alloc, text, asked, *from, budget)?;
-            Ok((Exit::Done, made))
-        }
-        Command::Search { from } => {
-            let text = read_all(alloc, input)?;
-            let made = solve_game::<PackedTable, Nested>(
-                alloc,
-                text,
-                Asked::Search,
-                *from,
-                budget,
-            )?;
-            Ok((Exit::Done, made))
-        }
         Command::Verify {
             game,
             from,
@@ -76,35 +46,46 @@ pub fn respond<R: Input>(
             let text = read_all(alloc, input)?;
             verify_solution(alloc, game.as_slice(), *from, text, *explain)
         }
-        Command::Empty => {
+        _ => {
             let text = read_all(alloc, input)?;
-            Ok((Exit::Done, decide_emptiness(alloc, text, budget)?))
+            Ok((Exit::Done, answer(alloc, command, text, budget)?))
         }
-        Command::EmptySearch => {
-            let text = read_all(alloc, input)?;
-            Ok((Exit::Done, search_emptiness(alloc, text)?))
+    }
+}
+
+/// The whole answer of a command that reads one text and is done with it. Each run of a solver makes at most `budget`
+/// lifts. The refusals of the command.
+fn answer(alloc: Global, command: &Command, text: Vec<u8>, budget: u64) -> Result<Vec<u8>, Refusal>
+    requires one { IsOfOneText command.now }
+    requires budget { budget ≤ most_lifts }
+    ensures answered { IfOk result (λ output. Answers command.now budget text.items Done output.items) }
+    ensures limit { OnOk result (length text.items ≤ most_text) }
+    ensures refused { IfErr result (or_memory (Refuses command.now budget text.items)) }
+    ensures unfailed { failures_of result ≡ 0 }
+{
+    match command {
+        Command::Show(Format::Pg) => show_game(alloc, text),
+        Command::Check(Format::Pg) => check_game(alloc, text),
+        Command::Canon(Format::Pg) => canon_game(alloc, text),
+        Command::CanonPart { from } => canon_part(alloc, text, *from),
+        Command::Solve { player, from } => {
+            let asked = asked_for(*player);
+            solve_game::<PackedTable, Nested>(alloc, text, asked, *from, budget)
         }
-        Command::Game => {
-            let text = read_all(alloc, input)?;
-            Ok((Exit::Done, write_emptiness_game(alloc, text)?))
+        Command::Search { from } => {
+            solve_game::<PackedTable, Nested>(alloc, text, Asked::Search, *from, budget)
         }
-        Command::Draw(Format::Pg) => {
-            let text = read_all(alloc, input)?;
-            Ok((Exit::Done, draw_game_text(alloc, text)?))
-        }
-        Command::Draw(Format::Hoa) => {
-            let text = read_all(alloc, input)?;
-            Ok((Exit::Done, draw_automaton_text(alloc, text)?))
-        }
-        Command::DrawSolution { solution } => {
-            let text = read_all(alloc, input)?;
-            let made = draw_solution_text(alloc, text, solution.as_slice())?;
-            Ok((Exit::Done, made))
-        }
-        Command::DrawLasso => {
-            let text = read_all(alloc, input)?;
-            Ok((Exit::Done, draw_lasso_text(alloc, text)?))
-        }
+        Command::Empty => decide_emptiness(alloc, text, budget),
+        Command::EmptySearch => search_emptiness(alloc, text),
+        Command::Game => write_emptiness_game(alloc, text),
+        Command::Draw(Format::Pg) => draw_game_text(alloc, text),
+        Command::Draw(Format::Hoa) => draw_automaton_text(alloc, text),
+        Command::DrawSolution { solution } => draw_solution_text(alloc, text, solution.as_slice()),
+        Command::DrawLasso => draw_lasso_text(alloc, text),
+        Command::Show(Format::Hoa)
+        | Command::Check(Format::Hoa)
+        | Command::Canon(Format::Hoa)
+        | Command::Verify { .. } => unreachable!(),
     }
 }
 

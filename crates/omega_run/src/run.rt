@@ -6,8 +6,8 @@ ghost use Rattle.omega_run.specs.Run.{BreaksOff, Completes};
 ghost use Rattle.omega_io.specs.Failures.{failures_of};
 
 use crate::respond::respond;
-use omega_command::Command;
 use omega_io::{Exit, Input, Output, Refusal, write_text};
+use omega_line::Command;
 use std::alloc::Global;
 
 /// Reads what the command needs, makes its whole answer in memory, and then writes it. Each run of a solver makes at most

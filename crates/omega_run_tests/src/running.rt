@@ -2,7 +2,8 @@
 ghost use Rattle.std.specs.Prelude.{◌≡◌};
 
 use crate::portions::{Filling, Portions};
-use omega_run::{FromRead, GameFiles, Input, Output, Refusal, ToWrite, obey, read_words};
+use omega_command::read_words;
+use omega_run::{FromRead, GameFiles, Input, Output, Refusal, ToWrite, obey};
 use std::alloc::Global;
 use std::test::Fail;
 

@@ -3,9 +3,10 @@
 
 ghost use Rattle.std.specs.Prelude.{IfOk, IsOkUnless};
 ghost use Rattle.omega_text.specs.declared.refusal.Refusal.TheVariants.{Memory};
-ghost use Rattle.omega_command.specs.Line.{IsFault, IsRunnable};
+ghost use Rattle.omega_line.specs.Line.{IsFault, IsRunnable};
 
-use omega_run::{FromRead, HostFiles, Line, Refusal, ToWrite, obey, read_words};
+use omega_command::read_words;
+use omega_run::{FromRead, HostFiles, Line, Refusal, ToWrite, obey};
 use std::alloc::Global;
 use std::io;
 use std::process::ExitCode;

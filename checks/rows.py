@@ -1,0 +1,150 @@
+"""The rows of checks/rows.txt, which says what it has, and rows whose texts are too long to be written down."""
+import os
+import subprocess
+import tempfile
+
+from program import OMEGA, SECONDS, difference, shown
+
+ROWS = os.path.join(os.path.dirname(os.path.abspath(__file__)), "rows.txt")
+FAULT = 2
+ESCAPES = {"n": "\n", "t": "\t", "\\": "\\"}
+
+
+class Row:
+    """A text, and what each of some command lines leaves of it."""
+
+    def __init__(self, number):
+        self.number = number
+        self.commands = []
+        self.file = None
+        self.text = b""
+        self.status = 0
+        self.output = b""
+        self.error = b""
+        self.said = []
+
+    def take(self, mark, rest):
+        """Takes what a line has behind its mark."""
+        if mark == "$":
+            self.commands.append(rest)
+        elif mark == "g:":
+            self.file = plain(rest)
+        elif mark == "<":
+            self.text = plain(rest)
+        elif mark == "=":
+            self.status = int(rest)
+        elif mark == ">":
+            self.output += plain(rest) + b"\n"
+        elif mark == "!":
+            self.error += plain(rest) + b"\n"
+        elif mark == "~":
+            self.said.append(plain(rest))
+        elif mark != "#":
+            raise ValueError(f"checks/rows.txt has {mark!r} in the row of line {self.number}")
+
+
+def plain(text):
+    """The bytes that a text with escapes stands for."""
+    made, rest = [], iter(text)
+    for sign in rest:
+        made.append(ESCAPES[next(rest)] if sign == "\\" else sign)
+    return "".join(made).encode()
+
+
+def rows_of(text):
+    """The rows of a file, behind its first heading."""
+    row, is_behind = None, False
+    for number, line in enumerate([*text.split("\n"), ""], 1):
+        is_behind = is_behind or line.startswith("## ")
+        if not is_behind or line.startswith("## "):
+            continue
+        if line:
+            row = row or Row(number)
+            mark, _, rest = line.partition(" ")
+            row.take(mark, rest)
+        elif row:
+            yield row
+            row = None
+
+
+def run_in(folder, command, text):
+    """Runs a command line in a folder, or several of which each reads what the one before it writes."""
+    for words in command.split(" | "):
+        run = subprocess.run([OMEGA, *words.split()], input=text, cwd=folder, capture_output=True, timeout=SECONDS)
+        text = run.stdout
+    return run
+
+
+def said_fault(row, run):
+    """What the text of help or of a fault lacks, or nothing."""
+    text, other = (run.stderr, run.stdout) if row.status == FAULT else (run.stdout, run.stderr)
+    if other or row.status == FAULT and not text.startswith(b"error: "):
+        return f"output {shown(run.stdout)}, standard error {shown(run.stderr)}"
+    missing = [part.decode() for part in row.said if part not in text]
+    return f"{missing} is not in {shown(text)}" if missing else None
+
+
+def row_fault(row, command):
+    """What a command line leaves of a row's text that is not what is wanted, or nothing."""
+    with tempfile.TemporaryDirectory() as folder:
+        if row.file is not None:
+            with open(os.path.join(folder, "g"), "wb") as file:
+                file.write(row.file)
+        run = run_in(folder, command, row.text)
+    if run.returncode != row.status:
+        return f"status {run.returncode} for {row.status}: {shown(run.stdout)} {shown(run.stderr)}"
+    if row.said:
+        return said_fault(row, run)
+    return difference("output", run.stdout, row.output) or difference("standard error", run.stderr, row.error)
+
+
+def long_row(command, text, status=0, output=b"", error=b""):
+    """A row that is made here: its command line, and its fault, if it has one."""
+    row = Row(0)
+    row.text, row.status, row.output, row.error = text.encode(), status, output, error
+    return command, row_fault(row, command)
+
+
+def odd_loops():
+    """Nodes that lead to themselves, each with an odd priority of its own, up to a bound over 128 bits."""
+    for count, bound in ((121, "321673174979949641242721308587843387392"), (122, "over 128 bits")):
+        text = "".join(f"{node} {2 * node + 1} 0 {node};" for node in range(count))
+        output = f"game nodes {count} edges {count} greatest {count - 1}\nplayer 0 bound {bound}\nplayer 1 bound {count}\n"
+        yield long_row("show --format pg", text, output=output.encode())
+
+
+def wide_for_one():
+    """As many nodes with an even priority of their own as make a game too wide for player 1, and one with priority 1. Each
+    leads to itself."""
+    text = "".join(f"{node} {2 * node} 0 {node};" for node in range(8192)) + "8192 1 0 8192;"
+    wide, used_up, unknown = b"omega: 50 TooWide\n", b"omega: 51 Budget\n", b"omega: 54 UnknownNode\n"
+    yield long_row("solve", text, 1, error=wide)
+    # Player 0 would need lifts.
+    yield long_row("solve --budget 0", text, 1, error=wide)
+    yield long_row("solve --player 1", text, 1, error=wide)
+    yield long_row("solve --player 1 --budget 0", text, 1, error=wide)
+    won = "".join(f"{node} {node};\n" for node in range(8192))
+    yield long_row("solve --player 0", text, output=f"player 0 lifts 2\n{won}".encode())
+    yield long_row("solve --player 0 --budget 0", text, 3, error=used_up)
+    yield long_row("solve --from 8193", text, 1, error=unknown)
+    yield long_row("solve --from 8192", text, output=b"paritysol 8192;\n8192 1;\n")
+
+
+def doubling():
+    """Aliases of which each is twice as large as the one before, and a label that is the last of them."""
+    for last, status, output, error in ((14, 0, b"accepted\n", b""), (15, 1, b"", b"omega: 33 Expansion\n"),
+                                        (19, 1, b"", b"omega: 33 Expansion\n")):
+        aliases = "".join(f"Alias: @a{k + 1} @a{k}&@a{k} " for k in range(last))
+        text = (f'HOA: v1 AP: 1 "a" Alias: @a0 0&0 {aliases}'
+                f"Acceptance: 0 t --BODY-- State: 0 [@a{last}] 0 --END--")
+        yield long_row("check --format hoa", text, status, output, error)
+
+
+def row_checks():
+    with open(ROWS) as file:
+        for row in rows_of(file.read()):
+            for command in row.commands:
+                yield f"line {row.number}: {command}", row_fault(row, command)
+    yield from odd_loops()
+    yield from wide_for_one()
+    yield from doubling()

@@ -1,0 +1,62 @@
+use crate::options::{FORMAT, OptionHelp, Value};
+use crate::subcommand::subcommand;
+use clap::Command;
+use std::alloc::{AllocError, Global};
+
+const DETAILS: &str = "\
+Reads a text from standard input and writes the one text that what it stands for has. Two texts stand
+for the same exactly if this writes the same for both.
+
+--format pg writes a game: a header with the greatest identifier, then a line for each node in rising
+order of identifiers.
+
+  $ echo 'parity 9; 9 3 1 4; 4 2 0 9,4 \"a\";' | omega canon --format pg
+  parity 9;
+  4 2 0 9,4 \"a\";
+  9 3 1 4;
+
+--from ID writes the part of the game that is reached from the node with that identifier, in the same
+form: a game of its own, whose nodes keep their identifiers. It is the game that `omega solve --from ID`
+solves. Where no node has the identifier, 54 UnknownNode is told. It goes with --format pg only.
+
+  $ echo '0 0 0 1; 1 1 1 1; 2 2 0 0;' | omega canon --format pg --from 0
+  parity 1;
+  0 0 0 1;
+  1 1 1 1;
+
+--format hoa writes automata, one behind the other: the header of each in a fixed order, then its
+states and edges in the order given, with aliases replaced, only the parentheses that are needed, and
+sets in rising order. What was given up by --ABORT-- is left out. Where there is no automaton, nothing
+is written.
+
+  $ echo 'HOA: v1 AP: 1 \"a\" Alias: @x 0|t Acceptance: 0 t
+    --BODY-- State: 0 [@x&0] 0 --END--' | omega canon --format hoa
+  HOA: v1
+  States: 1
+  AP: 1 \"a\"
+  Acceptance: 0 t
+  --BODY--
+  State: 0
+  [(0|t)&0] 0
+  --END--
+
+A text that is refused writes nothing but one line on standard error. `omega check --help` lists the
+refusals of both formats.
+
+Exit status: 0 done, 1 the text or the task is refused, 2 the command line is wrong, 4 out of memory, 5
+a read or a write failed.";
+
+const OPTIONS: &[OptionHelp] = &[
+    FORMAT,
+    OptionHelp {
+        name: "from",
+        value: Value::Optional("ID"),
+        help: "Write only the part of a game that the node with this identifier reaches",
+    },
+];
+
+/// The subcommand that writes the one text of a value.
+pub fn canon_command<'a>(alloc: Global) -> Result<Command<'a>, AllocError> {
+    let about = "Write a game, or automata, in canonical form";
+    subcommand(alloc, "canon", about, DETAILS, OPTIONS)
+}

@@ -1,0 +1,50 @@
+use crate::options::{FORMAT, OptionHelp};
+use crate::subcommand::subcommand;
+use clap::Command;
+use std::alloc::{AllocError, Global};
+
+const DETAILS: &str = "\
+Reads a text from standard input and writes `accepted` if it stands for a game, or for automata, one
+behind the other. If not, one line on standard error has the number and the name of what is wrong,
+and for faults of the text the place of the byte, counted from 0.
+
+  $ echo '0 1 0 1; 1 2 1 0;' | omega check --format pg
+  accepted
+  $ echo '0 1 0 1; 1 2 1 0' | omega check --format pg
+  omega: 3 Syntax at 17
+  $ echo 'HOA: v1 Acceptance: 0 t --BODY-- --END--' | omega check --format hoa
+  accepted
+  $ echo 'HOA: v1 Acceptance: 0 t --BODY-- State: 0' | omega check --format hoa
+  omega: 3 Syntax at 42
+
+In both formats 1 Lex and 2 Number are bytes that are no token, 3 Syntax is a token that can't stand
+there or an end that comes too early, 4 TooLong is a text of over 16777216 bytes.
+
+Of a game, 10 DuplicateNode is an identifier that is specified twice, 11 UndefinedSuccessor one that
+is not specified, 12 HeaderTooSmall a header whose number is below an identifier, 13 TooManyNodes and
+14 TooManyEdges are games of over 1048576 nodes or 8388608 successors. Of several, 4 is told first,
+then the first of 1 and 2 in the text, then 3, then the least number of the others.
+
+Of an automaton, 20 Version is another than v1, 21 RepeatedHeader an item that stands twice and may
+not, 22 MissingAcceptance that there is no `Acceptance:`, 23 UnknownHeader an unknown item whose name
+begins with a capital, 24 StateRange a state and 25 SetRange a set that is not below its count,
+26 Proposition a wrong count of propositions, a repeated one, one out of range or over 1024 of them,
+27 Alias one that is used before it is defined or is defined twice, 28 StateTwice a state that is
+defined twice, 29 MixedLabels labels on some edges of a state and not on others, or on a state and its
+edges, 30 ImplicitCount edges without labels that are not one for each set of propositions,
+31 AcceptanceAtom one that is neither Fin nor Inf, 32 TooDeep a formula nested over 256 deep and
+33 Expansion labels that are too large with their aliases replaced. Inside an automaton, from `HOA:`
+to `--END--`, the first of 1 and 2 is told first, then 3, then the least number of the others. The
+first automaton that is refused decides, or the first fault between two if that comes before; but 4 is
+told before all else.
+
+Exit status: 0 accepted, 1 the text is refused, 2 the command line is wrong, 4 out of memory, 5 a read
+or a write failed.";
+
+const OPTIONS: &[OptionHelp] = &[FORMAT];
+
+/// The subcommand that judges a text.
+pub fn check_command<'a>(alloc: Global) -> Result<Command<'a>, AllocError> {
+    let about = "Say whether a text is accepted, or what is wrong with it";
+    subcommand(alloc, "check", about, DETAILS, OPTIONS)
+}

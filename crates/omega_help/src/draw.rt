@@ -1,0 +1,48 @@
+use crate::options::{FORMAT, LASSO, OptionHelp, SOLUTION};
+use crate::subcommand::subcommand;
+use clap::Command;
+use std::alloc::{AllocError, Global};
+
+const DETAILS: &str = "\
+Reads one game or one automaton from standard input and writes it as a graph in DOT, the language of
+Graphviz, whose program `dot` makes a picture of it.
+
+--format pg draws a game: player 0's nodes as diamonds and player 1's as boxes, each with its
+identifier, its name and its priority, and an edge to each successor. With --solution, the file has a
+solution of the game, as `omega solve` writes it: each node is filled in its winner's colour, light blue
+for player 0 and orange for player 1, and each choice is a bold edge.
+
+  $ echo '0 0 0 1,2; 1 1 1 0; 2 2 1 0 \"goal\";' > game.pg
+  $ omega solve < game.pg > solution.txt
+  $ omega draw --format pg --solution solution.txt < game.pg | dot -Tsvg > game.svg
+
+--format hoa draws an automaton: above it its name and its acceptance formula, then its states with
+their numbers and names, an arrow into each start, and its edges with their labels, in which
+propositions stand by their names, and their marks in braces. What leads to several states at once, an
+edge or a start, leads to them through a point. A state that the body does not have is drawn where an
+edge or a start leads to it. With --lasso, the accepting lasso that `omega empty --search` writes is
+bold, its cycle red and what is of its stem alone blue; where there is none, the automaton is drawn as
+without.
+
+  $ echo 'HOA: v1 States: 2 Start: 0 acc-name: co-Buchi Acceptance: 1 Fin(0)
+    --BODY-- State: 0 [t] 0 {0} [t] 1 State: 1 [t] 1 --END--' |
+    omega draw --format hoa --lasso | dot -Tsvg > automaton.svg
+
+--solution goes with --format pg only, and --lasso with --format hoa only.
+
+What is wrong with the text is told first; `omega check --help` lists it. A text with --ABORT--, with no
+automaton or with several is no automaton: 3 Syntax is told of it. What is wrong with a game is told
+before what is wrong with its solution, 53 BadSolution among it; a solution that fits the game is drawn,
+right or wrong, since `omega verify` is what judges it. A file that can't be read is told as 61 Io. With
+--lasso 13, 40, 41 and 42 are told as by `omega empty --search`.
+
+Exit status: 0 done, 1 a text or the task is refused, 2 the command line is wrong, 4 out of memory, 5 a
+read or a write failed.";
+
+const OPTIONS: &[OptionHelp] = &[FORMAT, SOLUTION, LASSO];
+
+/// The subcommand that draws a game or an automaton.
+pub fn draw_command<'a>(alloc: Global) -> Result<Command<'a>, AllocError> {
+    let about = "Draw a game or an automaton as a graph in DOT";
+    subcommand(alloc, "draw", about, DETAILS, OPTIONS)
+}

@@ -1,0 +1,17 @@
+//! The command line as `clap` knows it: subcommands, options and the texts of help.
+#![tactic(auto)]
+
+mod canon;
+mod check;
+mod draw;
+mod empty;
+mod game;
+mod options;
+mod program;
+mod show;
+mod solve;
+mod subcommand;
+mod verify;
+mod version;
+
+pub use program::matches_of;

@@ -1,0 +1,91 @@
+//! The options of the subcommands. What the texts of numbers stand for is judged behind `clap`.
+use clap::{Arg, ArgAction};
+use std::alloc::Global;
+
+/// The formats that are offered.
+static FORMATS: [&str; 2] = ["pg", "hoa"];
+
+/// An option as help shows it.
+pub struct OptionHelp {
+    /// The name behind the two dashes, by which it is found too.
+    pub name: &'static str,
+    pub value: Value,
+    pub help: &'static str,
+}
+
+/// What stands behind the name of an option; where it is a text, with the name that help has for it.
+pub enum Value {
+    /// Nothing: it is a flag, which is not set where it is not given.
+    None,
+    /// A text. The option may be left out.
+    Optional(&'static str),
+    /// A text. The option has to be given.
+    Required(&'static str),
+    /// The name of a format. The option has to be given.
+    Format,
+}
+
+impl OptionHelp {
+    /// The option as `clap` takes it.
+    pub fn arg<'a>(&self, alloc: Global) -> Arg<'a> {
+        let arg = Arg::new(alloc, self.name).long(self.name).help(self.help);
+        match self.value {
+            Value::None => arg.action(ArgAction::SetTrue),
+            Value::Optional(name) => arg.value_name(name),
+            Value::Required(name) => arg.value_name(name).required(true),
+            Value::Format => arg
+                .value_name("FORMAT")
+                .required(true)
+                .value_parser(FORMATS.as_slice()),
+        }
+    }
+}
+
+/// The option that says what kind of text is read.
+pub const FORMAT: OptionHelp = OptionHelp {
+    name: "format",
+    value: Value::Format,
+    help: "The kind of text: pg, a game in the text of PGSolver; hoa, omega-automata in the Hanoi format",
+};
+
+/// The option that names the file of a game.
+pub const GAME: OptionHelp = OptionHelp {
+    name: "game",
+    value: Value::Required("FILE"),
+    help: "The file with the game text",
+};
+
+/// The option that says whose game is solved.
+pub const PLAYER: OptionHelp = OptionHelp {
+    name: "player",
+    value: Value::Optional("P"),
+    help: "Solve for this player alone, 0 or 1",
+};
+
+/// The flag that asks why a solution is not right.
+pub const EXPLAIN: OptionHelp = OptionHelp {
+    name: "explain",
+    value: Value::None,
+    help: "Write after `no` a walk on which a player loses",
+};
+
+/// The option that bounds the work.
+pub const BUDGET: OptionHelp = OptionHelp {
+    name: "budget",
+    value: Value::Optional("N"),
+    help: "Give up after N lifts, 0 to 1099511627776, which is also the default",
+};
+
+/// The option that names the file of a solution.
+pub const SOLUTION: OptionHelp = OptionHelp {
+    name: "solution",
+    value: Value::Optional("FILE"),
+    help: "Draw the solution of the game in this file too",
+};
+
+/// The flag that asks for a lasso to be drawn.
+pub const LASSO: OptionHelp = OptionHelp {
+    name: "lasso",
+    value: Value::None,
+    help: "Draw an accepting lasso of the automaton too",
+};

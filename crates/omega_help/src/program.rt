@@ -1,0 +1,124 @@
+use crate::canon::canon_command;
+use crate::check::check_command;
+use crate::draw::draw_command;
+use crate::empty::empty_command;
+use crate::game::game_command;
+use crate::show::show_command;
+use crate::solve::solve_command;
+use crate::verify::verify_command;
+use crate::version::VERSION;
+use clap::{ArgMatches, Command, Error};
+use std::alloc::{AllocError, Global};
+
+const DETAILS: &str = "\
+A game text, in the format of PGSolver, has for each node an identifier, a priority, its owner
+(player 0 or 1), the identifiers of its successors, and perhaps a name:
+
+  0 1 0 1; 1 2 1 0 \"goal\";
+
+Here node 0 has priority 1, belongs to player 0 and leads to node 1; node 1 has priority 2,
+belongs to player 1, leads to node 0 and is named goal. A header such as `parity 1;` with a number
+that no identifier exceeds may come first. At each node its owner chooses a successor, for ever;
+player 0 wins where the greatest priority that comes again and again is even, player 1 where it is
+odd.
+
+A text of the Hanoi format, version 1, holds omega-automata, one behind the other:
+
+  HOA: v1 States: 1 Start: 0 AP: 1 \"a\" acc-name: Buchi Acceptance: 1 Inf(0)
+  --BODY-- State: 0 [0] 0 {0} [!0] 0 --END--
+
+Here one state has two edges to itself: one where a holds, which is in set 0, and one where it does
+not; what takes the first again and again is accepted. `omega show`, `check` and `canon` read both
+formats, and --format says which. `omega empty` and `omega game` read one automaton, and `omega draw`
+draws one automaton or a game.
+
+What is read comes from standard input, and the answer goes to standard output. Where a text or the
+task is refused, one line on standard error says why, as `omega: 3 Syntax at 0` for a text that
+is no game from its first byte on. Bytes are counted from 0.
+
+Exit status:
+  0  done
+  1  a text or the task is refused
+  2  the command line is wrong
+  3  the budget is used up
+  4  out of memory
+  5  a read or a write failed
+  6  the answer of `omega verify` is no
+
+`omega <COMMAND> --help` tells more of a command.";
+
+/// What `clap` finds in the words of a command line, of which the first is the program's name. Where help or the version
+/// is asked for, the error has the text.
+pub fn matches_of<'a>(alloc: Global, words: &'a [String]) -> Result<ArgMatches<'a>, Error> {
+    whole_program(alloc)?.try_get_matches_from(words)
+}
+
+/// A subcommand of the program.
+#[derive(Clone, Copy)]
+enum Subcommand {
+    Show,
+    Check,
+    Canon,
+    Solve,
+    Verify,
+    Empty,
+    Game,
+    Draw,
+}
+
+/// The subcommands in the order in which help lists them.
+const SUBCOMMANDS: [Subcommand; 8] = [
+    Subcommand::Show,
+    Subcommand::Check,
+    Subcommand::Canon,
+    Subcommand::Solve,
+    Subcommand::Verify,
+    Subcommand::Empty,
+    Subcommand::Game,
+    Subcommand::Draw,
+];
+
+impl Subcommand {
+    fn command<'a>(self, alloc: Global) -> Result<Command<'a>, AllocError> {
+        match self {
+            Subcommand::Show => show_command(alloc),
+            Subcommand::Check => check_command(alloc),
+            Subcommand::Canon => canon_command(alloc),
+            Subcommand::Solve => solve_command(alloc),
+            Subcommand::Verify => verify_command(alloc),
+            Subcommand::Empty => empty_command(alloc),
+            Subcommand::Game => game_command(alloc),
+            Subcommand::Draw => draw_command(alloc),
+        }
+    }
+}
+
+/// The program's command line.
+fn whole_program<'a>(alloc: Global) -> Result<Command<'a>, AllocError> {
+    let mut program = without_subcommands(alloc)?;
+    for subcommand in SUBCOMMANDS {
+        program = with(alloc, program, subcommand)?;
+    }
+    Ok(program)
+}
+
+/// The program with one subcommand more.
+fn with<'a>(
+    alloc: Global,
+    program: Command<'a>,
+    subcommand: Subcommand,
+) -> Result<Command<'a>, AllocError> {
+    program.subcommand(subcommand.command(alloc)?)
+}
+
+/// What is said of the program as a whole.
+fn without_subcommands<'a>(alloc: Global) -> Result<Command<'a>, AllocError> {
+    Command::new(alloc, "omega")
+        .about(
+            "Reads, checks, writes and draws parity games and omega-automata, solves games, verifies their solutions, and says whether an automaton accepts nothing.",
+        )
+        .version(VERSION)
+        .after_help(DETAILS)
+        .subcommand_required(true)
+        .bin_name("omega")
+}

@@ -1,0 +1,72 @@
+use crate::options::{BUDGET, OptionHelp, PLAYER, Value};
+use crate::subcommand::subcommand;
+use clap::Command;
+use std::alloc::{AllocError, Global};
+
+const DETAILS: &str = "\
+Reads a game text from standard input and writes who wins each node, and how: a header with the
+greatest identifier, then a line for each node in rising order of identifiers, with the player who
+wins from it. Where that player owns the node, a successor follows; to move there each time wins
+from all the nodes that are given to the player, whatever the other player does.
+
+  $ echo '0 0 0 1,2; 1 1 1 0; 2 2 1 0;' | omega solve
+  paritysol 2;
+  0 0 2;
+  1 0;
+  2 0;
+
+Here player 0 wins from all three nodes, moving from node 0 to node 2. `omega verify` checks such a
+text without solving the game.
+
+--player P solves the game for that player alone. First comes a line with the number of lifts that
+were made, then a line for each node that the player wins; at a node of the player's own a successor
+follows. The other player wins from all other nodes.
+
+  $ echo '0 1 0 1; 1 2 1 0;' | omega solve --player 0
+  player 0 lifts 1
+  0 1;
+  1;
+
+Here player 0 wins from both nodes, moving from node 0 to node 1.
+
+A lift is one step of the solver. It makes no more of them for a player than the bound that
+`omega show --format pg` writes, which is known before anything is solved. A bound may be far above
+what is needed, and a game may need more time than there is: --budget N gives up after N lifts for
+a player, writes nothing but `omega: 51 Budget` on standard error, and exits with status 3.
+
+--search finds winners and choices by Zielonka's recursive algorithm, of which nothing is proved. What it
+finds is written only after the proved check that `omega verify` makes: that for each player the choices
+win from all the nodes given to the player. No node is won by both players, so winners that pass are
+right, whatever the search did. Take it for large games; lifting, for a bound that is known before the
+run. The choices may be others than those of lifting. Where the search gives nothing, the game is solved
+by lifting, within the budget. It is for both players: --player is not given beside it.
+
+--from ID solves the part of the game that is reached from the node with that identifier, and writes
+of those nodes alone. Nothing else of the game has a say in who wins them. Where no node has the
+identifier, 54 UnknownNode is told. `omega canon --format pg --from ID` writes the part as a game of its
+own, and `omega verify --from ID` checks a solution of it. 50 TooWide is told of games for which nodes
+times priorities that lose for a player are over 67108864.
+
+Exit status: 0 done, 1 the text or the task is refused, 2 the command line is wrong, 3 the budget is
+used up, 4 out of memory, 5 a read or a write failed.";
+
+const OPTIONS: &[OptionHelp] = &[
+    PLAYER,
+    OptionHelp {
+        name: "from",
+        value: Value::Optional("ID"),
+        help: "Solve only the part that the node with this identifier reaches",
+    },
+    OptionHelp {
+        name: "search",
+        value: Value::None,
+        help: "Solve by a search whose answer is judged, which is far quicker on large games",
+    },
+    BUDGET,
+];
+
+/// The subcommand that solves a game.
+pub fn solve_command<'a>(alloc: Global) -> Result<Command<'a>, AllocError> {
+    let about = "Find who wins each node of a game, and how";
+    subcommand(alloc, "solve", about, DETAILS, OPTIONS)
+}

@@ -1,0 +1,18 @@
+use crate::options::OptionHelp;
+use clap::Command;
+use std::alloc::{AllocError, Global};
+
+/// The subcommand of this name, with what it does in one line, and what is told of it behind its options.
+pub fn subcommand<'a>(
+    alloc: Global,
+    name: &'a str,
+    about: &'a str,
+    details: &'a str,
+    options: &[OptionHelp],
+) -> Result<Command<'a>, AllocError> {
+    let mut command = Command::new(alloc, name).about(about).after_help(details);
+    for option in options {
+        command = command.arg(option.arg(alloc))?;
+    }
+    Ok(command)
+}

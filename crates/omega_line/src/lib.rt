@@ -1,0 +1,17 @@
+//! What a command line asks for: a subcommand with the texts of its options, or what is wrong with them.
+#![tactic(auto)]
+
+mod asking;
+mod command;
+mod line;
+mod mistake;
+mod number;
+mod options;
+mod values;
+
+pub use asking::line_for;
+pub use command::{Command, Format};
+pub use line::Line;
+pub use mistake::{Mistake, Reason};
+pub use omega_game::{Player, Refusal, Seq};
+pub use options::{OptionName, Options};

@@ -1,0 +1,48 @@
+use std::fmt;
+
+/// The options of all subcommands.
+#[derive(Clone, Copy)]
+pub enum OptionName {
+    Format,
+    Player,
+    From,
+    Budget,
+    Search,
+    Game,
+    Explain,
+    Solution,
+    Lasso,
+}
+
+impl fmt::Display for OptionName {
+    fn fmt<W: fmt::Write>(&self, f: &mut fmt::Formatter<W>) -> fmt::Result {
+        f.write_str(match self {
+            OptionName::Format => "--format <FORMAT>",
+            OptionName::Player => "--player <P>",
+            OptionName::From => "--from <ID>",
+            OptionName::Budget => "--budget <N>",
+            OptionName::Search => "--search",
+            OptionName::Game => "--game <FILE>",
+            OptionName::Explain => "--explain",
+            OptionName::Solution => "--solution <FILE>",
+            OptionName::Lasso => "--lasso",
+        })
+    }
+}
+
+/// The texts of the options that are given.
+#[derive(Clone, Copy)]
+pub struct Options<'a> {
+    pub format: Option<&'a str>,
+    pub player: Option<&'a str>,
+    pub from: Option<&'a str>,
+    pub budget: Option<&'a str>,
+    /// `true` where the flag is given; `clap` may say `false` where it is not.
+    pub search: Option<&'a str>,
+    pub game: Option<&'a str>,
+    /// As `search`.
+    pub explain: Option<&'a str>,
+    pub solution: Option<&'a str>,
+    /// As `search`.
+    pub lasso: Option<&'a str>,
+}
