@@ -1,6 +1,6 @@
 use crate::samples::{self, Row, add, assert_row, finish, game_of};
 use omega_game::Player::{One, Zero};
-use omega_game::{Game, GameBuilder, PriorityCount, Refusal, bound};
+use omega_game::{Game, GameBuilder, Player, PriorityCount, Refusal, bound};
 use std::alloc::Global;
 
 /// Three nodes of priority 1 and one of priority 3.
@@ -20,11 +20,19 @@ const BOUNDS: [(&'static [Row], u128, u128); 5] = [
     (&SHARED, 32, 4),
 ];
 
-/// Whether these are the bounds of a game for player 0 and player 1.
-fn are_bounds(built: Result<Game, Refusal>, zero: Option<u128>, one: Option<u128>) -> bool {
+/// Whether these are the bounds of a game for player 0 and player 1, 0 where there is none.
+fn are_bounds(built: Result<Game, Refusal>, zero: u128, one: u128) -> bool {
     match built {
-        Ok(game) => bound(&game, Zero) == zero && bound(&game, One) == one,
+        Ok(game) => is_bound(&game, Zero, zero) && is_bound(&game, One, one),
         Err(_) => false,
+    }
+}
+
+/// Whether this is the bound of a game for a player, 0 where there is none.
+fn is_bound(game: &Game, player: Player, wanted: u128) -> bool {
+    match bound(game, player) {
+        Some(lifts) => lifts == wanted && lifts > 0,
+        None => wanted == 0,
     }
 }
 
@@ -32,12 +40,12 @@ fn are_bounds(built: Result<Game, Refusal>, zero: Option<u128>, one: Option<u128
 fn small_bounds(rt: HostRuntime) {
     for (row, (rows, zero, one)) in BOUNDS.iter().enumerate() {
         let built = game_of(rt.alloc(), *rows);
-        assert_row(&rt, row, are_bounds(built, Some(*zero), Some(*one)));
+        assert_row(&rt, row, are_bounds(built, *zero, *one));
     }
 }
 
 /// What is counted of the shared priorities.
-const COUNTS: [PriorityCount; 2] = [
+static COUNTS: [PriorityCount; 2] = [
     PriorityCount {
         priority: 3,
         nodes: 1,
@@ -82,13 +90,13 @@ fn odd_loops(alloc: Global, nodes: u16) -> Result<Game, Refusal> {
 /// 121 times the 121st power of 2, the greatest bound of such a game that is a `u128`.
 const GREATEST: u128 = 321_673_174_979_949_641_242_721_308_587_843_387_392;
 
-/// So many nodes, and the bounds of their game.
-const LOOPS: [(u16, Option<u128>, u128); 2] = [(121, Some(GREATEST), 121), (122, None, 122)];
+/// So many nodes, and the bounds of their game, 0 where there is none.
+const LOOPS: [(u16, u128, u128); 2] = [(121, GREATEST, 121), (122, 0, 122)];
 
 #[test]
 fn the_greatest_bound(rt: HostRuntime) {
     for (row, (nodes, zero, one)) in LOOPS.iter().enumerate() {
         let built = odd_loops(rt.alloc(), *nodes);
-        assert_row(&rt, row, are_bounds(built, *zero, Some(*one)));
+        assert_row(&rt, row, are_bounds(built, *zero, *one));
     }
 }

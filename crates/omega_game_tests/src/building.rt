@@ -12,7 +12,7 @@ fn name(builder: &mut GameBuilder, letter: u8) -> Result<(), Refusal> {
     builder.set_name(&[letter])
 }
 
-const HANDED_OVER: [Reading; 3] = [
+static HANDED_OVER: [Reading; 3] = [
     (0, 0, Zero, Some(b"b"), &[1, 2], &[1, 2]),
     (1, 1, One, None, &[0], &[0]),
     (2, 2, One, None, &[0], &[0]),
@@ -52,7 +52,7 @@ fn number(built: Result<Game, Refusal>) -> u32 {
 }
 
 /// Specifications, and the number of their refusal.
-const REFUSED: [(&'static [Row], u32); 7] = [
+static REFUSED: [(&'static [Row], u32); 7] = [
     (&[(0, 0, Zero, &[0], None), (0, 0, Zero, &[0], None)], 10),
     (
         &[
@@ -104,7 +104,7 @@ fn loops(alloc: Global, nodes: u32, times: u32) -> Result<Game, Refusal> {
 }
 
 /// So many loops, each listed so often, and the number of the refusal.
-const LIMITS: [(u32, u32, u32); 4] = [
+static LIMITS: [(u32, u32, u32); 4] = [
     (1_048_576, 1, 0),
     (1_048_577, 1, 13),
     (1, 8_388_608, 0),

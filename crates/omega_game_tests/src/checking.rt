@@ -23,9 +23,9 @@ fn answer(
 type Asked = (Player, &'static [u32], &'static [Option<u32>], bool);
 
 /// Player 0 can only go from 0 to 1, which bears an odd priority and leads to itself.
-const ODD_BEHIND: [Row; 2] = [(0, 0, Zero, &[1], None), (1, 1, Zero, &[1], None)];
+static ODD_BEHIND: [Row; 2] = [(0, 0, Zero, &[1], None), (1, 1, Zero, &[1], None)];
 
-const ODD_BEHIND_ASKED: [Asked; 6] = [
+static ODD_BEHIND_ASKED: [Asked; 6] = [
     (Zero, &[0], &[Some(1), Some(1)], false),
     (Zero, &[0], &[Some(1), None], false),
     (Zero, &[1], &[Some(1), None], false),
@@ -34,7 +34,7 @@ const ODD_BEHIND_ASKED: [Asked; 6] = [
     (One, &[0, 1], &[None, None], true),
 ];
 
-const THREE_ASKED: [Asked; 6] = [
+static THREE_ASKED: [Asked; 6] = [
     (Zero, &[0, 1, 2], &[Some(2), None, None], true),
     (Zero, &[2, 0, 2], &[Some(2), None, None], true),
     (Zero, &[0], &[Some(1), None, None], false),
@@ -44,7 +44,7 @@ const THREE_ASKED: [Asked; 6] = [
 ];
 
 /// At 4 player 0 may stay, which loses, or go on to 5.
-const FAR: [Row; 6] = [
+static FAR: [Row; 6] = [
     (0, 0, Zero, &[1], None),
     (1, 0, One, &[2], None),
     (2, 2, Zero, &[3], None),
@@ -53,7 +53,7 @@ const FAR: [Row; 6] = [
     (5, 2, Zero, &[5], None),
 ];
 
-const FAR_ASKED: [Asked; 6] = [
+static FAR_ASKED: [Asked; 6] = [
     (Zero, &[0], &[None, None, None, None, Some(4), None], false),
     (Zero, &[0], &[None, None, None, None, None, None], false),
     (
@@ -73,13 +73,13 @@ const FAR_ASKED: [Asked; 6] = [
 ];
 
 /// Player 0 may stay at 0, and player 1 at 2; both may go on to 1, which loses for player 0.
-const BRANCHES: [Row; 3] = [
+static BRANCHES: [Row; 3] = [
     (0, 0, Zero, &[0, 1], None),
     (1, 1, Zero, &[1], None),
     (2, 2, One, &[2, 1], None),
 ];
 
-const BRANCHES_ASKED: [Asked; 6] = [
+static BRANCHES_ASKED: [Asked; 6] = [
     (Zero, &[0], &[None, None, None], false),
     (Zero, &[0], &[Some(0), None, None], true),
     (Zero, &[0, 1], &[Some(0), None, None], false),
@@ -88,41 +88,28 @@ const BRANCHES_ASKED: [Asked; 6] = [
     (One, &[2], &[None, None, Some(1)], true),
 ];
 
-const ODD_ABOVE: [Row; 2] = [(0, 0, Zero, &[1], None), (1, 1, Zero, &[0], None)];
+static ODD_ABOVE: [Row; 2] = [(0, 0, Zero, &[1], None), (1, 1, Zero, &[0], None)];
 
-const EVEN_ABOVE: [Row; 2] = [(0, 1, Zero, &[1], None), (1, 2, Zero, &[0], None)];
+static EVEN_ABOVE: [Row; 2] = [(0, 1, Zero, &[1], None), (1, 2, Zero, &[0], None)];
 
-const ODD_ABOVE_ASKED: [Asked; 2] = [
+static ODD_ABOVE_ASKED: [Asked; 2] = [
     (Zero, &[0], &[None, None], false),
     (One, &[1], &[None, None], true),
 ];
 
-const EVEN_ABOVE_ASKED: [Asked; 2] = [
+static EVEN_ABOVE_ASKED: [Asked; 2] = [
     (Zero, &[0], &[None, None], true),
     (One, &[1], &[None, None], false),
 ];
 
 /// Player 0 may stay at 1 inside the closed walk through both nodes, whose greatest priority is even.
-const NESTED: [Row; 2] = [(0, 2, Zero, &[1], None), (1, 1, Zero, &[0, 1], None)];
+static NESTED: [Row; 2] = [(0, 2, Zero, &[1], None), (1, 1, Zero, &[0, 1], None)];
 
-const NESTED_ASKED: [Asked; 4] = [
+static NESTED_ASKED: [Asked; 4] = [
     (Zero, &[0], &[None, None], false),
     (Zero, &[0], &[None, Some(1)], false),
     (Zero, &[0, 1], &[None, Some(0)], true),
     (One, &[1], &[None, None], false),
-];
-
-/// Games with what is asked of them: a losing closed walk apart from the listed place, one choice of two that wins, a
-/// wrong choice far from the listed place, nodes without a choice that keep all edges, the greatest priority above the
-/// least and the other way round, and a losing closed walk inside a winning one.
-const GAMES: [(&'static [Row], &'static [Asked]); 7] = [
-    (&ODD_BEHIND, &ODD_BEHIND_ASKED),
-    (&samples::THREE, &THREE_ASKED),
-    (&FAR, &FAR_ASKED),
-    (&BRANCHES, &BRANCHES_ASKED),
-    (&ODD_ABOVE, &ODD_ABOVE_ASKED),
-    (&EVEN_ABOVE, &EVEN_ABOVE_ASKED),
-    (&NESTED, &NESTED_ASKED),
 ];
 
 /// Asserts the checker's answers on a game.
@@ -141,11 +128,18 @@ fn assert_game(rt: &impl Abort, alloc: Global, rows: &[Row], asked: &[Asked]) {
     }
 }
 
+// A losing closed walk apart from the listed place, one choice of two that wins, a wrong choice far from the listed
+// place, nodes without a choice that keep all edges, the greatest priority above the least and the other way round, and
+// a losing closed walk inside a winning one.
 #[test]
 fn small_games(rt: HostRuntime) {
-    for (rows, asked) in GAMES.iter() {
-        assert_game(&rt, rt.alloc(), *rows, *asked);
-    }
+    assert_game(&rt, rt.alloc(), &ODD_BEHIND, &ODD_BEHIND_ASKED);
+    assert_game(&rt, rt.alloc(), &samples::THREE, &THREE_ASKED);
+    assert_game(&rt, rt.alloc(), &FAR, &FAR_ASKED);
+    assert_game(&rt, rt.alloc(), &BRANCHES, &BRANCHES_ASKED);
+    assert_game(&rt, rt.alloc(), &ODD_ABOVE, &ODD_ABOVE_ASKED);
+    assert_game(&rt, rt.alloc(), &EVEN_ABOVE, &EVEN_ABOVE_ASKED);
+    assert_game(&rt, rt.alloc(), &NESTED, &NESTED_ASKED);
 }
 
 /// Whether player 0 wins from the first place without a choice, or else player 1 does.

@@ -76,7 +76,7 @@ fn follow<T: MeasureTable, R: Abort>(rt: &R, table: &mut T, places: u32, steps: 
 
 // For player 0 a measure over these priorities has an entry for 3 and one for 1, each at most 1, and for player 1 one
 // for 4, at most 1.
-const EXAMPLE: [u16; 3] = [1, 3, 4];
+static EXAMPLE: [u16; 3] = [1, 3, 4];
 
 /// Entries of (3, 1), by hand. The allowance of node 0 (priority 1, which loses) towards itself goes through (0, 1),
 /// (1, 0), (1, 1) and top; that of node 1 (priority 3) towards node 2 is (1, 0); node 2 (priority 4) has none to raise.
@@ -128,17 +128,31 @@ fn lifts_over_words() -> &'static [Step] {
 }
 
 /// Takes a new table of a player over a game through the steps.
+fn follow_new<T: MeasureTable, R: Abort>(
+    rt: &R,
+    alloc: Global,
+    game: &Game,
+    player: Player,
+    steps: &[Step],
+) -> Result<(), Refusal> {
+    let (mut table, places): (T, u32) = prepared(alloc, game, player)?;
+    follow(rt, &mut table, places, steps);
+    Ok(())
+}
+
+/// The same for a game that was built.
 // The game is owned here alone: a function that holds a game over many calls is slow to prove.
 fn lifts_by_hand<T: MeasureTable, R: Abort>(
     rt: &R,
     alloc: Global,
-    game: Game,
+    built: Result<Game, Refusal>,
     player: Player,
     steps: &[Step],
 ) -> Result<(), Refusal> {
-    let (mut table, places): (T, u32) = prepared(alloc, &game, player)?;
-    follow(rt, &mut table, places, steps);
-    Ok(())
+    match built {
+        Ok(game) => follow_new::<T, R>(rt, alloc, &game, player, steps),
+        Err(refusal) => Err(refusal),
+    }
 }
 
 /// Takes new tables of both players through their steps.
@@ -146,21 +160,21 @@ fn all_lifts<T: MeasureTable, R: Abort>(rt: &R, alloc: Global) -> Result<(), Ref
     lifts_by_hand::<T, R>(
         rt,
         alloc,
-        game_of(alloc, &EXAMPLE)?,
+        game_of(alloc, &EXAMPLE),
         Player::Zero,
         lifts_of_zero(),
     )?;
     lifts_by_hand::<T, R>(
         rt,
         alloc,
-        game_of(alloc, &EXAMPLE)?,
+        game_of(alloc, &EXAMPLE),
         Player::One,
         lifts_of_one(),
     )?;
     lifts_by_hand::<T, R>(
         rt,
         alloc,
-        odd_game(alloc, 64, 63)?,
+        odd_game(alloc, 64, 63),
         Player::Zero,
         lifts_over_words(),
     )

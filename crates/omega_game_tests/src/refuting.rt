@@ -41,9 +41,9 @@ type Asked = (
 );
 
 /// Player 0 can only go from 0 to 1, which bears an odd priority and leads to itself.
-const ODD_BEHIND: [Row; 2] = [(0, 0, Zero, &[1], None), (1, 1, Zero, &[1], None)];
+static ODD_BEHIND: [Row; 2] = [(0, 0, Zero, &[1], None), (1, 1, Zero, &[1], None)];
 
-const ODD_BEHIND_ASKED: [Asked; 4] = [
+static ODD_BEHIND_ASKED: [Asked; 4] = [
     (Zero, &[0], &[Some(1), Some(1)], &[0], &[1]),
     (Zero, &[0, 1], &[None, None], &[], &[1]),
     (Zero, &[], &[None, None], &[], &[]),
@@ -51,7 +51,7 @@ const ODD_BEHIND_ASKED: [Asked; 4] = [
 ];
 
 /// At 1 the odd priority comes back to itself by 0; by 2 an even one would be on the way.
-const THREE_ASKED: [Asked; 4] = [
+static THREE_ASKED: [Asked; 4] = [
     (Zero, &[0], &[Some(1), None, None], &[0], &[1, 0]),
     (Zero, &[2], &[Some(1), None, None], &[2, 0], &[1, 0]),
     (Zero, &[1, 2], &[None, None, None], &[], &[1, 0]),
@@ -59,7 +59,7 @@ const THREE_ASKED: [Asked; 4] = [
 ];
 
 /// Two ways lead from 0 to 5, the only place that loses. It comes back to itself by 0 and, on a shorter way, by 6.
-const WAYS: [Row; 7] = [
+static WAYS: [Row; 7] = [
     (0, 0, One, &[1, 4], None),
     (1, 2, One, &[2], None),
     (2, 4, One, &[5], None),
@@ -75,13 +75,6 @@ const WAYS_ASKED: [Asked; 3] = [
     (Zero, &[1], &NO_CHOICE, &[1, 2], &[5, 6]),
     (Zero, &[0], &NO_CHOICE, &[0, 4], &[5, 6]),
     (Zero, &[0, 3], &NO_CHOICE, &[3], &[5, 6]),
-];
-
-/// Games with what is asked of them: a cycle behind the listed place, one through it, and the shortest of several ways.
-const GAMES: [(&'static [Row], &'static [Asked]); 3] = [
-    (&ODD_BEHIND, &ODD_BEHIND_ASKED),
-    (&samples::THREE, &THREE_ASKED),
-    (&WAYS, &WAYS_ASKED),
 ];
 
 /// Asserts the counterexamples on a game.
@@ -100,11 +93,12 @@ fn assert_game(rt: &impl Abort, alloc: Global, rows: &[Row], asked: &[Asked]) {
     }
 }
 
+// A cycle behind the listed place, one through it, and the shortest of several ways.
 #[test]
 fn small_games(rt: HostRuntime) {
-    for (rows, asked) in GAMES.iter() {
-        assert_game(&rt, rt.alloc(), *rows, *asked);
-    }
+    assert_game(&rt, rt.alloc(), &ODD_BEHIND, &ODD_BEHIND_ASKED);
+    assert_game(&rt, rt.alloc(), &samples::THREE, &THREE_ASKED);
+    assert_game(&rt, rt.alloc(), &WAYS, &WAYS_ASKED);
 }
 
 /// The length of the cycle found from the first place without a choice, 0 where there is none.
@@ -128,7 +122,7 @@ fn has_cycle(alloc: Global, built: Result<Game, Refusal>, length: usize) -> bool
 }
 
 /// Where the last node of a line leads back to, and the length of the cycle.
-const LINES: [(u32, u32, usize); 4] = [(9, 9, 1), (9, 5, 5), (9, 0, 10), (40_000, 20_000, 20_001)];
+static LINES: [(u32, u32, usize); 4] = [(9, 9, 1), (9, 5, 5), (9, 0, 10), (40_000, 20_000, 20_001)];
 
 #[test]
 fn a_cycle_visits_no_place_twice(rt: HostRuntime) {

@@ -165,7 +165,7 @@ fn nested(alloc: Global, components: u16, flaw: u16) -> Result<Game, Refusal> {
 }
 
 /// Components that nest, one of them flawed or 0, and whether player 0 wins.
-const NESTED: [(u16, u16, bool); 10] = [
+static NESTED: [(u16, u16, bool); 10] = [
     (1, 0, true),
     (3, 0, true),
     (3, 2, false),

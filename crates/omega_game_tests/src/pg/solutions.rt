@@ -8,7 +8,7 @@ use std::alloc::Global;
 const GAME: &str = "9 3 1 4; 4 2 0 9,4;";
 
 /// Games, texts of their solutions, and the written forms.
-static SOLUTIONS: [(&str, &str, &str); 4] = [
+const SOLUTIONS: [(&str, &str, &str); 4] = [
     (
         "0 0 0 1; 1 1 0 1;",
         "paritysol 1; 0 0 1; 1 1;",

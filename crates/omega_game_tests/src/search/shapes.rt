@@ -52,7 +52,7 @@ fn line(alloc: Global, rows: u16, last: u8, back: u8) -> Result<Game, Refusal> {
 }
 
 /// So many rows, and the place to which the last node leads back: the first, so that the line is a cycle, or one near it.
-const LINES: [(u16, u8); 4] = [(1, 0), (1, 200), (1024, 0), (1024, 200)];
+static LINES: [(u16, u8); 4] = [(1, 0), (1, 200), (1024, 0), (1024, 200)];
 
 #[test]
 fn the_greatest_priority_of_a_million_nodes_decides(rt: HostRuntime) {
@@ -122,7 +122,7 @@ fn clique(alloc: Global, nodes: u8) -> Result<Game, Refusal> {
 }
 
 /// A player with two nodes can move between these for ever, and the greatest priority of the player's own wins.
-const CLIQUES: [(u8, usize, usize); 6] = [
+static CLIQUES: [(u8, usize, usize); 6] = [
     (2, 0, 2),
     (3, 3, 0),
     (4, 2, 2),

@@ -136,7 +136,7 @@ fn assert_counts<R: Abort>(rt: &R, game: &Game, player: Player, lifts: u64, atte
 /// A family, the number of nodes, a player, the most lifts that the nested order makes, and the number of nodes won.
 type Row = (Family, u32, Player, u64, usize);
 
-const ROWS: [Row; 8] = [
+static ROWS: [Row; 8] = [
     (Family::Ladder, 4_000, Player::Zero, 20_000, 2_000),
     (Family::Ladder, 4_000, Player::One, 20_000, 2_000),
     (Family::Path, 8_000, Player::Zero, 20_000, 8_000),

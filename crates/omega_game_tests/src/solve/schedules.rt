@@ -59,7 +59,7 @@ fn takes_behind<S: Schedule, R: Abort>(rt: &R, alloc: Global, others: &[u8]) {
 }
 
 /// The first round of a sweep over ten places, and steps that follow it.
-const SWEEPS: [&[u8]; 3] = [
+static SWEEPS: [&[u8]; 3] = [
     // A place that is added before the next one is looked at first.
     b"0123456789+9+22+559",
     // Places up to the last one taken wait for the next round.
@@ -83,7 +83,7 @@ fn a_worklist_is_first_in_first_out(rt: HostRuntime) {
 
 /// A sweep, in which an added place waits, costs four takes; then focus has fuel for sixteen, in which an added place is the
 /// next one; and then a sweep again.
-const NESTED: &[u8] = b"01+0+1230+21+002+00+00+00+00+00+00+00+00+00+00+00+00+3+00+030";
+static NESTED: &[u8] = b"01+0+1230+21+002+00+00+00+00+00+00+00+00+00+00+00+00+3+00+030";
 
 #[test]
 fn a_nested_schedule_sweeps_and_stays_with_the_least(rt: HostRuntime) {
