@@ -3,12 +3,14 @@ use Rattle.std.proofs.Common.{◌≡◌, ℕ, zero, suc, ◌+◌, ◌<◌, Optio
 use Rattle.std.specs.Prelude.{codes, decimal}
 use Rattle.omega_game.specs.Game.{greatest_identifier, IsGame, Node}
 use Rattle.std.specs.List.{flat_map, range_with_len}
-use Rattle.std.proofs.lemmas.List.{flat_map_more}
+use Rattle.std.proofs.lemmas.List.{append_assoc, flat_map_more}
 use Rattle.std.proofs.lemmas.List.FromFn.{map-range_with_len_more}
 use Rattle.omega_game.specs.Winning.{Chooses, IsStrategy, choice_at}
 use Rattle.omega_game.specs.declared.player.Player.{Player}
 use Rattle.omega_pg.specs.solution.Grammar.{Line}
-use Rattle.omega_pg.specs.solution.Canonical.{solution_line}
+use Rattle.omega_pg.specs.solution.Canonical.{solution_line, solution_text}
+use Rattle.omega_pg.specs.solution.Text.{line_at}
+use Rattle.omega_pg.specs.declared.solution.Solution.{Solution}
 
 -- a choice that stands at a place is chosen there
 pub Chooses-from_choice : (choices : List (Option ℕ)) (v w : ℕ) → choice_at choices v ≡ Some w → Chooses choices v w
@@ -36,3 +38,13 @@ lines_more f k front before after e h =
 -- what is written before the lines
 abbrev pub solution_front : List Node → List ℕ
 solution_front nodes = codes "paritysol " ++ (decimal (greatest_identifier nodes) ++ codes ";\n")
+
+-- behind it the lines of all places are the text
+pub text_written : (nodes : List Node) (solution : Solution) (k : ℕ) (out : List ℕ) → k ≡ length nodes
+    → out ≡ solution_front nodes ++ flat_map solution_line (map (line_at nodes solution) (range_with_len 0 k))
+    → out ≡ solution_text nodes solution
+text_written nodes solution k out all written =
+    let lines : List ℕ = flat_map solution_line (map (line_at nodes solution) (range_with_len 0 (length nodes))) in
+    written
+    ∙ ap (λ n. solution_front nodes ++ flat_map solution_line (map (line_at nodes solution) (range_with_len 0 n))) all
+    ∙ ap (λ list. codes "paritysol " ++ list) (append_assoc (decimal (greatest_identifier nodes)) (codes ";\n") lines)

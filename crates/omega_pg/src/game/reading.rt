@@ -1,5 +1,6 @@
-ghost use Rattle.std.specs.Prelude.{◌≡◌, ◌<◌, length, None, IfOk, IfErr};
-ghost use Rattle.omega_game.specs.Building.{IsGameOf, fault_with};
+ghost use Rattle.std.specs.Prelude.{◌≡◌, ◌<◌, List, length, true, None, IfOk, IfErr};
+ghost use Rattle.omega_game.specs.Building.{IsBuildRefusal, IsGameOf, fault_with};
+ghost use Rattle.omega_game.specs.declared.node_spec.NodeSpec.{NodeSpec};
 ghost use Rattle.omega_game.specs.Game.{IsWithinLimits};
 ghost use Rattle.omega_pg.specs.game.reader.Built.{IsBuiltRefusal};
 ghost use Rattle.omega_pg.specs.game.Refusing.{IsReadRefusal};
@@ -38,11 +39,23 @@ fn built(builder: GameBuilder, too_small: bool) -> Result<Game, Refusal>
     ensures faultless { IfOk result (λ _. fault_with too_small builder ≡ None) }
     ensures refused { IfErr result (IsBuiltRefusal too_small builder) }
 {
+    if !too_small {
+        return builder.finish();
+    }
     match builder.finish() {
-        Err(Refusal::Game(GameFault::TooManyNodes | GameFault::TooManyEdges)) if too_small => {
-            Err(Refusal::Game(GameFault::HeaderTooSmall))
-        }
-        Ok(_game) if too_small => Err(Refusal::Game(GameFault::HeaderTooSmall)),
+        Ok(_game) => Err(Refusal::Game(GameFault::HeaderTooSmall)),
+        Err(refusal) => Err(first_of(refusal)),
+    }
+}
+
+/// Which refusal comes first where the number of the header is too small, of that and of another.
+fn first_of(refusal: Refusal) -> Refusal
+    ensures { (specs : List NodeSpec) → IsBuildRefusal specs refusal → IsBuiltRefusal true specs result }
+{
+    match refusal {
+        Refusal::Game(GameFault::TooManyNodes | GameFault::TooManyEdges) => {
+            Refusal::Game(GameFault::HeaderTooSmall)
+        },
         other => other,
     }
 }

@@ -1,5 +1,5 @@
 -- A run goes on lift by lift, and ends with none due or with its budget used up.
-use Rattle.std.proofs.Common.{◌≡◌, ◌-◌, ◌∙◌, ap, arith, subst, sym, true}
+use Rattle.std.proofs.Common.{◌≡◌, ◌-◌, ◌∙◌, ap, arith, refl, subst, sym, true}
 use Rattle.omega_solve.specs.Solver.{State}
 use Rattle.omega_solve.specs.solving.Progress.{IsSolver}
 use Rattle.omega_solve.proofs.lifting.Finishing.{finished_idle, reached_bounded, solving_reached}
@@ -13,6 +13,9 @@ returns-then-self-clause-ran g c =
     let kept = subst (λ (s : State). IsSolver s c.self.inside.won.items c.self.inside.choice.items) c.self.view_is c.self.invariant in
     let done : c.args.self.now.done ≡ true = sym (ap (λ (s : State). s.done) c.self.view_is) ∙ c.if-self.true in
     call_over c.args.self.now c.args.budget done (finished_idle c.args.self.now kept.solving (kept.answered.idle done))
+
+pub returns-then-self-clause-told : goal.returns-then-self-clause-told
+returns-then-self-clause-told g c = (λ _. refl, λ _. sym (ap (λ (s : State). s.done) c.self.view_is) ∙ c.if-self.true)
 
 pub loop-place-smaller-in-None : goal.loop-place-smaller-in-None
 loop-place-smaller-in-None g c =
@@ -53,6 +56,9 @@ returns-clause-ran g c =
     let kept = c.loop-place.invariant in
     call_done c.args.self.now c.loop-place.self c.finish.new.self c.loop-place.made c.args.budget
     kept.same_nodes kept.same_player kept.lifted kept.within c.in_default.ensures.finished c.finish.ensures
+
+pub returns-clause-told : goal.returns-clause-told
+returns-clause-told g c = (λ _. refl, λ _. ap (λ (s : State). s.done) c.finish.ensures)
 
 pub returns-clause-reached : goal.returns-clause-reached
 returns-clause-reached g c =
