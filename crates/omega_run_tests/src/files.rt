@@ -1,0 +1,103 @@
+//! Runs that read a file, and the files of the machine.
+use crate::running::{Asked, Left, expect};
+use omega_run::{GameFiles, HostFiles};
+use std::test::Fail;
+
+const THREE: &str = "0 0 0 1,2; 1 1 1 0; 2 2 1 0;";
+
+/// A way to a node at which player 0 chooses between an odd loop and an even one.
+const WAY: &str = "0 0 0 1; 1 0 1 2; 2 0 0 3; 3 0 1 4; 4 0 0 5,6; 5 1 0 5; 6 2 0 6;";
+
+/// Player 0 goes to an even loop of player 1, and not to an odd one of its own.
+const CHOICE: &str = "0 0 0 1,2; 1 1 0 1; 2 2 1 2 \"goal\";";
+
+/// The drawing of the game with its solution.
+const DRAWING: &str = "\
+digraph game {
+  0 [shape=diamond, label=\"0\\npriority 0\\n\", style=filled, fillcolor=lightblue];
+  0 -> 1;
+  0 -> 2 [style=bold];
+  1 [shape=diamond, label=\"1\\npriority 1\\n\", style=filled, fillcolor=orange];
+  1 -> 1;
+  2 [shape=box, label=\"2\\ngoal\\npriority 2\\n\", style=filled, fillcolor=lightblue];
+  2 -> 2;
+}
+";
+
+/// A command line, the text of the file, the text of the input, and the status, the output and the line of the run.
+static RUNS: [(&str, &str, &str, u8, &str, &str); 7] = [
+    (
+        "omega verify --game g",
+        THREE,
+        "paritysol 2; 0 0 2; 1 0; 2 0;",
+        0,
+        "yes\n",
+        "",
+    ),
+    (
+        "omega verify --game g --from 4 --explain",
+        WAY,
+        "paritysol 6; 4 0 5; 5 1; 6 0 6;",
+        6,
+        "no\nplayer 0\nstem 4\ncycle 5\n",
+        "",
+    ),
+    (
+        "omega verify --game g",
+        THREE,
+        "paritysol 2; 0 0; 1 0; 2 0;",
+        1,
+        "",
+        "omega: 53 BadSolution\n",
+    ),
+    // What is wrong with the game comes first.
+    (
+        "omega verify --game g",
+        "0 0 0;",
+        "$",
+        1,
+        "",
+        "omega: 3 Syntax at 5\n",
+    ),
+    (
+        "omega verify --game h",
+        THREE,
+        "paritysol 2; 0 0 2; 1 0; 2 0;",
+        5,
+        "",
+        "omega: 61 Io\n",
+    ),
+    (
+        "omega draw --format pg --solution g",
+        "paritysol 2; 0 0 2; 1 1; 2 0;",
+        CHOICE,
+        0,
+        DRAWING,
+        "",
+    ),
+    (
+        "omega draw --format pg --solution h",
+        "",
+        CHOICE,
+        5,
+        "",
+        "omega: 61 Io\n",
+    ),
+];
+
+#[test]
+fn reads_the_file_before_the_input(rt: HostRuntime) -> Result<(), Fail> {
+    for (line, file, text, status, output, error) in RUNS.as_slice() {
+        let asked = Asked { line, file, text };
+        expect(rt.alloc(), asked, Left::of(*status, output, error))?;
+    }
+    Ok(())
+}
+
+/// What else a file may be is tried on the built program.
+#[test]
+fn reads_a_file_of_the_machine(rt: HostRuntime) -> Result<(), Fail> {
+    let bytes = HostFiles::new(&rt).read_file(rt.alloc(), "/dev/null")?;
+    assert!(rt; bytes.is_empty());
+    Ok(())
+}
