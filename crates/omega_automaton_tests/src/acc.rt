@@ -59,7 +59,12 @@ pub(crate) fn written(alloc: Global, label: &Label) -> Result<Vec<u8>, Refusal> 
 
 // The text of a label without aliases, once expanded.
 fn text_of(alloc: Global, raw: &RawLabel) -> Result<Vec<u8>, Refusal> {
-    written(alloc, &expand(alloc, raw, &Aliases::new(alloc))?)
+    written(alloc, &expanded(alloc, raw)?)
+}
+
+// A label without aliases, once expanded.
+fn expanded(alloc: Global, raw: &RawLabel) -> Result<Label, Refusal> {
+    expand(alloc, raw, &Aliases::new(alloc))
 }
 
 fn text_of_postfix(alloc: Global, postfix: &str) -> Result<Vec<u8>, Refusal> {
@@ -198,7 +203,7 @@ fn all_of(alloc: Global, count: u32) -> Result<RawLabel, Refusal> {
 }
 
 fn judged(alloc: Global, raw: &RawLabel) -> Result<bool, Refusal> {
-    satisfiable(&expand(alloc, raw, &Aliases::new(alloc))?)
+    satisfiable(&expanded(alloc, raw)?)
 }
 
 fn all_judged(alloc: Global, count: u32) -> Result<bool, Refusal> {

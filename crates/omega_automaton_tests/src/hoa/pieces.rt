@@ -160,9 +160,9 @@ fn assert_blanks(rt: &impl Abort, stream: &mut Stream, blanks: &[u8], items: &mu
 
 #[test]
 fn pieces_past_the_limit_are_refused(rt: HostRuntime) -> Result<(), Fail> {
+    let blanks = vec![in rt.alloc(); b' '; 16_777_216]?;
     let mut items = Vec::new(rt.alloc());
     let mut stream = Stream::new(rt.alloc());
-    let blanks = vec![in rt.alloc(); b' '; 16_777_216]?;
     assert_blanks(&rt, &mut stream, blanks.as_slice(), &mut items);
     assert!(rt; told(stream.finish()) == (4, None));
     Ok(())
