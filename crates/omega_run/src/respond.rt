@@ -46,11 +46,26 @@ pub fn respond<R: Input>(
             let text = read_all(alloc, input)?;
             verify_solution(alloc, game.as_slice(), *from, text, *explain)
         }
-        _ => {
-            let text = read_all(alloc, input)?;
-            Ok((Exit::Done, answer(alloc, command, text, budget)?))
-        }
+        _ => respond_to_text(alloc, command, input, budget),
     }
+}
+
+/// The same of a command that reads one text and is done with it.
+fn respond_to_text<R: Input>(
+    alloc: Global,
+    command: &Command,
+    input: &mut R,
+    budget: u64,
+) -> Result<(Exit, Vec<u8>), Refusal>
+    requires one { IsOfOneText command.now }
+    requires budget { budget ≤ most_lifts }
+    requires reads { R.failed input.old < 2 ^ 64 - 1 }
+    ensures answered { IfOk result (λ made. Responds command.now budget (R.remaining input.old) (R.remaining input.new) made.0 made.1.items) }
+    ensures refused { IfErr result (IsRunRefusal command.now budget (R.remaining input.old) (R.remaining input.new)) }
+    ensures counted { R.failed input.new ≡ R.failed input.old + failures_of result }
+{
+    let text = read_all(alloc, input)?;
+    Ok((Exit::Done, answer(alloc, command, text, budget)?))
 }
 
 /// The whole answer of a command that reads one text and is done with it. Each run of a solver makes at most `budget`
