@@ -43,8 +43,8 @@ pub fn respond<R: Input>(
             from,
             explain,
         } => {
-            let text = read_all(alloc, input)?;
-            verify_solution(alloc, game.as_slice(), *from, text, *explain)
+            let solution = read_all(alloc, input)?;
+            verify_solution(alloc, game.as_slice(), *from, solution, *explain)
         }
         _ => respond_to_text(alloc, command, input, budget),
     }

@@ -8,3 +8,6 @@ pub returns : goal.returns
 returns g c =
     let memory : c.in-Err-refusal_line.wanting ≡ Memory = search rules in
     rw c.in-Err.is (inr (search rules, rw memory-line c.tell-in-Err-refusal_line.ensures))
+
+pub returns-in-Ok : goal.returns-in-Ok
+returns-in-Ok g c = search rules
