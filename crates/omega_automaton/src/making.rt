@@ -32,9 +32,9 @@ use std::alloc::Global;
 /// The automaton that one means as it is written (HOA v1; docs/formats.md, meaning of an automaton text).
 ///
 /// Refusals 20 to 33 exactly by the fault with the least number that applies, and 60. The parts are moved and not copied, but
-/// for labels with aliases, which are replaced, and marks that do not rise. Takes time and memory by the length of what is written and by the size of the
-/// labels so replaced, and by nothing that a number in it says. More than 4,294,967,295 edges, which no text has, are
-/// refused 60.
+/// for labels with aliases, which are replaced, and marks that do not rise. Takes time and memory by the length of what is
+/// written and by the size of the labels so replaced, and by nothing that a number in it says. More than 4,294,967,295
+/// edges, which no text has, are refused 60.
 pub fn automaton_of(alloc: Global, raw: RawAutomaton) -> Result<Automaton, Refusal>
     ensures ok { IfOk result (λ automaton. Means raw automaton) }
     ensures err { IfErr result (IsMeaningless raw) }
