@@ -6,12 +6,13 @@ use std::marker::Model;
 /// A node of a label, expanded or as it is written. Its parts stand before it; of an alias it has the length of the name.
 ///
 /// Both kinds of labels have the same nodes, so that one without aliases is expanded in the memory that it has.
-#[derive(Clone, Copy, Debug, PartialEq, Eq)]
+#[derive(Clone, Copy, Debug, Default, PartialEq, Eq)]
 pub(crate) enum LabelNode {
     Constant(bool),
     Proposition(u32),
     Alias(u32),
     Not,
+    #[default]
     And,
     Or,
     Group,

@@ -27,7 +27,7 @@ pub fn read_raw_label<'a, S: TokenSource<'a, HoaKind>>(
     ensures ok { IfOk result (λ label. Reads (S.left source.old) label (S.left source.new)) }
     ensures err { IfErr result (IsUnread (ReadsNone (S.left source.old))) }
 {
-    let mut unfinished = Unfinished::new(alloc)?;
+    let mut unfinished = Unfinished::new(alloc);
     operand(&mut unfinished, source)?;
     while goes_on(&mut unfinished, source)? {}
     let nodes = fitted(alloc, unfinished.nodes.as_slice())?;
