@@ -1,14 +1,10 @@
 -- The gap grows, part by part, until a token follows.
-use Rattle.std.proofs.Common.{[], ◌++◌, drop, take, refl, sym, subst, arith, length-drop, None, Some}
+use Rattle.std.proofs.Common.{◌++◌, drop, take, sym, subst, arith, length-drop, None, Some}
 use Rattle.omega_text.specs.Lexeme.{lexeme_at}
 use Rattle.omega_text.specs.hoa.Cut.{Follows}
-use Rattle.omega_text.specs.hoa.Cut.IsGap.{nothing}
 use Rattle.omega_text.specs.hoa.scanning.Modes.{IsFirstUnit}
 use Rattle.omega_text.proofs.hoa_texts.Gaps.{blank_passed, blank_place, blank_split, unit_follows}
-use Rattle.omega_text.proofs.hoa.token.next_hoa_token.Goals as goal
-
-pub loop-start-init : goal.loop-start-init
-loop-start-init c = record { gap = []; split = refl; passed = nothing; place = omega arith; within = c.requires }
+use Rattle.omega_text.proofs.hoa.token.next_behind.Goals as goal
 
 pub returns-in-Some-clause-token : goal.returns-in-Some-clause-token
 returns-in-Some-clause-token c =
