@@ -5,6 +5,7 @@ ghost use Rattle.omega_acc.specs.Limits.{most_mentioned};
 ghost use Rattle.omega_acc.specs.Satisfiable.{IsJudged, IsOverMentioned, IsSatisfiable, mentioned};
 ghost use Rattle.omega_acc.specs.layout.Words.{peak, top_word, word_among, words_behind};
 
+use crate::codes::ROOM;
 use crate::label::{Label, LabelNode};
 use crate::mentioned::Mentioned;
 use crate::words::Words;
@@ -17,7 +18,8 @@ pub fn satisfiable(label: &Label) -> Result<bool, Refusal>
     ensures ok { IfOk result (λ possible. IsJudged label.now possible) }
     ensures err { IfErr result (IsOverMentioned label.now) }
 {
-    let nodes = label.nodes();
+    let mut room = ROOM;
+    let nodes = label.nodes(&mut room);
     let mut found = Mentioned::new();
     for node in nodes {
         if let LabelNode::Proposition(number) = node {
@@ -35,7 +37,8 @@ fn is_true_somewhere(label: &Label, found: &Mentioned) -> bool
     ensures judged { IsTrue result ↔ IsSatisfiable label.now }
     ensures within { length (mentioned label.now) ≤ most_mentioned }
 {
-    let nodes = label.nodes();
+    let mut room = ROOM;
+    let nodes = label.nodes(&mut room);
     for block in 0..blocks(found.len()) {
         if word_of(nodes, found, block) != 0 {
             return true;

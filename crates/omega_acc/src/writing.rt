@@ -6,6 +6,7 @@ ghost use Rattle.omega_acc.specs.Writing.{acc_text, label_text};
 ghost use Rattle.omega_acc.specs.layout.Texts.{acc_texts_behind, texts_behind};
 
 use crate::acc::{Acc, AccNode};
+use crate::codes::ROOM;
 use crate::label::{Label, LabelNode};
 use crate::texts::Texts;
 use omega_text::Refusal;
@@ -19,7 +20,8 @@ pub fn write_label(label: &Label, out: &mut Vec<u8>) -> Result<(), Refusal>
 {
     let alloc = *out.allocator();
     let mut texts = Texts::new(alloc)?;
-    put_label(&mut texts, label.nodes())?;
+    let mut room = ROOM;
+    put_label(&mut texts, label.nodes(&mut room))?;
     out.extend_from_slice(texts.top())?;
     Ok(())
 }

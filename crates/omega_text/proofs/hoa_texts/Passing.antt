@@ -209,7 +209,7 @@ stays_quoted byte quoted =
     let no_backslash : (byte == 92) ≡ false = grind (arith, nat_tests) in
     pass (byte == 34) _ _ no_quote ∙ pass (byte == 92) _ _ no_backslash
 
-quoted_front : (bytes : List ℕ) → run (Some Quoted) (take (prefix_len is_quoted bytes) bytes) ≡ Some Quoted
+pub quoted_front : (bytes : List ℕ) → run (Some Quoted) (take (prefix_len is_quoted bytes) bytes) ≡ Some Quoted
 quoted_front [] = refl
 quoted_front (byte ∷ rest) =
     either (λ count. run (Some Quoted) (take count (byte ∷ rest)) ≡ Some Quoted) (is_quoted byte) (1 + prefix_len is_quoted rest) 0

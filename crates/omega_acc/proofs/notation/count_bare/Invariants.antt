@@ -2,7 +2,7 @@
 use Rattle.std.proofs.Common.{◌≡◌, ◌≤◌, count_by, false, take}
 use Rattle.std.specs.List.{list_any}
 use Rattle.omega_acc.specs.layout.Bare.{is_alias, is_bare}
-use Rattle.omega_acc.proofs.raw_label.count_bare.Given as goal
+use Rattle.omega_acc.proofs.notation.count_bare.Given as goal
 
 abbrev pub invariant-loop-node : goal.invariant-loop-node
 invariant-loop-node l = record {
