@@ -211,6 +211,20 @@ fn write_number(number: u32, bytes: &mut SmallVec<u8, 64>) -> Result<(), Refusal
     ensures ok { OnOk result (bytes.new.items ≡ bytes.old.items ++ decimal number) }
     ensures err { IfErr result IsMemory }
 {
+    // One digit, as most propositions have, needs no buffer.
+    if number < 10 {
+        bytes.push(b'0' + number as u8)?;
+        Ok(())
+    } else {
+        write_digits(number, bytes)
+    }
+}
+
+/// The same by a buffer.
+fn write_digits(number: u32, bytes: &mut SmallVec<u8, 64>) -> Result<(), Refusal>
+    ensures ok { OnOk result (bytes.new.items ≡ bytes.old.items ++ decimal number) }
+    ensures err { IfErr result IsMemory }
+{
     let mut buffer = Buffer::new();
     bytes.extend_from_slice(buffer.format(number).as_bytes())?;
     Ok(())
