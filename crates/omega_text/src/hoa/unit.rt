@@ -123,6 +123,14 @@ fn plain_number(bytes: &[u8]) -> Option<Unit>
     requires digit { is_digit (slice_index bytes.now 0) ≡ true }
     ensures { IfSome result (λ unit. IsFirstUnit bytes.now unit.kind unit.value unit.count) }
 {
+    if bytes.len() > 1 && !bytes[1].is_ascii_digit() {
+        // Most numbers have one digit.
+        return Some(Unit {
+            kind: Some(HoaKind::Int),
+            value: u32::from(bytes[0] - b'0'),
+            count: 1,
+        });
+    }
     match first_number(bytes, 0) {
         Ok(unit) => Some(unit),
         Err(_) => None,
