@@ -4,14 +4,15 @@ use Rattle.std.proofs.lemmas.List.{drop-drop, get_or-drop, get_or-take, take-app
 use Rattle.std.proofs.lemmas.List.Sums.{prefix_len-le-length, prefix_len_is, prefix_len_passes, prefix_len_stops}
 use Rattle.std.specs.List.{AllPass, prefix_len}
 use Rattle.omega_text.specs.Bytes.{is_digit, is_white, is_word_byte}
-use Rattle.omega_text.specs.declared.hoa.kind.HoaKind.TheVariants.{AliasName, Int, String}
+use Rattle.omega_text.specs.declared.hoa.kind.HoaKind.TheVariants.{AliasName, Int, String, Body, End, Abort}
+use Rattle.omega_text.specs.declared.hoa.kind.HoaKind.{HoaKind}
 use Rattle.omega_text.specs.declared.hoa.mode.Mode.TheVariants.{Start, Alias, Digits, Quoted, Whole}
 use Rattle.omega_text.specs.Limits.{most_number}
 use Rattle.omega_text.specs.hoa.Cut.{IsGapTo}
-use Rattle.omega_text.specs.hoa.Forms.{Spells}
-use Rattle.omega_text.specs.hoa.scanning.Modes.{IsFirstUnit, IsScanned, first_mode, next_mode, run}
-use Rattle.omega_text.specs.hoa.scanning.Passing.{is_quoted}
-use Rattle.omega_text.proofs.pg_texts.Longest.{head}
+use Rattle.omega_text.specs.hoa.Forms.{Spells, spelling}
+use Rattle.omega_text.specs.hoa.scanning.Modes.{BeginsAs, IsFirstUnit, IsScanned, first_mode, next_mode, run}
+use Rattle.omega_text.specs.hoa.scanning.Passing.{is_mark, is_quoted}
+use Rattle.omega_text.proofs.pg_texts.Longest.{head, head-take}
 use Rattle.omega_text.proofs.pg_texts.Numbers.{worth_small}
 use Rattle.omega_text.proofs.hoa_texts.Laws.{white_gap}
 use Rattle.omega_text.proofs.hoa_texts.Passing.{quoted_front}
@@ -100,3 +101,28 @@ first_digit_unit bytes value long digit other is =
     let small : head bytes - 48 ≤ most_number = omega (arith, worth_small (head bytes) digit) in
     first_read bytes 1 Digits (digits_scanned bytes some digit 1 (sym count)) (Some Int) value refl
     (subst (λ n. Spells Int n (take 1 bytes)) (sym is) (subst (Spells Int (head bytes - 48)) (sym front) ((one_digit (head bytes) digit).number small)))
+
+-- a mark
+mark_run : (kind : HoaKind) → is_mark kind ≡ true → run (Some Start) (spelling kind) ≡ Some (Whole kind)
+mark_run Body mark = refl
+mark_run End mark = refl
+mark_run Abort mark = refl
+mark_run kind mark = absurd (cc)
+
+mark_head : (kind : HoaKind) → is_mark kind ≡ true → (0 < length (spelling kind)) × (is_digit (head (spelling kind)) ≡ false)
+mark_head Body mark = (omega arith, refl)
+mark_head End mark = (omega arith, refl)
+mark_head Abort mark = (omega arith, refl)
+mark_head kind mark = absurd (cc)
+
+pub first_mark : (bytes : List ℕ) (kind : HoaKind) → is_mark kind ≡ true → BeginsAs bytes (spelling kind) → IsFirstUnit bytes (Some kind) 0 (length (spelling kind))
+first_mark bytes kind mark begins =
+    let count = length (spelling kind) in
+    let first = mark_head kind mark in
+    let scanned : IsScanned bytes count (Whole kind) = record {
+      within = begins.within;
+      reached = ap (run (Some Start)) begins.same ∙ mark_run kind mark;
+      stuck = whole_stuck kind (drop count bytes);
+    } in
+    first_plain bytes count (Whole kind) scanned (Some kind) refl
+    (ap is_digit (sym (head-take count bytes first.0) ∙ ap head begins.same) ∙ first.1)
