@@ -1,8 +1,8 @@
 -- Nodes as bytes: one more of them, and that a byte stands for the node that it is of.
-use Rattle.std.proofs.Common.{◌≡◌, ◌<◌, ◌+◌, ◌++◌, ◌||◌, ◌∷◌, [], ℕ, Bool, List, Some, ap, false, get_or, length, map, refl, rules, set, sym, take, true, ◌∙◌}
+use Rattle.std.proofs.Common.{◌≡◌, ◌<◌, ◌+◌, ◌++◌, ◌&&◌, ◌||◌, ◌∷◌, [], ℕ, Bool, List, Some, ap, false, get_or, length, map, refl, rules, set, sym, take, true, ◌∙◌}
 use Rattle.std.proofs.lemmas.List.{map_more, map_push, take_more, take_more_set}
 use Rattle.std.specs.Prelude.{◌==◌, if◌then◌else◌}
-use Rattle.std.specs.List.{list_any}
+use Rattle.std.specs.List.{list_all, list_any}
 use Rattle.omega_acc.specs.layout.Bare.{is_alias}
 use Rattle.omega_acc.specs.layout.Codes.{code_of, node_of}
 use Rattle.omega_acc.specs.declared.label.LabelNode.{LabelNode}
@@ -54,3 +54,8 @@ no_alias-node_of code =
 pub no_alias-codes : (codes : List ℕ) → list_any is_alias (map node_of codes) ≡ false
 no_alias-codes [] = refl
 no_alias-codes (code ∷ codes) = ap (λ any. any || list_any is_alias (map node_of codes)) (no_alias-node_of code) ∙ no_alias-codes codes
+
+-- what holds of the nodes of bytes
+pub list_all-codes : (test : LabelNode → Bool) (codes : List ℕ) → list_all (λ code. test (node_of code)) codes ≡ list_all test (map node_of codes)
+list_all-codes test [] = refl
+list_all-codes test (code ∷ codes) = ap (λ rest. test (node_of code) && rest) (list_all-codes test codes)

@@ -1,13 +1,17 @@
-ghost use Rattle.std.specs.Prelude.{◌≡◌, ◌≤◌, ◌++◌, [], ◌∷◌, filter, length, map, take, IfErr, IfOk, IfSome};
-ghost use Rattle.std.specs.List.{list_any};
+ghost use Rattle.std.specs.Prelude.{◌≡◌, ◌≤◌, ◌++◌, [], ◌∷◌, count_by, false, filter, length, map, take, IfErr, IfOk, IfSome};
+ghost use Rattle.std.specs.List.{list_all, list_any};
+ghost use Rattle.std.specs.Option.{SomeIff};
 ghost use Rattle.omega_acc.specs.Depth.{IsMemory};
 ghost use Rattle.omega_acc.specs.layout.Bare.{is_alias, is_bare};
 ghost use Rattle.omega_acc.specs.layout.Codes.{node_of};
 ghost use Rattle.omega_acc.specs.layout.Compact.{fits_in_place, notation_in};
+ghost use Rattle.omega_acc.specs.layout.Propositions.{proposition_below};
 
 use crate::codes::{MOST_IN_PLACE, ROOM, code, decoded, unpack};
 use crate::label::LabelNode;
-use crate::notation::{Notation, any_alias, stays};
+use crate::notation::{
+    Notation, all_propositions_below, any_alias, count_bare, is_proposition_below, stays,
+};
 use crate::postfix::{append, fitted, with_one};
 use omega_text::{Refusal, Seq};
 use std::alloc::Global;
@@ -144,9 +148,29 @@ impl Compact {
         }
     }
 
+    /// How many nodes are no parentheses, where none is an alias.
+    pub(crate) fn bare_size(&self) -> Option<usize>
+        ensures { SomeIff result (list_any is_alias self.now.nodes ≡ false) (count_by is_bare self.now.nodes) }
+    {
+        match &self.held {
+            Held::Short { count, codes, .. } => Some(count_bare_codes(&codes[..*count as usize])),
+            Held::Long(notation) => count_bare(notation.nodes.as_slice()),
+        }
+    }
+
+    /// Whether the propositions among the nodes are all below a limit.
+    pub(crate) fn propositions_below(&self, limit: u32) -> bool
+        ensures { result ≡ list_all (λ node. proposition_below limit node) self.now.nodes }
+    {
+        match &self.held {
+            Held::Short { count, codes, .. } => all_codes_below(&codes[..*count as usize], limit),
+            Held::Long(notation) => all_propositions_below(notation.nodes.as_slice(), limit),
+        }
+    }
+
     /// The same without the nodes of parentheses, in the memory that it has.
     pub(crate) fn without_parentheses(self) -> Self
-        ensures { result.nodes ≡ filter is_bare self.nodes }
+        ensures { result ≡ record self { nodes = filter is_bare self.nodes } }
     {
         let Compact { held, alloc } = self;
         let held = match held {
@@ -234,6 +258,33 @@ impl Compact {
         };
         Compact::of(alloc, both)
     }
+}
+
+/// How many bytes stand for no parentheses.
+fn count_bare_codes(codes: &[u8]) -> usize
+    ensures { result ≡ count_by is_bare (map node_of codes.now) }
+{
+    let mut count = 0;
+    for code in codes {
+        if stays(decoded(*code)) {
+            count += 1;
+        }
+    }
+    count
+}
+
+/// Whether the propositions that bytes stand for are all below a limit.
+fn all_codes_below(codes: &[u8], limit: u32) -> bool
+    ensures { result ≡ list_all (λ code. proposition_below limit (node_of code)) codes.now }
+{
+    codes.iter().all(|code| is_code_below(*code, limit))
+}
+
+/// Whether the proposition that a byte stands for is below a limit, if it stands for one.
+fn is_code_below(code: u8, limit: u32) -> bool
+    ensures { result ≡ proposition_below limit (node_of code) }
+{
+    is_proposition_below(decoded(code), limit)
 }
 
 /// The bytes that stand for no parentheses, and how many they are.

@@ -88,7 +88,7 @@ pub(crate) fn all_propositions_below(nodes: &[LabelNode], count: u32) -> bool
 }
 
 /// Whether the proposition of a node is below a count, if it has one.
-fn is_proposition_below(node: LabelNode, count: u32) -> bool
+pub(crate) fn is_proposition_below(node: LabelNode, count: u32) -> bool
     ensures { result ≡ proposition_below count node }
 {
     match node {

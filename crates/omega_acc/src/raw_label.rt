@@ -12,7 +12,6 @@ use crate::compact::Compact;
 use crate::depth::deeper;
 use crate::label::{Label, LabelNode};
 use crate::limits::MOST_DEPTH;
-use crate::notation::{all_propositions_below, count_bare};
 use omega_text::Refusal;
 use std::alloc::Global;
 use std::marker::Model;
@@ -141,8 +140,7 @@ impl RawLabel {
     pub fn propositions_below(&self, count: u32) -> bool
         ensures { result ≡ list_all (λ number. nat_lt number count) (raw_propositions self.now) }
     {
-        let mut room = ROOM;
-        all_propositions_below(self.nodes(&mut room), count)
+        self.written.propositions_below(count)
     }
 
     /// Whether an alias stands in it.
@@ -156,8 +154,7 @@ impl RawLabel {
     pub(crate) fn bare_size(&self) -> Option<usize>
         ensures { SomeIff result (list_any is_alias (raw_postfix self.now) ≡ false) (count_by is_bare (raw_postfix self.now)) }
     {
-        let mut room = ROOM;
-        count_bare(self.nodes(&mut room))
+        self.written.bare_size()
     }
 
     /// The label without its parentheses, in the memory that it has.

@@ -19,7 +19,7 @@ pub fn write_label(label: &Label, out: &mut Vec<u8>) -> Result<(), Refusal>
     ensures err { IfErr result IsMemory }
 {
     let alloc = *out.allocator();
-    let mut texts = Texts::new(alloc)?;
+    let mut texts = Texts::new(alloc);
     let mut room = ROOM;
     put_label(&mut texts, label.nodes(&mut room))?;
     out.extend_from_slice(texts.top())?;
@@ -34,7 +34,7 @@ pub fn write_acc(formula: &Acc, out: &mut Vec<u8>) -> Result<(), Refusal>
     ensures err { IfErr result IsMemory }
 {
     let alloc = *out.allocator();
-    let mut texts = Texts::new(alloc)?;
+    let mut texts = Texts::new(alloc);
     put_formula(&mut texts, formula.nodes())?;
     out.extend_from_slice(texts.top())?;
     Ok(())

@@ -1,20 +1,25 @@
 -- Units that a first byte and a run of bytes behind it tell.
-use Rattle.std.proofs.Common.{◌≡◌, ℕ, suc, ◌+◌, ◌<◌, ◌≤◌, Bool, Some, List, [], ◌∷◌, ◌++◌, length, get_or, take, drop, refl, sym, ap, ◌∙◌, subst, arith, length-drop, length-take-le}
+use Rattle.std.proofs.Common.{◌≡◌, ℕ, suc, ◌+◌, ◌-◌, ◌<◌, ◌≤◌, Bool, true, false, Some, List, [], ◌∷◌, ◌++◌, length, get_or, take, drop, refl, sym, ap, ◌∙◌, subst, arith, length-drop, length-take-le}
 use Rattle.std.proofs.lemmas.List.{drop-drop, get_or-drop, get_or-take, take-append-drop, take_more}
-use Rattle.std.proofs.lemmas.List.Sums.{prefix_len-le-length, prefix_len_passes, prefix_len_stops}
+use Rattle.std.proofs.lemmas.List.Sums.{prefix_len-le-length, prefix_len_is, prefix_len_passes, prefix_len_stops}
 use Rattle.std.specs.List.{AllPass, prefix_len}
 use Rattle.omega_text.specs.Bytes.{is_digit, is_white, is_word_byte}
-use Rattle.omega_text.specs.declared.hoa.kind.HoaKind.TheVariants.{AliasName, String}
-use Rattle.omega_text.specs.declared.hoa.mode.Mode.TheVariants.{Start, Alias, Quoted, Whole}
+use Rattle.omega_text.specs.declared.hoa.kind.HoaKind.TheVariants.{AliasName, Int, String, Body, End, Abort}
+use Rattle.omega_text.specs.declared.hoa.kind.HoaKind.{HoaKind}
+use Rattle.omega_text.specs.declared.hoa.mode.Mode.TheVariants.{Start, Alias, Digits, Quoted, Whole}
+use Rattle.omega_text.specs.Limits.{most_number}
 use Rattle.omega_text.specs.hoa.Cut.{IsGapTo}
-use Rattle.omega_text.specs.hoa.scanning.Modes.{IsFirstUnit, IsScanned, first_mode, next_mode, run}
-use Rattle.omega_text.specs.hoa.scanning.Passing.{is_quoted}
-use Rattle.omega_text.proofs.pg_texts.Longest.{head}
+use Rattle.omega_text.specs.hoa.Forms.{Spells, spelling}
+use Rattle.omega_text.specs.hoa.scanning.Modes.{BeginsAs, IsFirstUnit, IsScanned, first_mode, next_mode, run}
+use Rattle.omega_text.specs.hoa.scanning.Passing.{is_mark, is_quoted}
+use Rattle.omega_text.proofs.pg_texts.Longest.{head, head-take}
+use Rattle.omega_text.proofs.pg_texts.Numbers.{worth_small}
 use Rattle.omega_text.proofs.hoa_texts.Laws.{white_gap}
 use Rattle.omega_text.proofs.hoa_texts.Passing.{quoted_front}
 use Rattle.omega_text.proofs.hoa_texts.Runs.{run_append}
 use Rattle.omega_text.proofs.hoa_texts.Tests.{pass}
-use Rattle.omega_text.proofs.hoa_texts.Units.{first_plain, stuck_at, whole_stuck}
+use Rattle.omega_text.proofs.hoa_texts.Units.{digits_scanned, first_plain, first_read, stuck_at, whole_stuck}
+use Rattle.omega_text.proofs.hoa_texts.Values.{one_digit}
 use Rattle.omega_text.proofs.hoa_texts.Written.{at_run}
 
 -- each byte of a run passes
@@ -85,3 +90,39 @@ first_alias bytes rest count inside at is prefix some =
           ∙ prefix_len_stops is_word_byte (drop 1 bytes) 0 (omega (arith, inner, size, more))));
     } in
     first_plain bytes (1 + count) Alias scanned (Some AliasName) refl (ap is_digit at)
+
+-- a number of one digit
+pub first_digit_unit : (bytes : List ℕ) (value : ℕ) → 1 < length bytes → is_digit (head bytes) ≡ true → is_digit (get_or bytes 1 0) ≡ false → value ≡ head bytes - 48 → IsFirstUnit bytes (Some Int) value 1
+first_digit_unit bytes value long digit other is =
+    let some : 0 < length bytes = omega (arith, long) in
+    let count : prefix_len is_digit bytes ≡ 1 =
+    prefix_len_is is_digit bytes 1 0 (omega (arith, long)) (λ k below. let zeroth : 0 ≡ k = omega arith in subst (λ n. is_digit (get_or bytes n 0) ≡ true) zeroth digit) (λ _. other) in
+    let front : take 1 bytes ≡ head bytes ∷ [] = take_more bytes 0 0 some in
+    let small : head bytes - 48 ≤ most_number = omega (arith, worth_small (head bytes) digit) in
+    first_read bytes 1 Digits (digits_scanned bytes some digit 1 (sym count)) (Some Int) value refl
+    (subst (λ n. Spells Int n (take 1 bytes)) (sym is) (subst (Spells Int (head bytes - 48)) (sym front) ((one_digit (head bytes) digit).number small)))
+
+-- a mark
+mark_run : (kind : HoaKind) → is_mark kind ≡ true → run (Some Start) (spelling kind) ≡ Some (Whole kind)
+mark_run Body mark = refl
+mark_run End mark = refl
+mark_run Abort mark = refl
+mark_run kind mark = absurd (cc)
+
+mark_head : (kind : HoaKind) → is_mark kind ≡ true → (0 < length (spelling kind)) × (is_digit (head (spelling kind)) ≡ false)
+mark_head Body mark = (omega arith, refl)
+mark_head End mark = (omega arith, refl)
+mark_head Abort mark = (omega arith, refl)
+mark_head kind mark = absurd (cc)
+
+pub first_mark : (bytes : List ℕ) (kind : HoaKind) → is_mark kind ≡ true → BeginsAs bytes (spelling kind) → IsFirstUnit bytes (Some kind) 0 (length (spelling kind))
+first_mark bytes kind mark begins =
+    let count = length (spelling kind) in
+    let first = mark_head kind mark in
+    let scanned : IsScanned bytes count (Whole kind) = record {
+      within = begins.within;
+      reached = ap (run (Some Start)) begins.same ∙ mark_run kind mark;
+      stuck = whole_stuck kind (drop count bytes);
+    } in
+    first_plain bytes count (Whole kind) scanned (Some kind) refl
+    (ap is_digit (sym (head-take count bytes first.0) ∙ ap head begins.same) ∙ first.1)

@@ -244,6 +244,11 @@ fn pass_digits(bytes: &[u8], place: usize, start: usize) -> Simple
     requires digit { is_digit (slice_index bytes.now place) ≡ true }
     ensures { IsSimple start bytes.now place result }
 {
+    let next = place + 1;
+    if next < bytes.len() && is_single(bytes[next]) {
+        // Most numbers have one digit.
+        return Simple::Ended { place: next + 1 };
+    }
     let (count, value) = front_value(tail(bytes, place));
     let end = place + count;
     if end < bytes.len() && value <= MOST_NUMBER as u64 && is_single(bytes[end]) {

@@ -1,10 +1,11 @@
-ghost use Rattle.std.specs.Prelude.{◌≡◌, ◌<◌, ◌≤◌, ◌^◌, length, slice_index, true, false, IfErr, IfOk, IfSome};
+ghost use Rattle.std.specs.Prelude.{◌≡◌, ◌<◌, ◌≤◌, ◌^◌, length, slice_index, true, false, Some, IfErr, IfOk, IfSome, IsTrue};
 ghost use Rattle.omega_text.specs.hoa.Fault.{IsFaultOf};
-ghost use Rattle.omega_text.specs.hoa.scanning.Modes.{IsFirstUnit, IsScanned};
+ghost use Rattle.omega_text.specs.hoa.scanning.Modes.{BeginsAs, IsFirstUnit, IsScanned};
+ghost use Rattle.omega_text.specs.hoa.Forms.{spelling};
 ghost use Rattle.omega_text.specs.Bytes.{is_digit, is_letter};
 
 use super::kept_mode::KeptMode;
-use super::kind::HoaKind;
+use super::kind::{HoaKind, spelling};
 use super::lead::{Lead, lead_of};
 use super::mode::{Mode, letter_kind};
 use super::quoted::quoted_count;
@@ -36,6 +37,8 @@ pub(crate) fn first_unit(bytes: &[u8], place: usize) -> Result<Unit, TextFault>
         Ok(unit)
     } else if first.is_ascii_digit() {
         first_number(bytes, place)
+    } else if let Some(unit) = first_mark(bytes) {
+        Ok(unit)
     } else {
         other_unit(bytes, place)
     }
@@ -123,6 +126,14 @@ fn plain_number(bytes: &[u8]) -> Option<Unit>
     requires digit { is_digit (slice_index bytes.now 0) ≡ true }
     ensures { IfSome result (λ unit. IsFirstUnit bytes.now unit.kind unit.value unit.count) }
 {
+    if bytes.len() > 1 && !bytes[1].is_ascii_digit() {
+        // Most numbers have one digit.
+        return Some(Unit {
+            kind: Some(HoaKind::Int),
+            value: u32::from(bytes[0] - b'0'),
+            count: 1,
+        });
+    }
     match first_number(bytes, 0) {
         Ok(unit) => Some(unit),
         Err(_) => None,
@@ -163,6 +174,42 @@ fn plain_alias(bytes: &[u8]) -> Option<Unit>
         value: 0,
         count: 1 + size,
     })
+}
+
+/// The mark that bytes begin with.
+fn first_mark(bytes: &[u8]) -> Option<Unit>
+    ensures { IfSome result (λ unit. IsFirstUnit bytes.now unit.kind unit.value unit.count) }
+{
+    if is_marked(bytes, HoaKind::Body) {
+        Some(mark(HoaKind::Body))
+    } else if is_marked(bytes, HoaKind::End) {
+        Some(mark(HoaKind::End))
+    } else if is_marked(bytes, HoaKind::Abort) {
+        Some(mark(HoaKind::Abort))
+    } else {
+        None
+    }
+}
+
+/// Whether bytes begin as a mark is written.
+fn is_marked(bytes: &[u8], kind: HoaKind) -> bool
+    ensures { IsTrue result → BeginsAs bytes.now (spelling kind) }
+{
+    let text = spelling(kind);
+    bytes.len() >= text.len() && &bytes[..text.len()] == text
+}
+
+/// A mark as a unit.
+fn mark(kind: HoaKind) -> Unit
+    ensures kind { result.kind ≡ Some kind }
+    ensures value { result.value ≡ 0 }
+    ensures count { result.count ≡ length (spelling kind) }
+{
+    Unit {
+        kind: Some(kind),
+        value: 0,
+        count: spelling(kind).len(),
+    }
 }
 
 /// Any other unit, byte by byte.
