@@ -69,12 +69,12 @@ fn word_of(nodes: &[LabelNode], found: &Mentioned, block: u64) -> u64
 }
 
 /// The same, where so many words stand at once at most.
-fn word_within<const ROOM: usize>(nodes: &[LabelNode], found: &Mentioned, block: u64) -> u64
-    requires room { ROOM ≤ 256 }
-    requires enough { peak 0 nodes.now ≤ ROOM }
+fn word_within<const MOST: usize>(nodes: &[LabelNode], found: &Mentioned, block: u64) -> u64
+    requires room { MOST ≤ 256 }
+    requires enough { peak 0 nodes.now ≤ MOST }
     ensures { result ≡ top_word (words_behind (word_among block 0 found.now) [] nodes.now) }
 {
-    let mut words = Words::<ROOM>::new();
+    let mut words = Words::<MOST>::new();
     for node in nodes {
         match node {
             LabelNode::Constant(value) => words.push(if *value { u64::MAX } else { 0 }),

@@ -6,5 +6,5 @@ use Rattle.omega_acc.proofs.satisfying.word_within.Given as goal
 abbrev pub invariant-loop-node : goal.invariant-loop-node
 invariant-loop-node g l = record {
   rest : words_behind (word_among l.block 0 l.found) l.words (drop l.node-index l.nodes) ≡ words_behind (word_among l.block 0 l.found) [] l.nodes;
-  room : peak (length l.words) (drop l.node-index l.nodes) ≤ g.row.ROOM;
+  room : peak (length l.words) (drop l.node-index l.nodes) ≤ g.row.MOST;
 }
