@@ -4,12 +4,14 @@
 #![tactic(auto)]
 
 mod components;
+mod filled_words;
 mod nested;
 mod numbers;
 mod pace;
 pub mod rank_set;
 mod ranking;
 
+pub use filled_words::{FilledWords, least_from};
 pub use numbers::numbers_below;
 pub use omega_game::Game;
 pub use pace::Pace;

@@ -39,25 +39,3 @@ pub fn remove(words: &mut [u64], rank: usize)
 {
     words[rank / 64] &= !(1 << (rank % 64));
 }
-
-/// The least rank of the set from a rank on. Whoever uses it tests that it is in the set.
-#[inline(always)]
-pub fn least_from(words: &[u64], from: usize) -> Option<usize>
-    requires { length words.now < 2 ^ 32 }
-{
-    let first = from / 64;
-    if first >= words.len() {
-        return None;
-    }
-    let rest = words[first] & (u64::MAX << (from % 64));
-    if rest != 0 {
-        return Some(first * 64 + rest.trailing_zeros() as usize);
-    }
-    for index in first + 1..words.len() {
-        let word = words[index];
-        if word != 0 {
-            return Some(index * 64 + word.trailing_zeros() as usize);
-        }
-    }
-    None
-}

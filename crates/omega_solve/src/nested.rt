@@ -4,8 +4,8 @@ ghost use Rattle.omega_solve.specs.schedules.Nested.{HasBits, IsEmpty, IsPlaceAt
 
 use crate::schedule::Schedule;
 use omega_measure::{Game, Refusal};
-use omega_order::rank_set::{all_ranks, contains, insert, least_from, remove};
-use omega_order::{Pace, Ranking};
+use omega_order::rank_set::{all_ranks, contains, insert, remove};
+use omega_order::{FilledWords, Pace, Ranking, least_from};
 use std::alloc::Global;
 use std::marker::Model;
 
@@ -15,12 +15,14 @@ use std::marker::Model;
 /// up to 64 times in a sweep, in focus as long as that goes on.
 ///
 /// `prepare` knows no game: there the places are in rising order. For n nodes and m edges `prepare_for` costs near
-/// 3 (n + m), looking may pass over n / 64 words, and the rest is done in a few steps.
+/// 3 (n + m), looking may pass over n / 4096 words, and the rest is done in a few steps.
 #[derive(Drop)]
 pub struct Nested {
     ranking: Ranking,
     /// The ranks of the pending places.
     pending: Vec<u64>,
+    /// Which words of these are not empty.
+    filled: FilledWords,
     taken: u64,
     pace: Pace,
 }
@@ -43,6 +45,7 @@ impl Schedule for Nested {
         Ok(Nested {
             ranking: Ranking::rising(alloc, n)?,
             pending: all_ranks(alloc, n)?,
+            filled: FilledWords::all(alloc, n)?,
             taken: 0,
             pace: Pace::new(),
         })
@@ -52,6 +55,7 @@ impl Schedule for Nested {
         Ok(Nested {
             ranking: Ranking::nested(alloc, game)?,
             pending: all_ranks(alloc, game.len() as u32)?,
+            filled: FilledWords::all(alloc, game.len() as u32)?,
             taken: 0,
             pace: Pace::new(),
         })
@@ -59,10 +63,10 @@ impl Schedule for Nested {
 
     fn look(&self) -> Option<u32> {
         let places = &self.ranking.places;
-        if let Some(place) = pending_from(places, &self.pending, self.pace.cursor) {
+        if let Some(place) = pending_from(places, &self.pending, &self.filled, self.pace.cursor) {
             return Some(place);
         }
-        if let Some(place) = pending_from(places, &self.pending, self.pace.low) {
+        if let Some(place) = pending_from(places, &self.pending, &self.filled, self.pace.low) {
             return Some(place);
         }
         // That nothing is pending then is not claimed: it is looked up.
@@ -72,6 +76,7 @@ impl Schedule for Nested {
     fn take(&mut self, place: u32) {
         let rank = self.ranking.ranks[place as usize] as usize;
         remove(&mut self.pending, rank);
+        self.filled.note_removed(&self.pending, rank);
         self.taken += 1;
         self.pace.take(rank);
     }
@@ -91,18 +96,18 @@ impl Schedule for Nested {
     fn add(&mut self, place: u32) {
         let rank = self.ranking.ranks[place as usize] as usize;
         insert(&mut self.pending, rank);
+        self.filled.note_inserted(rank);
         self.pace.add(rank);
     }
 }
 
 /// The place of the least pending rank from a rank on, or none: whoever uses that looks at the others.
 #[inline(always)]
-fn pending_from(places: &[u32], pending: &[u64], from: usize) -> Option<u32>
+fn pending_from(places: &[u32], pending: &[u64], filled: &FilledWords, from: usize) -> Option<u32>
     requires bits { HasBits pending.now (length places.now) }
-    requires small { length pending.now < 2 ^ 32 }
     ensures { IfSome result (IsSomeRank places.now pending.now) }
 {
-    pending_at(places, pending, least_from(pending, from)?)
+    pending_at(places, pending, least_from(pending, filled, from)?)
 }
 
 /// The place of the least pending rank of all.
