@@ -152,8 +152,8 @@ fn other_texts_are_refused(rt: HostRuntime) {
 }
 
 fn is_edge(edge: &RawEdge) -> bool {
-    let marks = match &edge.marks {
-        Some(marks) => marks.as_slice() == [1, 1].as_slice(),
+    let marks = match edge.marks.as_slice() {
+        Some(marks) => marks == [1, 1].as_slice(),
         None => false,
     };
     marks && edge.label.is_none() && edge.targets.as_slice() == [2, 0].as_slice()
@@ -164,8 +164,8 @@ fn is_state(state: &RawState) -> bool {
         Some(name) => name.as_slice() == b"n\\\"".as_slice(),
         None => false,
     };
-    let marks = match &state.marks {
-        Some(marks) => marks.as_slice().is_empty(),
+    let marks = match state.marks.as_slice() {
+        Some(marks) => marks.is_empty(),
         None => false,
     };
     let edges = match state.edges.as_slice() {

@@ -1,5 +1,5 @@
 use omega_acc::RawLabel;
-use omega_text::Numbers;
+use omega_text::{Marks, Numbers};
 
 /// An edge as it is written (HOA v1, *Body*).
 #[derive(Debug, Drop)]
@@ -9,5 +9,5 @@ pub struct RawEdge {
     /// The states that are joined by `&`, at least one.
     pub targets: Numbers,
     /// The sets between braces in the order written, repeats kept, or none where no braces stand. `{}` differs from none.
-    pub marks: Option<Numbers>,
+    pub marks: Marks,
 }

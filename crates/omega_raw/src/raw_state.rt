@@ -1,6 +1,6 @@
 use crate::raw_edge::RawEdge;
 use omega_acc::RawLabel;
-use omega_text::{Numbers, Seq};
+use omega_text::{Marks, Seq};
 
 /// A state of a body as it is written, with its edges (HOA v1, *Body*).
 #[derive(Debug, Drop)]
@@ -12,7 +12,7 @@ pub struct RawState {
     /// The bytes of the name between its quotes, as they are, or none. An empty name differs from none.
     pub name: Option<Seq<u8>>,
     /// The sets between braces in the order written, repeats kept, or none where no braces stand. `{}` differs from none.
-    pub marks: Option<Numbers>,
+    pub marks: Marks,
     /// The edges in the order written.
     pub edges: Seq<RawEdge>,
 }

@@ -8,6 +8,7 @@ pub mod Forms
 pub mod Left
 pub mod Lexeme
 pub mod Limits
+pub mod Marks
 pub mod Numbers
 pub mod Reading
 pub mod Refusal

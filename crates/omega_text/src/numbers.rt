@@ -12,12 +12,12 @@ const MOST_IN_PLACE: u8 = 3;
 /// Lists of marks and of targets are nearly always so short: they take 16 bytes, where a vector takes 24 and an allocation.
 #[derive(Debug, Drop)]
 pub struct Numbers {
-    held: Held,
+    pub(crate) held: Held,
 }
 
 /// Where the numbers stand.
 #[derive(Debug, Drop)]
-enum Held {
+pub(crate) enum Held {
     /// In place: the first so many of the values.
     Short { count: u8, values: [u32; 3] },
     /// In memory.

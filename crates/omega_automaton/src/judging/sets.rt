@@ -8,7 +8,7 @@ use crate::judging::body::BodyFound;
 use crate::judging::counts::Counts;
 use crate::judging::states::any_beyond;
 use omega_raw::{RawAutomaton, RawItem};
-use omega_text::Numbers;
+use omega_text::Marks;
 
 /// Whether a mark of a state or an edge, or a set of an acceptance, is not below the count of sets (refusal 25).
 #[tactic(auto, unfolding(crate::specs::Faults::has_set_out_of_range))]
@@ -62,11 +62,11 @@ fn accepted_beyond(item: &RawItem, count: u32) -> bool
 }
 
 /// Whether there are marks and one of them is not below a count.
-pub(crate) fn marks_beyond(marks: &Option<Numbers>, count: u32) -> bool
+pub(crate) fn marks_beyond(marks: &Marks, count: u32) -> bool
     ensures { result ≡ passes (list_any (nat_le count)) marks.now }
 {
-    match marks {
-        Some(marks) => any_beyond(marks.as_slice(), count),
+    match marks.as_slice() {
+        Some(sets) => any_beyond(sets, count),
         None => false,
     }
 }

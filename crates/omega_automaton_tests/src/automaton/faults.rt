@@ -1,7 +1,7 @@
 use crate::outcomes::{assert_row, number_of, outcome_of};
 use crate::texts::text_with;
 use omega_acc::RawAcc;
-use omega_automaton::{Numbers, RawAutomaton, Refusal, Seq, automaton_of};
+use omega_automaton::{Marks, Numbers, RawAutomaton, Refusal, Seq, automaton_of};
 use omega_raw::{RawEdge, RawItem, RawState};
 use std::alloc::Global;
 
@@ -152,7 +152,7 @@ fn edges_with(alloc: Global, targets: &[u32]) -> Result<Seq<RawEdge>, Refusal> {
     edges.push(RawEdge {
         label: None,
         targets: Numbers::from_slice(alloc, targets)?,
-        marks: None,
+        marks: Marks::absent(),
     })?;
     Ok(Seq::from_vec(edges))
 }
@@ -164,7 +164,7 @@ fn states_with(alloc: Global, targets: &[u32]) -> Result<Seq<RawState>, Refusal>
         label: None,
         number: 0,
         name: None,
-        marks: None,
+        marks: Marks::absent(),
         edges: edges_with(alloc, targets)?,
     })?;
     Ok(Seq::from_vec(states))

@@ -3,7 +3,7 @@ ghost use Rattle.omega_raw.specs.Grammar.{IsEdge, edge_row};
 ghost use Rattle.omega_raw.specs.steps.Parts.{EndsEdge, is_edge};
 
 use crate::body::guard::Guard;
-use crate::body::sig::Sig;
+use crate::body::sig::read_marks;
 use crate::conj::conj;
 use crate::part::{Part, read_if};
 use crate::raw_edge::RawEdge;
@@ -31,7 +31,7 @@ impl<'a, S: TokenSource<'a, HoaKind>> Part<'a, S> for Edge {
     fn read(alloc: Global, source: &mut S) -> Result<RawEdge, Refusal> {
         let label = read_if::<Guard, S>(alloc, source)?;
         let targets = conj(alloc, source)?;
-        let marks = read_if::<Sig, S>(alloc, source)?;
+        let marks = read_marks(alloc, source)?;
         Ok(RawEdge {
             label,
             targets,

@@ -1,16 +1,17 @@
-ghost use Rattle.std.specs.Prelude.{refl};
-ghost use Rattle.omega_raw.specs.Grammar.{sig_row};
+ghost use Rattle.std.specs.Prelude.{IfErr, IfSome, refl};
+ghost use Rattle.omega_raw.specs.Grammar.{optional, sig_row};
+ghost use Rattle.omega_raw.specs.Symbols.{FirstIs};
 ghost use Rattle.omega_raw.specs.steps.Parts.{is_brace};
-ghost use Rattle.omega_raw.specs.steps.Reading.{IsAny, IsKind};
+ghost use Rattle.omega_raw.specs.steps.Reading.{EndsList, Finds, Gives, IsAny, IsKind, IsRefusal};
 
-use crate::part::{Part, read_numbers};
+use crate::part::{Part, read_if, read_numbers};
 use crate::single::Int;
 use crate::taking::take_sign;
-use omega_text::{HoaKind, Numbers, Refusal, TokenSource};
+use omega_text::{HoaKind, Marks, Numbers, Refusal, TokenSource};
 use std::alloc::Global;
 
 /// The sets of a state or an edge, between braces.
-pub(crate) struct Sig;
+struct Sig;
 
 impl<'a, S: TokenSource<'a, HoaKind>> Part<'a, S> for Sig {
     type Value = Numbers;
@@ -37,4 +38,20 @@ impl<'a, S: TokenSource<'a, HoaKind>> Part<'a, S> for Sig {
     ghost begun = { λ it others valid. refl };
 
     ghost follows = { λ kind is. tt };
+}
+
+/// Reads the sets of a state or an edge, if braces stand there.
+pub(crate) fn read_marks<'a, S: TokenSource<'a, HoaKind>>(
+    alloc: Global,
+    source: &mut S,
+) -> Result<Marks, Refusal>
+    ensures gives { Gives (λ it. IfSome it IsAny) (optional sig_row) (S.left source.old) (S.left source.new) result }
+    ensures finds { Finds (λ it. IfSome it IsAny) (optional sig_row) (FirstIs (EndsList is_brace IsKind)) (S.left source.old) (S.left source.new) result }
+    ensures err { IfErr result IsRefusal }
+{
+    let sets = read_if::<Sig, S>(alloc, source)?;
+    Ok(match sets {
+        Some(sets) => Marks::of(sets),
+        None => Marks::absent(),
+    })
 }

@@ -4,7 +4,7 @@ ghost use Rattle.omega_raw.specs.steps.Parts.{EndsState, is_header};
 
 use crate::body::edge::Edge;
 use crate::body::guard::Guard;
-use crate::body::sig::Sig;
+use crate::body::sig::read_marks;
 use crate::part::{Part, read_each, read_if};
 use crate::raw_state::RawState;
 use crate::single::Quoted;
@@ -35,7 +35,7 @@ impl<'a, S: TokenSource<'a, HoaKind>> Part<'a, S> for State {
         let label = read_if::<Guard, S>(alloc, source)?;
         let number = take_int(source)?;
         let name = read_if::<Quoted, S>(alloc, source)?;
-        let marks = read_if::<Sig, S>(alloc, source)?;
+        let marks = read_marks(alloc, source)?;
         let edges = read_each::<Edge, S>(alloc, source)?;
         Ok(RawState {
             label,

@@ -1,0 +1,17 @@
+-- The sets of a state or an edge as they are written: which list it is, none where no braces stand, and how many stand in
+-- place.
+use Rattle.std.specs.Prelude.{ℕ, ◌≤◌, List, Option, None, Some, take}
+use Rattle.omega_text.specs.declared.marks.Written.{Written}
+use Rattle.omega_text.specs.declared.marks.Written.TheVariants.{Absent, Short, Long}
+
+-- the sets, wherever they stand
+abbrev pub marks_in : Written → Option (List ℕ)
+marks_in Absent = None
+marks_in (Short count values) = Some (take count values)
+marks_in (Long numbers) = Some numbers.value.items
+
+-- there is room in place for so many
+abbrev pub fits : Written → Type 0
+fits Absent = Unit {0}
+fits (Short count values) = count ≤ 3
+fits (Long numbers) = Unit {0}

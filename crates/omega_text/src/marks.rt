@@ -1,0 +1,84 @@
+ghost use Rattle.std.specs.Prelude.{◌≡◌, None, Some, option_map};
+
+use crate::numbers::{Held, Numbers};
+use std::marker::Model;
+
+/// The sets of a state or an edge as they are written, or none where no braces stand. Contracts see an optional list.
+///
+/// It takes 16 bytes, as `Numbers` does, where an `Option<Numbers>` takes 24.
+#[derive(Debug, Drop)]
+pub struct Marks {
+    written: Written,
+}
+
+/// Where the sets stand, if braces do.
+#[derive(Debug, Drop)]
+enum Written {
+    /// No braces stand.
+    Absent,
+    /// In place: the first so many of the values.
+    Short { count: u8, values: [u32; 3] },
+    /// In memory.
+    Long(Box<Vec<u32>>),
+}
+
+const _: () = prove!(std::mem::size_of::<Marks>() <= 16);
+
+impl Model for Marks {
+    ghost use Rattle.std.specs.Prelude.{List, Option, ℕ};
+    ghost use Rattle.omega_text.specs.Marks.{fits, marks_in};
+
+    ghost Value = { Option (List ℕ) };
+
+    ghost view = { λ m. marks_in m.written };
+
+    ghost invariant = { λ m. fits m.written };
+}
+
+impl Marks {
+    /// The marks where no braces stand.
+    pub fn absent() -> Self
+        ensures { result ≡ None }
+    {
+        Marks {
+            written: Written::Absent,
+        }
+    }
+
+    /// These sets between braces.
+    pub fn of(sets: Numbers) -> Self
+        ensures { result ≡ Some sets }
+    {
+        let written = match sets.held {
+            Held::Short { count, values } => Written::Short { count, values },
+            Held::Long(numbers) => Written::Long(numbers),
+        };
+        Marks { written }
+    }
+
+    /// The sets between the braces, if braces stand.
+    pub fn into_numbers(self) -> Option<Numbers>
+        ensures { result ≡ self }
+    {
+        match self.written {
+            Written::Absent => None,
+            Written::Short { count, values } => Some(Numbers {
+                held: Held::Short { count, values },
+            }),
+            Written::Long(numbers) => Some(Numbers {
+                held: Held::Long(numbers),
+            }),
+        }
+    }
+
+    /// The sets between the braces, none where no braces stand.
+    pub fn as_slice(&self) -> Option<&[u32]>
+        ensures { option_map (λ sets. sets.now) result ≡ self.now }
+    {
+        match &self.written {
+            Written::Absent => None,
+            Written::Short { count, values } => Some(&values[..*count as usize]),
+            Written::Long(numbers) => Some(numbers.as_slice()),
+        }
+    }
+}
