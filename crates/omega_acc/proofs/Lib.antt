@@ -8,6 +8,7 @@ pub mod BareLemmas
 pub mod BelowLemmas
 pub mod BuchiLemmas
 pub mod ChainLemmas
+pub mod CodeLemmas
 pub mod EmitLemmas
 pub mod EntryLemmas
 pub mod ExpansionLemmas

@@ -68,7 +68,7 @@ AreOf-disjunction left right one other both all these those names is_left is_rig
     record { flat = cc; named = cc }
 
 -- the nodes and names of two parts and an operator
-AreOf-joined : (operator : LabelNode) (left right : RawLabelTree) (one other all : List LabelNode) (these those names : List ℕ) → IsJoining operator
+pub AreOf-joined : (operator : LabelNode) (left right : RawLabelTree) (one other all : List LabelNode) (these those names : List ℕ) → IsJoining operator
     → AreOf left one these → AreOf right other those → all ≡ (one ++ other) ++ operator ∷ [] → names ≡ these ++ those
     → AreOf (joined_by operator left right) all names
 AreOf-joined (Constant value) left right one other all these those names joins is_left is_right ended named = absurd joins
@@ -80,15 +80,6 @@ AreOf-joined And left right one other all these those names joins is_left is_rig
     AreOf-conjunction left right one other (one ++ other) all these those names is_left is_right refl ended named
 AreOf-joined Or left right one other all these those names joins is_left is_right ended named =
     AreOf-disjunction left right one other (one ++ other) all these those names is_left is_right refl ended named
-
--- the same of what was taken apart, appended and put together again
-pub AreOf-appended : (operator : LabelNode) (left right : RawLabelTree) (one other first second all made : List LabelNode) (these those before more names last : List ℕ)
-    → IsJoining operator → AreOf left one these → AreOf right other those → first ≡ one → before ≡ these → second ≡ other → more ≡ those
-    → all ≡ (first ++ second) ++ operator ∷ [] → names ≡ before ++ more → made ≡ all → last ≡ names → AreOf (joined_by operator left right) made last
-AreOf-appended operator left right one other first second all made these those before more names last joins is_left is_right opened opened_names lent lent_names flat named closed closed_names =
-    let nodes : made ≡ (one ++ other) ++ operator ∷ [] = cc in
-    let names_last : last ≡ these ++ those = cc in
-    AreOf-joined operator left right one other made these those last joins is_left is_right nodes names_last
 
 -- an operator has one more than its deeper part
 pub joined_deep : (operator : LabelNode) (left right : RawLabelTree) → raw_depth (joined_by operator left right) ≡ max (raw_depth left) (raw_depth right) + 1

@@ -5,9 +5,9 @@ use Rattle.std.proofs.lemmas.Nat.Bits.{bit_at-trailing_zeros, bit_at-lt, bit_at-
 use Rattle.omega_acc.specs.Label.{LabelTree, conjunction, constant, disjunction, label_depth, negation, proposition, propositions, truth}
 use Rattle.omega_acc.specs.layout.Joins.{regrouped}
 use Rattle.omega_acc.specs.layout.Label.{postfix}
-use Rattle.omega_acc.specs.layout.Words.{height_with, ones, peak, propositions_of, word_of, word_of_truth, top_word, words_behind}
+use Rattle.omega_acc.specs.layout.Words.{height_with, ones, peak, propositions_of, word_of, word_of_truth, top_word, words_behind, words_below}
 use Rattle.omega_acc.specs.declared.label.LabelNode.{LabelNode}
-use Rattle.omega_acc.specs.declared.label.LabelNode.TheVariants.{And, Not, Or}
+use Rattle.omega_acc.specs.declared.label.LabelNode.TheVariants.{Alias, And, Constant, Group, Not, Or, Proposition}
 
 -- ---- nodes
 
@@ -61,15 +61,39 @@ peak-postfix (disjunction left right) height rest =
 pub peak-label : (tree : LabelTree) → label_depth tree ≤ 256 → peak 0 (postfix tree) ≤ 256
 peak-label tree shallow = omega (arith, ap (peak 0) (append-nil (postfix tree)), peak-postfix tree 0 [])
 
+-- the height grows by no more than one for each node
+pub peak-short : (height : ℕ) (nodes : List LabelNode) → peak height nodes ≤ height + length nodes
+peak-short height [] = omega arith
+peak-short height (Constant value ∷ nodes) = omega (arith, peak-short (height + 1) nodes)
+peak-short height (Proposition number ∷ nodes) = omega (arith, peak-short (height + 1) nodes)
+peak-short height (Not ∷ nodes) = omega (arith, peak-short (height - 1 + 1) nodes)
+peak-short height (And ∷ nodes) = omega (arith, peak-short (height - 1 - 1 + 1) nodes)
+peak-short height (Or ∷ nodes) = omega (arith, peak-short (height - 1 - 1 + 1) nodes)
+peak-short height (Alias count ∷ nodes) = omega (arith, peak-short height nodes)
+peak-short height (Group ∷ nodes) = omega (arith, peak-short height nodes)
+
 -- a height is no higher than the peak from it on
 pub peak-from : (height : ℕ) (nodes : List LabelNode) → height ≤ peak height nodes
 peak-from height [] = omega arith
 peak-from height (next ∷ nodes) = omega arith
 
+-- so there is room for the words behind each node
+pub peak-grown : (room height : ℕ) (nodes : List LabelNode) (place : ℕ) (node d : LabelNode) → place < length nodes → get_or nodes place d ≡ node
+    → peak height (drop place nodes) ≤ room → height_with height node ≤ room
+peak-grown room height nodes place node d within here fits =
+    let split = ap (peak height) (drop-cons nodes place d within) in
+    let next = ap (λ other. max height (peak (height_with height other) (drop (suc place) nodes))) here in
+    omega (arith, split, next, peak-from (height_with height node) (drop (suc place) nodes))
+
+-- a word is taken, if there is one
+pub length-below : (words : List ℕ) → length (words_below words) ≡ length words - 1
+length-below [] = refl
+length-below (word ∷ words) = omega arith
+
 -- there is room for the word of an atom
-pub peak-atom : (height : ℕ) (nodes : List LabelNode) (place : ℕ) (atom d : LabelNode) → place < length nodes → get_or nodes place d ≡ atom
-    → height_with height atom ≡ height + 1 → peak height (drop place nodes) ≤ 256 → height < 256
-peak-atom height nodes place atom d within here grows room =
+pub peak-atom : (room height : ℕ) (nodes : List LabelNode) (place : ℕ) (atom d : LabelNode) → place < length nodes → get_or nodes place d ≡ atom
+    → height_with height atom ≡ height + 1 → peak height (drop place nodes) ≤ room → height < room
+peak-atom room height nodes place atom d within here grows fits =
     let split = ap (peak height) (drop-cons nodes place d within) in
     let next = ap (λ node. max height (peak (height_with height node) (drop (suc place) nodes))) here in
     let higher = ap (λ h. peak h (drop (suc place) nodes)) grows in

@@ -5,6 +5,7 @@ ghost use Rattle.omega_acc.specs.Depth.{IsMemory};
 ghost use Rattle.omega_acc.specs.Expanding.{IsAdded, IsBodyAt, IsRepeated, entries_of, expansion, place_among};
 ghost use Rattle.omega_acc.specs.layout.Extents.{extent_named, extent_of};
 
+use crate::codes::ROOM;
 use crate::extents::{Extent, Extents, atom, bare, both, in_parentheses, negated};
 use crate::label::LabelNode;
 use crate::raw_label::RawLabel;
@@ -113,7 +114,9 @@ impl Aliases {
     {
         let mut stack = Extents::new(alloc);
         let mut names = raw.names();
-        for node in raw.nodes() {
+        let mut room = ROOM;
+        let nodes = raw.nodes(&mut room);
+        for node in nodes {
             let extent = match node {
                 LabelNode::Constant(_) | LabelNode::Proposition(_) => atom(),
                 LabelNode::Alias(count) => {

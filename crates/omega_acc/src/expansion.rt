@@ -4,6 +4,7 @@ ghost use Rattle.omega_acc.specs.Expanding.{IsExpanded, IsExpansion, IsUnexpande
 ghost use Rattle.omega_acc.specs.layout.Emitting.{nodes_of};
 
 use crate::aliases::{Aliases, behind, front};
+use crate::codes::ROOM;
 use crate::label::{Label, LabelNode};
 use crate::limits::{MOST_DEPTH, MOST_SIZE};
 use crate::raw_label::RawLabel;
@@ -48,7 +49,7 @@ fn replace_aliases(
 {
     let mut nodes = Vec::with_capacity(alloc, size as usize)?;
     emit(aliases, raw, aliases.len(), &mut nodes)?;
-    Ok(Label::of_nodes(nodes))
+    Label::of_nodes(alloc, nodes)
 }
 
 /// How many tree nodes a label has once expanded, with the refusals of `expand` and nothing copied.
@@ -95,7 +96,9 @@ fn emit(
         start: 0,
         end: 0,
     };
-    for node in raw.nodes() {
+    let mut room = ROOM;
+    let nodes = raw.nodes(&mut room);
+    for node in nodes {
         match node {
             LabelNode::Constant(value) => out.push(LabelNode::Constant(*value))?,
             LabelNode::Proposition(number) => out.push(LabelNode::Proposition(*number))?,

@@ -1,47 +1,50 @@
-ghost use Rattle.std.specs.Prelude.{◌≡◌, ◌≤◌};
+ghost use Rattle.std.specs.Prelude.{◌≡◌, ◌≤◌, IfErr, IfOk};
+ghost use Rattle.omega_acc.specs.Depth.{IsMemory};
 
-use omega_text::Seq;
+use crate::codes::ROOM;
+use crate::compact::Compact;
+use crate::notation::Notation;
+use omega_text::{Refusal, Seq};
+use std::alloc::Global;
 use std::marker::Model;
 
 /// A node of a label, expanded or as it is written. Its parts stand before it; of an alias it has the length of the name.
 ///
 /// Both kinds of labels have the same nodes, so that one without aliases is expanded in the memory that it has.
-#[derive(Clone, Copy, Debug, PartialEq, Eq)]
+#[derive(Clone, Copy, Debug, Default, PartialEq, Eq)]
 pub(crate) enum LabelNode {
     Constant(bool),
     Proposition(u32),
     Alias(u32),
     Not,
+    #[default]
     And,
     Or,
     Group,
 }
 
-/// A label without aliases and parentheses, at most 256 deep, in one allocation.
+/// A label without aliases and parentheses, at most 256 deep.
 ///
-/// Contracts see its tree. Reading, comparing and dropping it need no recursion.
-#[derive(Debug, PartialEq, Eq, Drop)]
+/// Contracts see its tree. Reading, comparing and dropping it need no recursion. It takes 24 bytes, and memory only where it has
+/// a proposition from 250 on or over 21 atoms and operators.
+#[derive(Debug, Drop)]
 pub struct Label {
-    nodes: Seq<LabelNode>,
+    written: Compact,
 }
+
+const _: () = prove!(std::mem::size_of::<Label>() <= 24);
 
 impl Model for Label {
     ghost use Rattle.omega_acc.specs.Label.{LabelTree};
-    ghost use Rattle.omega_acc.specs.layout.Label.{IsLabel, label_code, postfix, tree_of};
+    ghost use Rattle.omega_acc.specs.layout.Label.{IsLabel, label_code, tree_of};
 
     ghost Value = { LabelTree };
 
     ghost coded = { label_code };
 
-    ghost use Rattle.omega_acc.specs.layout.LabelFields.{label_given_back};
+    ghost view = { λ a. tree_of a.written.nodes };
 
-    ghost view = { λ a. tree_of a.nodes };
-
-    ghost invariant = { λ a. IsLabel a.nodes };
-
-    ghost inverse = { λ tree. record { nodes = postfix tree } };
-
-    ghost inverse_ok = { label_given_back };
+    ghost invariant = { λ a. IsLabel a.written.nodes };
 }
 
 impl Label {
@@ -53,24 +56,64 @@ impl Label {
     pub fn size(&self) -> usize
         ensures { result ≡ label_size self.now }
     {
-        self.nodes.len()
+        self.written.len()
     }
 
     /// The label of nodes in postfix order.
-    pub(crate) fn of_nodes(nodes: Vec<LabelNode>) -> Label
+    pub(crate) fn of_nodes(alloc: Global, nodes: Vec<LabelNode>) -> Result<Label, Refusal>
         requires { IsLabel nodes.items }
-        ensures { result ≡ tree_of nodes.items }
+        ensures ok { IfOk result (λ label. label ≡ tree_of nodes.items) }
+        ensures err { IfErr result IsMemory }
     {
-        Label {
+        let notation = Notation {
             nodes: Seq::from_vec(nodes),
-        }
+            names: Seq::new(alloc),
+            depth: 0,
+        };
+        Ok(Label::of_written(Compact::of(alloc, notation)?))
     }
 
-    /// Its nodes, parts before their operators.
-    pub(crate) fn nodes(&self) -> &[LabelNode]
+    /// The label of what is written without aliases and parentheses; its depth there is not used.
+    pub(crate) fn of_written(written: Compact) -> Label
+        requires { IsLabel written.nodes }
+        ensures { result ≡ tree_of written.nodes }
+    {
+        Label { written }
+    }
+
+    /// Its nodes, parts before their operators, in the room where they stand in place.
+    pub(crate) fn nodes<'a>(&'a self, room: &'a mut [LabelNode; 21]) -> &'a [LabelNode]
         ensures nodes { result.now ≡ postfix self.now }
         ensures shallow { label_depth self.now ≤ most_depth }
     {
-        self.nodes.as_slice()
+        self.written.nodes(room)
     }
+}
+
+impl PartialEq for Label {
+    ghost use Rattle.std.specs.Cmp.Lexicographic.{pointwise};
+    ghost use Rattle.std.specs.Cmp.Rules.{comparing};
+    ghost use Rattle.std.specs.Ordering.{on};
+    ghost use Rattle.std.proofs.Common.{rules};
+    ghost use Rattle.omega_acc.specs.contracts.label.LabelNodePartialEq.TheImpl as node;
+    ghost use Rattle.omega_acc.specs.contracts.label.LabelNodePartialEq.TheImpl.Laws.{laws-law};
+    ghost use Rattle.omega_acc.specs.layout.Label.{postfix};
+
+    ghost eq = { on postfix (pointwise node.ghosts.eq) };
+
+    ghost laws = { Prim.search (comparing, rules, laws-law) };
+
+    fn eq(&self, other: &Label) -> bool {
+        let mut room = ROOM;
+        let mut room_of_other = ROOM;
+        self.nodes(&mut room) == other.nodes(&mut room_of_other)
+    }
+}
+
+impl Eq for Label {
+    ghost use Rattle.std.specs.Cmp.Rules.{comparing};
+    ghost use Rattle.std.proofs.Common.{rules};
+    ghost use Rattle.omega_acc.specs.contracts.label.LabelNodeEq.TheImpl.Laws.{laws-law};
+
+    ghost laws = { Prim.search (comparing, rules, laws-law) };
 }

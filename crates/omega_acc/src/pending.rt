@@ -2,22 +2,24 @@ ghost use Rattle.std.specs.Prelude.{◌≡◌, ◌∷◌, [], IfErr, OnOk, Match
 ghost use Rattle.omega_acc.specs.Depth.{IsMemory};
 
 use omega_text::Refusal;
+use smallvec::SmallVec;
 use std::alloc::Global;
 use std::marker::Model;
 
 /// What waits for a part to stand behind it; an operator keeps the depth of its left part.
-#[derive(Clone, Copy)]
+#[derive(Clone, Copy, Default)]
 pub(crate) enum Pending {
+    #[default]
     Open,
     Not,
     And(u32),
     Or(u32),
 }
 
-/// What waits, the last on top.
+/// What waits, the last on top. Up to eight take no memory.
 #[derive(Drop)]
 pub(crate) struct PendingStack {
-    items: Vec<Pending>,
+    items: SmallVec<Pending, 8>,
 }
 
 impl Model for PendingStack {
@@ -35,7 +37,7 @@ impl PendingStack {
         ensures { result ≡ [] }
     {
         PendingStack {
-            items: Vec::new(alloc),
+            items: SmallVec::new(alloc),
         }
     }
 

@@ -5,45 +5,39 @@ ghost use Rattle.omega_acc.specs.RawLabel.{alias as alias_tree, conjunction, con
 ghost use Rattle.omega_acc.specs.Depth.{IsDeeper, IsMemory, counted};
 ghost use Rattle.omega_acc.specs.Limits.{most_depth};
 ghost use Rattle.omega_acc.specs.layout.Bare.{bare, is_alias, is_bare};
-ghost use Rattle.omega_acc.specs.layout.Propositions.{proposition_below};
 ghost use Rattle.omega_acc.specs.layout.Joining.{IsJoining, joined_by};
 
+use crate::codes::ROOM;
+use crate::compact::Compact;
 use crate::depth::deeper;
 use crate::label::{Label, LabelNode};
 use crate::limits::MOST_DEPTH;
-use crate::postfix::{alone, append, with_one};
-use omega_text::{Refusal, Seq};
+use omega_text::Refusal;
 use std::alloc::Global;
 use std::marker::Model;
 
 /// A label as it is written, with alias names and parentheses, of any depth, where an alias name has depth 1.
 ///
-/// Contracts see its tree. Reading, measuring, comparing and dropping it need no recursion.
-#[derive(Debug, PartialEq, Eq, Drop)]
+/// Contracts see its tree. Reading, measuring, comparing and dropping it need no recursion. It takes 24 bytes, and memory only
+/// where it has an alias, a proposition from 250 on or over 21 atoms, operators and parentheses.
+#[derive(Debug, Drop)]
 pub struct RawLabel {
-    nodes: Seq<LabelNode>,
-    names: Seq<u8>,
-    depth: u32,
+    written: Compact,
 }
 
+const _: () = prove!(std::mem::size_of::<RawLabel>() <= 24);
+
 impl Model for RawLabel {
-    ghost use Rattle.omega_acc.specs.Depth.{counted};
-    ghost use Rattle.omega_acc.specs.RawLabel.{RawLabelTree, raw_depth};
-    ghost use Rattle.omega_acc.specs.layout.RawLabel.{IsRawLabel, alias_names, raw_label_code, raw_postfix, raw_tree_of};
+    ghost use Rattle.omega_acc.specs.RawLabel.{RawLabelTree};
+    ghost use Rattle.omega_acc.specs.layout.RawLabel.{IsRawLabel, raw_label_code, raw_tree_of};
 
     ghost Value = { RawLabelTree };
 
     ghost coded = { raw_label_code };
 
-    ghost use Rattle.omega_acc.specs.layout.RawLabelFields.{raw_label_given_back};
+    ghost view = { λ a. raw_tree_of a.written.nodes a.written.names };
 
-    ghost view = { λ a. raw_tree_of a.nodes a.names };
-
-    ghost invariant = { λ a. IsRawLabel a.nodes a.names a.depth };
-
-    ghost inverse = { λ tree. record { nodes = raw_postfix tree; names = alias_names tree; depth = counted (raw_depth tree) } };
-
-    ghost inverse_ok = { raw_label_given_back };
+    ghost invariant = { λ a. IsRawLabel a.written.nodes a.written.names a.written.depth };
 }
 
 impl RawLabel {
@@ -54,11 +48,8 @@ impl RawLabel {
         ensures ok { IfOk result (λ label. label ≡ constant_tree value) }
         ensures err { IfErr result IsMemory }
     {
-        Ok(RawLabel {
-            nodes: alone(alloc, LabelNode::Constant(value))?,
-            names: Seq::new(alloc),
-            depth: 1,
-        })
+        let nodes = [LabelNode::Constant(value)];
+        RawLabel::of_nodes(alloc, nodes.as_slice(), &[], 1)
     }
 
     /// A proposition by its number.
@@ -66,11 +57,8 @@ impl RawLabel {
         ensures ok { IfOk result (λ label. label ≡ proposition_tree number) }
         ensures err { IfErr result IsMemory }
     {
-        Ok(RawLabel {
-            nodes: alone(alloc, LabelNode::Proposition(number))?,
-            names: Seq::new(alloc),
-            depth: 1,
-        })
+        let nodes = [LabelNode::Proposition(number)];
+        RawLabel::of_nodes(alloc, nodes.as_slice(), &[], 1)
     }
 
     /// An alias by its name.
@@ -78,14 +66,8 @@ impl RawLabel {
         ensures ok { IfOk result (λ label. label ≡ alias_tree name.now) }
         ensures err { IfErr result IsMemory }
     {
-        let count = name_length(name)?;
-        let mut names = Vec::new(alloc);
-        names.extend_from_slice(name)?;
-        Ok(RawLabel {
-            nodes: alone(alloc, LabelNode::Alias(count))?,
-            names: Seq::from_vec(names),
-            depth: 1,
-        })
+        let nodes = [LabelNode::Alias(name_length(name)?)];
+        RawLabel::of_nodes(alloc, nodes.as_slice(), name, 1)
     }
 
     /// `!` before the label, which stands in parentheses only if it is a group. Refusal 32 where it would be too deep.
@@ -94,12 +76,9 @@ impl RawLabel {
         ensures shallow { IfOk result (λ label. raw_depth label ≤ most_depth) }
         ensures err { IfErr result (IsDeeper (most_depth ≤ raw_depth self)) }
     {
-        let depth = deeper(self.depth)?;
-        Ok(RawLabel {
-            nodes: with_one(self.nodes, LabelNode::Not)?,
-            names: self.names,
-            depth,
-        })
+        let depth = deeper(self.depth())?;
+        let written = self.written.with_one(LabelNode::Not, depth)?;
+        Ok(RawLabel { written })
     }
 
     /// The label in parentheses. Refusal 32 where it would be too deep.
@@ -108,12 +87,9 @@ impl RawLabel {
         ensures shallow { IfOk result (λ label. raw_depth label ≤ most_depth) }
         ensures err { IfErr result (IsDeeper (most_depth ≤ raw_depth self)) }
     {
-        let depth = deeper(self.depth)?;
-        Ok(RawLabel {
-            nodes: with_one(self.nodes, LabelNode::Group)?,
-            names: self.names,
-            depth,
-        })
+        let depth = deeper(self.depth())?;
+        let written = self.written.with_one(LabelNode::Group, depth)?;
+        Ok(RawLabel { written })
     }
 
     /// Both labels joined by `&`. Refusal 32 where they would be too deep.
@@ -141,56 +117,44 @@ impl RawLabel {
         ensures shallow { IfOk result (λ label. raw_depth label ≤ most_depth) }
         ensures err { IfErr result (IsDeeper (most_depth ≤ max (raw_depth self) (raw_depth other))) }
     {
-        let depth = deeper(self.depth.max(other.depth))?;
-        let mut nodes = self.nodes.into_vec();
-        let mut names = self.names.into_vec();
-        append(
-            &mut nodes,
-            &mut names,
-            other.nodes.as_slice(),
-            other.names.as_slice(),
-            operator,
-        )?;
-        Ok(RawLabel {
-            nodes: Seq::from_vec(nodes),
-            names: Seq::from_vec(names),
-            depth,
-        })
+        let depth = deeper(self.depth().max(other.depth()))?;
+        let written = self.written.joined(other.written, operator, depth)?;
+        Ok(RawLabel { written })
     }
 
     /// Its depth up to 256, and 257 where it is deeper.
     pub fn depth(&self) -> u32
         ensures { result ≡ counted (raw_depth self.now) }
     {
-        self.depth
+        self.written.depth()
     }
 
     /// Whether it is over 256 deep.
     pub fn is_too_deep(&self) -> bool
         ensures { IsTrue result ↔ (most_depth < raw_depth self.now) }
     {
-        self.depth > MOST_DEPTH
+        self.depth() > MOST_DEPTH
     }
 
     /// Whether its propositions, those of its aliases' definitions left out, are all below a count. Takes no memory.
     pub fn propositions_below(&self, count: u32) -> bool
         ensures { result ≡ list_all (λ number. nat_lt number count) (raw_propositions self.now) }
     {
-        all_propositions_below(self.nodes(), count)
+        self.written.propositions_below(count)
     }
 
     /// Whether an alias stands in it.
     pub(crate) fn has_alias(&self) -> bool
         ensures { result ≡ list_any is_alias (raw_postfix self.now) }
     {
-        any_alias(self.nodes())
+        self.written.has_alias()
     }
 
     /// How many atoms and operators it has, parentheses left out, where no alias stands in it.
     pub(crate) fn bare_size(&self) -> Option<usize>
         ensures { SomeIff result (list_any is_alias (raw_postfix self.now) ≡ false) (count_by is_bare (raw_postfix self.now)) }
     {
-        count_bare(self.nodes())
+        self.written.bare_size()
     }
 
     /// The label without its parentheses, in the memory that it has.
@@ -199,34 +163,66 @@ impl RawLabel {
         requires shallow { raw_depth self ≤ most_depth }
         ensures { result ≡ bare self }
     {
-        Label::of_nodes(bare_nodes(self.nodes.into_vec()))
+        Label::of_written(self.written.without_parentheses())
     }
 
     /// The label of nodes in postfix order, alias names and a depth.
-    pub(crate) fn of_nodes(nodes: Vec<LabelNode>, names: Vec<u8>, depth: u32) -> RawLabel
-        requires { IsRawLabel nodes.items names.items depth }
-        ensures { result ≡ raw_tree_of nodes.items names.items }
+    pub(crate) fn of_nodes(
+        alloc: Global,
+        nodes: &[LabelNode],
+        names: &[u8],
+        depth: u32,
+    ) -> Result<RawLabel, Refusal>
+        requires { IsRawLabel nodes.now names.now depth }
+        ensures ok { IfOk result (λ label. label ≡ raw_tree_of nodes.now names.now) }
+        ensures err { IfErr result IsMemory }
     {
-        RawLabel {
-            nodes: Seq::from_vec(nodes),
-            names: Seq::from_vec(names),
-            depth,
-        }
+        let written = Compact::copied(alloc, nodes, names, depth)?;
+        Ok(RawLabel { written })
     }
 
-    /// Its nodes, parts before their operators.
-    pub(crate) fn nodes(&self) -> &[LabelNode]
+    /// Its nodes, parts before their operators, in the room where they stand in place.
+    pub(crate) fn nodes<'a>(&'a self, room: &'a mut [LabelNode; 21]) -> &'a [LabelNode]
         ensures { result.now ≡ raw_postfix self.now }
     {
-        self.nodes.as_slice()
+        self.written.nodes(room)
     }
 
     /// Its alias names from left to right, joined.
     pub(crate) fn names(&self) -> &[u8]
         ensures { result.now ≡ alias_names self.now }
     {
-        self.names.as_slice()
+        self.written.names()
     }
+}
+
+impl PartialEq for RawLabel {
+    ghost use Rattle.std.specs.Prelude.{nat_eq};
+    ghost use Rattle.std.specs.Cmp.Lexicographic.{pointwise};
+    ghost use Rattle.std.specs.Cmp.Rules.{comparing};
+    ghost use Rattle.std.specs.Ordering.{eq_of_both, on};
+    ghost use Rattle.std.proofs.Common.{rules};
+    ghost use Rattle.omega_acc.specs.contracts.label.LabelNodePartialEq.TheImpl as node;
+    ghost use Rattle.omega_acc.specs.contracts.label.LabelNodePartialEq.TheImpl.Laws.{laws-law};
+    ghost use Rattle.omega_acc.specs.layout.RawLabel.{alias_names, raw_postfix};
+
+    ghost eq = { eq_of_both (on raw_postfix (pointwise node.ghosts.eq)) (on alias_names (pointwise nat_eq)) };
+
+    ghost laws = { Prim.search (comparing, rules, laws-law) };
+
+    fn eq(&self, other: &RawLabel) -> bool {
+        let mut room = ROOM;
+        let mut room_of_other = ROOM;
+        self.nodes(&mut room) == other.nodes(&mut room_of_other) && self.names() == other.names()
+    }
+}
+
+impl Eq for RawLabel {
+    ghost use Rattle.std.specs.Cmp.Rules.{comparing};
+    ghost use Rattle.std.proofs.Common.{rules};
+    ghost use Rattle.omega_acc.specs.contracts.label.LabelNodeEq.TheImpl.Laws.{laws-law};
+
+    ghost laws = { Prim.search (comparing, rules, laws-law) };
 }
 
 /// The length of an alias name, as a node keeps it. Refusal 60 where it is over the numbers of 32 bits, which none is in a
@@ -239,72 +235,4 @@ pub(crate) fn name_length(name: &[u8]) -> Result<u32, Refusal>
         return Err(Refusal::Memory);
     }
     Ok(name.len() as u32)
-}
-
-/// Whether one of the nodes is an alias.
-fn any_alias(nodes: &[LabelNode]) -> bool
-    ensures { result ≡ list_any is_alias nodes.now }
-{
-    nodes.iter().any(|node| stands_for_more(*node))
-}
-
-/// Whether a node is an alias.
-fn stands_for_more(node: LabelNode) -> bool
-    ensures { result ≡ is_alias node }
-{
-    match node {
-        LabelNode::Alias(_) => true,
-        _ => false,
-    }
-}
-
-/// How many of the nodes are no parentheses, where none is an alias.
-fn count_bare(nodes: &[LabelNode]) -> Option<usize>
-    ensures { SomeIff result (list_any is_alias nodes.now ≡ false) (count_by is_bare nodes.now) }
-{
-    let mut count = 0;
-    for node in nodes {
-        match node {
-            LabelNode::Alias(_) => return None,
-            LabelNode::Group => {}
-            _ => count += 1,
-        }
-    }
-    Some(count)
-}
-
-/// The nodes that are no parentheses, in the memory that all have.
-fn bare_nodes(nodes: Vec<LabelNode>) -> Vec<LabelNode>
-    ensures { result.items ≡ filter is_bare nodes.items }
-{
-    let mut nodes = nodes;
-    nodes.retain(|node| stays(*node));
-    nodes
-}
-
-/// Whether a node stays where parentheses are left out.
-fn stays(node: LabelNode) -> bool
-    ensures { result ≡ is_bare node }
-{
-    match node {
-        LabelNode::Group => false,
-        _ => true,
-    }
-}
-
-/// Whether the propositions of nodes are all below a count.
-fn all_propositions_below(nodes: &[LabelNode], count: u32) -> bool
-    ensures { result ≡ list_all (λ node. proposition_below count node) nodes.now }
-{
-    nodes.iter().all(|node| is_proposition_below(*node, count))
-}
-
-/// Whether the proposition of a node is below a count, if it has one.
-fn is_proposition_below(node: LabelNode, count: u32) -> bool
-    ensures { result ≡ proposition_below count node }
-{
-    match node {
-        LabelNode::Proposition(number) => number < count,
-        _ => true,
-    }
 }

@@ -12,7 +12,6 @@ ghost use Rattle.omega_text.specs.declared.hoa.kind.HoaKind.{HoaKind as Kind};
 use crate::label::LabelNode;
 use crate::passing::is_passed;
 use crate::pending::Pending;
-use crate::postfix::fitted;
 use crate::raw_label::{RawLabel, name_length};
 use crate::unfinished::{Unfinished, deeper};
 use omega_text::{AutomatonFault, HoaKind, Refusal, TextFault, TokenSource};
@@ -27,11 +26,15 @@ pub fn read_raw_label<'a, S: TokenSource<'a, HoaKind>>(
     ensures ok { IfOk result (λ label. Reads (S.left source.old) label (S.left source.new)) }
     ensures err { IfErr result (IsUnread (ReadsNone (S.left source.old))) }
 {
-    let mut unfinished = Unfinished::new(alloc)?;
+    let mut unfinished = Unfinished::new(alloc);
     operand(&mut unfinished, source)?;
     while goes_on(&mut unfinished, source)? {}
-    let nodes = fitted(alloc, unfinished.nodes.as_slice())?;
-    Ok(RawLabel::of_nodes(nodes, unfinished.names, unfinished.depth))
+    RawLabel::of_nodes(
+        alloc,
+        unfinished.nodes.as_slice(),
+        unfinished.names.as_slice(),
+        unfinished.depth,
+    )
 }
 
 /// Reads a label as `read_raw_label` does. Refusal 3 where there is none, else 32 where it is over 256 deep, an alias having

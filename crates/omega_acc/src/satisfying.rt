@@ -5,6 +5,7 @@ ghost use Rattle.omega_acc.specs.Limits.{most_mentioned};
 ghost use Rattle.omega_acc.specs.Satisfiable.{IsJudged, IsOverMentioned, IsSatisfiable, mentioned};
 ghost use Rattle.omega_acc.specs.layout.Words.{peak, top_word, word_among, words_behind};
 
+use crate::codes::{MOST_IN_PLACE, ROOM};
 use crate::label::{Label, LabelNode};
 use crate::mentioned::Mentioned;
 use crate::words::Words;
@@ -17,7 +18,8 @@ pub fn satisfiable(label: &Label) -> Result<bool, Refusal>
     ensures ok { IfOk result (λ possible. IsJudged label.now possible) }
     ensures err { IfErr result (IsOverMentioned label.now) }
 {
-    let nodes = label.nodes();
+    let mut room = ROOM;
+    let nodes = label.nodes(&mut room);
     let mut found = Mentioned::new();
     for node in nodes {
         if let LabelNode::Proposition(number) = node {
@@ -35,7 +37,8 @@ fn is_true_somewhere(label: &Label, found: &Mentioned) -> bool
     ensures judged { IsTrue result ↔ IsSatisfiable label.now }
     ensures within { length (mentioned label.now) ≤ most_mentioned }
 {
-    let nodes = label.nodes();
+    let mut room = ROOM;
+    let nodes = label.nodes(&mut room);
     for block in 0..blocks(found.len()) {
         if word_of(nodes, found, block) != 0 {
             return true;
@@ -57,7 +60,21 @@ fn word_of(nodes: &[LabelNode], found: &Mentioned, block: u64) -> u64
     requires { peak 0 nodes.now ≤ 256 }
     ensures { result ≡ top_word (words_behind (word_among block 0 found.now) [] nodes.now) }
 {
-    let mut words = Words::new();
+    // Few nodes need little room, and no more is made ready for them.
+    if nodes.len() <= MOST_IN_PLACE {
+        word_within::<21>(nodes, found, block)
+    } else {
+        word_within::<256>(nodes, found, block)
+    }
+}
+
+/// The same, where so many words stand at once at most.
+fn word_within<const MOST: usize>(nodes: &[LabelNode], found: &Mentioned, block: u64) -> u64
+    requires room { MOST ≤ 256 }
+    requires enough { peak 0 nodes.now ≤ MOST }
+    ensures { result ≡ top_word (words_behind (word_among block 0 found.now) [] nodes.now) }
+{
+    let mut words = Words::<MOST>::new();
     for node in nodes {
         match node {
             LabelNode::Constant(value) => words.push(if *value { u64::MAX } else { 0 }),

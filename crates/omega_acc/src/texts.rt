@@ -1,30 +1,29 @@
-ghost use Rattle.std.specs.Prelude.{◌≡◌, ◌≤◌, ◌∷◌, ◌++◌, [], codes, decimal, drop, length, reverse, take, IfErr, IfOk, OnOk};
+ghost use Rattle.std.specs.Prelude.{◌≡◌, ◌≤◌, ◌∷◌, ◌++◌, [], codes, decimal, drop, length, reverse, take, IfErr, OnOk};
 ghost use Rattle.omega_acc.specs.Depth.{IsMemory};
 ghost use Rattle.omega_acc.specs.Writing.{atom_text, bracketed, joined_text, negated_text, set_text, truth_text};
 ghost use Rattle.omega_acc.specs.layout.Texts.{IsPartBefore, joined_bytes, texts_below, top_text};
 
-use omega_text::{Refusal, write_number};
+use itoa::Buffer;
+use omega_text::Refusal;
+use smallvec::SmallVec;
 use std::alloc::Global;
 use std::marker::Model;
 
 /// How tightly an atom binds, or `!` and its part.
 const ATOM: u32 = 3;
 
-/// The bytes for which there is room before the first is written.
-const FIRST_ROOM: usize = 64;
-
 /// Where the bytes of an expression begin, and how tightly its top operator binds: 1 for `|`, 2 for `&`, 3 for the rest.
-#[derive(Clone, Copy)]
+#[derive(Clone, Copy, Default)]
 pub(crate) struct Part {
     start: usize,
     rank: u32,
 }
 
-/// A stack of texts in one buffer, each behind those below it.
+/// A stack of texts in one buffer, each behind those below it. Up to 64 bytes and 12 texts take no memory.
 #[derive(Drop)]
 pub(crate) struct Texts {
-    bytes: Vec<u8>,
-    parts: Vec<Part>,
+    bytes: SmallVec<u8, 64>,
+    parts: SmallVec<Part, 12>,
 }
 
 impl Model for Texts {
@@ -42,16 +41,14 @@ impl Model for Texts {
 }
 
 impl Texts {
-    /// No texts. There is room for the bytes of an expression of ordinary length.
-    pub(crate) fn new(alloc: Global) -> Result<Self, Refusal>
-        ensures ok { IfOk result (λ texts. texts ≡ []) }
-        ensures err { IfErr result IsMemory }
+    /// No texts.
+    pub(crate) fn new(alloc: Global) -> Self
+        ensures { result ≡ [] }
     {
-        let bytes = Vec::with_capacity(alloc, FIRST_ROOM)?;
-        Ok(Texts {
-            bytes,
-            parts: Vec::new(alloc),
-        })
+        Texts {
+            bytes: SmallVec::new(alloc),
+            parts: SmallVec::new(alloc),
+        }
     }
 
     /// Puts `t` or `f` on top.
@@ -71,7 +68,7 @@ impl Texts {
         ensures err { IfErr result IsMemory }
     {
         let start = self.bytes.as_slice().len();
-        write_number(number as u128, &mut self.bytes)?;
+        write_number(number, &mut self.bytes)?;
         self.parts.push(Part { start, rank: ATOM })?;
         Ok(())
     }
@@ -139,7 +136,7 @@ impl Texts {
 }
 
 /// Takes the last part, which begins no later than a place; where there is none, an empty one there.
-fn part_before(parts: &mut Vec<Part>, end: usize) -> Part
+fn part_before(parts: &mut SmallVec<Part, 12>, end: usize) -> Part
     ensures { IsPartBefore (reverse parts.old.items) end result (reverse parts.new.items) }
 {
     match parts.pop() {
@@ -155,7 +152,7 @@ fn part_before(parts: &mut Vec<Part>, end: usize) -> Part
 }
 
 /// Puts the bytes from a place on in parentheses or not.
-fn bracket(bytes: &mut Vec<u8>, start: usize, within: bool) -> Result<(), Refusal>
+fn bracket(bytes: &mut SmallVec<u8, 64>, start: usize, within: bool) -> Result<(), Refusal>
     requires { start ≤ length bytes.old.items }
     ensures ok { OnOk result (bytes.new.items ≡ take start bytes.old.items ++ bracketed within (drop start bytes.old.items)) }
     ensures err { IfErr result IsMemory }
@@ -170,7 +167,7 @@ fn bracket(bytes: &mut Vec<u8>, start: usize, within: bool) -> Result<(), Refusa
 
 /// Puts an operator before the bytes from `right` on, and those from `left` up to there in parentheses or not.
 fn put_before(
-    bytes: &mut Vec<u8>,
+    bytes: &mut SmallVec<u8, 64>,
     left: usize,
     right: usize,
     within: bool,
@@ -190,7 +187,12 @@ fn put_before(
 }
 
 /// Appends a word and a set in parentheses, with `!` before the set or without.
-fn write_set(bytes: &mut Vec<u8>, word: &[u8], negated: bool, set: u32) -> Result<(), Refusal>
+fn write_set(
+    bytes: &mut SmallVec<u8, 64>,
+    word: &[u8],
+    negated: bool,
+    set: u32,
+) -> Result<(), Refusal>
     ensures ok { OnOk result (bytes.new.items ≡ bytes.old.items ++ (word.now ++ set_text negated set)) }
     ensures err { IfErr result IsMemory }
 {
@@ -199,7 +201,31 @@ fn write_set(bytes: &mut Vec<u8>, word: &[u8], negated: bool, set: u32) -> Resul
     if negated {
         bytes.push(b'!')?;
     }
-    write_number(set as u128, bytes)?;
+    write_number(set, bytes)?;
     bytes.push(b')')?;
+    Ok(())
+}
+
+/// Appends a number in decimal.
+fn write_number(number: u32, bytes: &mut SmallVec<u8, 64>) -> Result<(), Refusal>
+    ensures ok { OnOk result (bytes.new.items ≡ bytes.old.items ++ decimal number) }
+    ensures err { IfErr result IsMemory }
+{
+    // One digit, as most propositions have, needs no buffer.
+    if number < 10 {
+        bytes.push(b'0' + number as u8)?;
+        Ok(())
+    } else {
+        write_digits(number, bytes)
+    }
+}
+
+/// The same by a buffer.
+fn write_digits(number: u32, bytes: &mut SmallVec<u8, 64>) -> Result<(), Refusal>
+    ensures ok { OnOk result (bytes.new.items ≡ bytes.old.items ++ decimal number) }
+    ensures err { IfErr result IsMemory }
+{
+    let mut buffer = Buffer::new();
+    bytes.extend_from_slice(buffer.format(number).as_bytes())?;
     Ok(())
 }

@@ -5,18 +5,17 @@ ghost use Rattle.omega_acc.specs.Depth.{IsMemory};
 use crate::label::LabelNode;
 use crate::pending::{Pending, PendingStack};
 use omega_text::Refusal;
+use smallvec::SmallVec;
 use std::alloc::Global;
 
 /// Just past the greatest depth: deeper parts count as this deep.
 const PAST_DEPTH: u32 = 257;
 
-/// The nodes for which there is room before the first is read.
-const FIRST_ROOM: usize = 16;
-
 /// A label that is being read: the nodes and alias names so far, what waits, and the depth of the part that stands last.
+/// Up to 24 nodes take no memory.
 #[derive(Drop)]
 pub(crate) struct Unfinished {
-    pub(crate) nodes: Vec<LabelNode>,
+    pub(crate) nodes: SmallVec<LabelNode, 24>,
     pub(crate) names: Vec<u8>,
     pub(crate) pending: PendingStack,
     pub(crate) depth: u32,
@@ -28,18 +27,16 @@ impl Unfinished {
     ghost use Rattle.omega_text.specs.Lexeme.{Lexeme};
     ghost use Rattle.omega_text.specs.declared.hoa.kind.HoaKind.{HoaKind};
 
-    /// Nothing has been read. There is room for the nodes of a label of ordinary length.
-    pub(crate) fn new(alloc: Global) -> Result<Self, Refusal>
-        ensures ok { IfOk result (λ unfinished. (whole : List (Lexeme HoaKind)) → WantsIn whole whole unfinished) }
-        ensures err { IfErr result IsMemory }
+    /// Nothing has been read.
+    pub(crate) fn new(alloc: Global) -> Self
+        ensures { (whole : List (Lexeme HoaKind)) → WantsIn whole whole result }
     {
-        let nodes = Vec::with_capacity(alloc, FIRST_ROOM)?;
-        Ok(Unfinished {
-            nodes,
+        Unfinished {
+            nodes: SmallVec::new(alloc),
             names: Vec::new(alloc),
             pending: PendingStack::new(alloc),
             depth: 1,
-        })
+        }
     }
 
     /// Puts each `!` to the part that stands last, and joins it by `&` to what waits for it so.

@@ -3,40 +3,37 @@ ghost use Rattle.omega_acc.specs.layout.Words.{top_word, words_below};
 
 use std::marker::Model;
 
-/// The most words that a stack holds: as many as a label is deep.
-const ROOM: usize = 256;
-
-/// A stack of words, which takes no memory.
+/// A stack of words with room for so many, which takes no memory.
 #[derive(Drop)]
-pub(crate) struct Words {
-    items: [u64; 256],
+pub(crate) struct Words<const ROOM: usize> {
+    items: [u64; ROOM],
     first: usize,
 }
 
-impl Model for Words {
+impl<const ROOM: usize> Model for Words<ROOM> {
     ghost use Rattle.std.specs.Prelude.{List, drop, ◌≤◌, ℕ};
 
     ghost Value = { List ℕ };
 
     ghost view = { λ w. drop w.first w.items };
 
-    ghost invariant = { λ w. w.first ≤ 256 };
+    ghost invariant = { λ w. w.first ≤ ROOM };
 }
 
-impl Words {
+impl<const ROOM: usize> Words<ROOM> {
     /// No words.
     pub(crate) fn new() -> Self
         ensures { result ≡ [] }
     {
         Words {
-            items: [0; 256],
+            items: [0; ROOM],
             first: ROOM,
         }
     }
 
     /// Puts a word on top.
     pub(crate) fn push(&mut self, word: u64)
-        requires { length self.old < 256 }
+        requires { length self.old < ROOM }
         ensures { self.new ≡ word ∷ self.old }
     {
         self.first -= 1;

@@ -6,6 +6,7 @@ ghost use Rattle.omega_acc.specs.Writing.{acc_text, label_text};
 ghost use Rattle.omega_acc.specs.layout.Texts.{acc_texts_behind, texts_behind};
 
 use crate::acc::{Acc, AccNode};
+use crate::codes::ROOM;
 use crate::label::{Label, LabelNode};
 use crate::texts::Texts;
 use omega_text::Refusal;
@@ -18,8 +19,9 @@ pub fn write_label(label: &Label, out: &mut Vec<u8>) -> Result<(), Refusal>
     ensures err { IfErr result IsMemory }
 {
     let alloc = *out.allocator();
-    let mut texts = Texts::new(alloc)?;
-    put_label(&mut texts, label.nodes())?;
+    let mut texts = Texts::new(alloc);
+    let mut room = ROOM;
+    put_label(&mut texts, label.nodes(&mut room))?;
     out.extend_from_slice(texts.top())?;
     Ok(())
 }
@@ -32,7 +34,7 @@ pub fn write_acc(formula: &Acc, out: &mut Vec<u8>) -> Result<(), Refusal>
     ensures err { IfErr result IsMemory }
 {
     let alloc = *out.allocator();
-    let mut texts = Texts::new(alloc)?;
+    let mut texts = Texts::new(alloc);
     put_formula(&mut texts, formula.nodes())?;
     out.extend_from_slice(texts.top())?;
     Ok(())

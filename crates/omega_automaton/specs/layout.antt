@@ -1,5 +1,6 @@
 -- How automata lie in memory: cited by private contracts alone.
 pub mod Automaton
+pub mod Body
 pub mod Findings
 pub mod Gathered
 pub mod Order

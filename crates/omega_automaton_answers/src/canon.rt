@@ -5,7 +5,7 @@ ghost use Rattle.omega_io.specs.Failures.{failures_of};
 ghost use Rattle.omega_io.specs.Reading.{ReadsText, ReadsWhole};
 ghost use Rattle.omega_automaton_answers.specs.Canon.{IsStreamCanonAnswer, canonical_part};
 
-use omega_canon::canonical;
+use omega_canon::write_canonical;
 use omega_feed::{Input, Item, ItemText, tell_stream};
 use omega_text::Refusal;
 use std::alloc::Global;
@@ -28,9 +28,7 @@ impl ItemText for CanonicalPart {
 
     fn append(_number: usize, item: &Item, out: &mut Vec<u8>) -> Result<(), Refusal> {
         if let Item::Automaton(automaton) = item {
-            let alloc = *out.allocator();
-            let text = canonical(alloc, automaton)?;
-            out.extend_from_slice(text.as_slice())?;
+            write_canonical(automaton, out)?;
         }
         Ok(())
     }

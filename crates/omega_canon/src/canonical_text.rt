@@ -1,4 +1,4 @@
-ghost use Rattle.std.specs.Prelude.{◌≡◌, IfOk, IsOkUnless};
+ghost use Rattle.std.specs.Prelude.{◌≡◌, ◌++◌, IfOk, IsOkUnless, OnOk};
 ghost use Rattle.omega_canon.specs.Canonical.{canonical as text_of};
 
 use crate::body::write_body;
@@ -17,7 +17,17 @@ pub fn canonical(alloc: Global, automaton: &Automaton) -> Result<Vec<u8>, Refusa
     ensures memory { IsOkUnless result Refusal.Memory }
 {
     let mut out = Vec::with_capacity(alloc, 128)?;
-    write_header(automaton, &mut out)?;
-    write_body(automaton.defined(), &mut out)?;
+    write_canonical(automaton, &mut out)?;
     Ok(out)
+}
+
+/// Appends the canonical text of an automaton, as `canonical` makes it. 60 alone, after which part of the text may stand
+/// there.
+pub fn write_canonical(automaton: &Automaton, out: &mut Vec<u8>) -> Result<(), Refusal>
+    ensures ok { OnOk result (out.new.items ≡ out.old.items ++ text_of automaton.now) }
+    ensures memory { IsOkUnless result Refusal.Memory }
+{
+    write_header(automaton, out)?;
+    write_body(automaton.defined(), out)?;
+    Ok(())
 }

@@ -7,7 +7,7 @@ mod header;
 mod laws;
 mod parts;
 
-pub use canonical_text::canonical;
+pub use canonical_text::{canonical, write_canonical};
 pub use laws::{
     automata_of_texts_were_read, canonical_texts_are_read, canonical_texts_are_spelled,
     read_automata_are_writable,

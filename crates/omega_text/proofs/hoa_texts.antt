@@ -4,11 +4,13 @@ pub mod Exact
 pub mod Gaps
 pub mod Last
 pub mod Laws
+pub mod Leads
 pub mod Longest
 pub mod Numbers
 pub mod Onward
 pub mod Passing
 pub mod Pieces
+pub mod Plain
 pub mod Read
 pub mod Runs
 pub mod Tests

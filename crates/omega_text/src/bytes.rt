@@ -4,7 +4,16 @@ ghost use Rattle.omega_text.specs.Bytes.{is_letter, is_white, is_word_byte};
 
 const UNDERSCORE: u8 = b'_';
 
-const HYPHEN: u8 = b'-';
+// Each byte that may go on in a word stands at its own place, and a comma at every other.
+static WORD_BYTES: [u8; 256] = *b"\
+    ,,,,,,,,,,,,,,,,,,,,,,,,,,,,,,,,\
+    ,,,,,,,,,,,,,-,,0123456789,,,,,,\
+    ,ABCDEFGHIJKLMNOPQRSTUVWXYZ,,,,_\
+    ,abcdefghijklmnopqrstuvwxyz,,,,,\
+    ,,,,,,,,,,,,,,,,,,,,,,,,,,,,,,,,\
+    ,,,,,,,,,,,,,,,,,,,,,,,,,,,,,,,,\
+    ,,,,,,,,,,,,,,,,,,,,,,,,,,,,,,,,\
+    ,,,,,,,,,,,,,,,,,,,,,,,,,,,,,,,,";
 
 pub(crate) fn is_white(byte: u8) -> bool
     ensures { result ≡ is_white byte }
@@ -18,10 +27,11 @@ pub(crate) fn is_letter(byte: u8) -> bool
     byte.is_ascii_alphabetic() || byte == UNDERSCORE
 }
 
+#[inline(always)]
 pub(crate) fn is_word_byte(byte: u8) -> bool
     ensures { result ≡ is_word_byte byte }
 {
-    byte.is_ascii_alphanumeric() || byte == UNDERSCORE || byte == HYPHEN
+    WORD_BYTES[byte as usize] != b','
 }
 
 /// How many bytes at the front are white.

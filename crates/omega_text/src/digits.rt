@@ -13,6 +13,10 @@ pub(crate) fn front_digits(bytes: &[u8]) -> (usize, u64)
     ensures value { result.1 ≤ most_number → result.1 ≡ digits_value 10 (take result.0 bytes.now) }
     ensures great { most_number < result.1 → most_number < digits_value 10 (take result.0 bytes.now) }
 {
+    if bytes.len() > 1 && bytes[0].is_ascii_digit() && !bytes[1].is_ascii_digit() {
+        // Most numbers have one digit.
+        return (1, u64::from(bytes[0] - b'0'));
+    }
     let mut value = 0u64;
     for (count, byte) in bytes.iter().enumerate() {
         if !byte.is_ascii_digit() {

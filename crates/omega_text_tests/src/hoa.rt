@@ -8,7 +8,7 @@ use std::alloc::{AllocError, Global};
 pub(crate) type Part = (HoaKind, usize, usize);
 
 // Texts, the kinds and places of their tokens, and the number and the place of the fault behind them.
-pub(crate) static TEXTS: [(&[u8], &[Part], Option<(u32, usize)>); 42] = [
+pub(crate) static TEXTS: [(&[u8], &[Part], Option<(u32, usize)>); 50] = [
     (b"", &[], None),
     (b" \t\r\n", &[], None),
     (b"t", &[(HoaKind::True, 0, 1)], None),
@@ -102,6 +102,18 @@ pub(crate) static TEXTS: [(&[u8], &[Part], Option<(u32, usize)>); 42] = [
         None,
     ),
     (b"x$ 00", &[(HoaKind::Identifier, 0, 1)], Some((1, 1))),
+    (b"t \"ab", &[(HoaKind::True, 0, 1)], Some((1, 2))),
+    (b"@_:", &[(HoaKind::AliasName, 0, 2)], Some((1, 2))),
+    (b"21474836470", &[], Some((2, 0))),
+    (
+        b"9 1-",
+        &[(HoaKind::Int, 0, 1), (HoaKind::Int, 2, 3)],
+        Some((1, 3)),
+    ),
+    (b"t\x00", &[(HoaKind::True, 0, 1)], Some((1, 1))),
+    (b"z\x7F", &[(HoaKind::Identifier, 0, 1)], Some((1, 1))),
+    (b"_\x80", &[(HoaKind::Identifier, 0, 1)], Some((1, 1))),
+    (b"0\xFF", &[(HoaKind::Int, 0, 1)], Some((1, 1))),
 ];
 
 // Texts, and how many of their tokens are settled by each byte; 9 from the fault on.

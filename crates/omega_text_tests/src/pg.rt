@@ -61,7 +61,7 @@ fn a_game_text_is_cut(rt: HostRuntime) -> Result<(), Fail> {
 }
 
 // How many tokens texts have, or the number and the place of their refusal.
-static TEXTS: [(&str, Result<usize, (u32, Option<usize>)>); 31] = [
+static TEXTS: [(&str, Result<usize, (u32, Option<usize>)>); 32] = [
     ("", Ok(0)),
     (" \t\n\r", Ok(0)),
     ("12 34", Ok(2)),
@@ -74,6 +74,7 @@ static TEXTS: [(&str, Result<usize, (u32, Option<usize>)>); 31] = [
     ("00 0 0 0;", Err((2, Some(0)))),
     ("0 0 0 1; $", Err((1, Some(9)))),
     ("2147483648 0 0 0;", Err((2, Some(0)))),
+    ("21474836470", Err((2, Some(0)))),
     ("0 01", Err((2, Some(2)))),
     (
         "1 99999999999999999999999999999999999999999",

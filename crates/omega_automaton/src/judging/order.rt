@@ -1,12 +1,13 @@
 ghost use Rattle.std.specs.Prelude.{◌≡◌, IfErr, IfOk};
 ghost use Rattle.omega_acc.specs.Depth.{IsMemory};
+ghost use Rattle.omega_automaton.specs.layout.Body.{AreCountsOf, IsFoundOfStates};
 ghost use Rattle.omega_automaton.specs.layout.Order.{early_fault as earliest, late_fault as latest};
 
 use crate::judging::acceptance::has_wrong_atom;
+use crate::judging::body::BodyFound;
+use crate::judging::counts::Counts;
 use crate::judging::header::{has_repeated_item, has_unknown_capital, lacks_acceptance};
-use crate::judging::implicit::has_wrong_edge_count;
-use crate::judging::labels::has_mixed_labels;
-use crate::judging::propositions::{has_wrong_proposition, proposition_count};
+use crate::judging::propositions::has_wrong_proposition;
 use crate::judging::repeats::has_state_twice;
 use crate::judging::sets::has_set_out_of_range;
 use crate::judging::states::has_state_out_of_range;
@@ -19,7 +20,11 @@ use std::alloc::Global;
 pub(crate) fn early_fault(
     alloc: Global,
     raw: &RawAutomaton,
+    counts: Counts,
+    found: BodyFound,
 ) -> Result<Option<AutomatonFault>, Refusal>
+    requires counts { AreCountsOf raw.now counts }
+    requires found { IsFoundOfStates counts raw.now.states found }
     ensures ok { IfOk result (λ fault. fault ≡ earliest raw.now) }
     ensures err { IfErr result IsMemory }
 {
@@ -35,33 +40,38 @@ pub(crate) fn early_fault(
     if has_unknown_capital(raw) {
         return Ok(Some(AutomatonFault::UnknownHeader));
     }
-    if has_state_out_of_range(raw) {
+    if has_state_out_of_range(raw, counts, found) {
         return Ok(Some(AutomatonFault::StateRange));
     }
-    if has_set_out_of_range(raw) {
+    if has_set_out_of_range(raw, counts, found) {
         return Ok(Some(AutomatonFault::SetRange));
     }
-    if has_wrong_proposition(alloc, raw)? {
+    if has_wrong_proposition(alloc, raw, counts, found)? {
         return Ok(Some(AutomatonFault::Proposition));
     }
     Ok(None)
 }
 
 /// The least of the faults 28 to 31 that applies, none where none does.
+#[tactic(auto, unfolding(crate::specs::Faults::has_mixed_labels, crate::specs::Faults::has_wrong_edge_count))]
 pub(crate) fn late_fault(
     alloc: Global,
     raw: &RawAutomaton,
+    counts: Counts,
+    found: BodyFound,
 ) -> Result<Option<AutomatonFault>, Refusal>
+    requires counts { AreCountsOf raw.now counts }
+    requires found { IsFoundOfStates counts raw.now.states found }
     ensures ok { IfOk result (λ fault. fault ≡ latest raw.now) }
     ensures err { IfErr result IsMemory }
 {
     if has_state_twice(alloc, raw)? {
         return Ok(Some(AutomatonFault::StateTwice));
     }
-    if has_mixed_labels(raw) {
+    if found.mixed {
         return Ok(Some(AutomatonFault::MixedLabels));
     }
-    if has_wrong_edge_count(raw, proposition_count(raw)) {
+    if found.miscounted {
         return Ok(Some(AutomatonFault::ImplicitCount));
     }
     if has_wrong_atom(alloc, raw)? {

@@ -1,30 +1,36 @@
 ghost use Rattle.std.specs.Prelude.{◌≡◌, option_map, unwrap_or, IfErr, IfOk};
 ghost use Rattle.std.specs.List.{list_any};
 ghost use Rattle.omega_acc.specs.Depth.{IsMemory};
-ghost use Rattle.omega_automaton.specs.Faults.{has_wrong_proposition as wrong_proposition, is_beyond as beyond, is_labelled, is_misnamed as misnamed, passes, proposition_count as count_of_propositions};
+ghost use Rattle.omega_automaton.specs.Faults.{has_wrong_proposition as wrong_proposition, is_beyond as beyond, is_misnamed as misnamed, passes, proposition_count as count_of_propositions};
 ghost use Rattle.omega_automaton.specs.Items.{alias_in, first_said, propositions_in};
+ghost use Rattle.omega_automaton.specs.layout.Body.{AreCountsOf, IsFoundOfStates};
 
+use crate::judging::body::BodyFound;
+use crate::judging::counts::Counts;
 use crate::judging::repeats::has_name_twice;
 use crate::limits::MOST_PROPOSITIONS;
 use omega_acc::RawLabel;
-use omega_raw::{RawAutomaton, RawEdge, RawItem, RawState};
+use omega_raw::{RawAutomaton, RawItem};
 use omega_text::{Refusal, Seq};
 use std::alloc::Global;
 
 /// Whether propositions are miscounted, alike or too many, or a label or an alias mentions one out of range (refusal 26).
 #[tactic(auto, unfolding(crate::specs::Faults::has_wrong_proposition))]
-pub(crate) fn has_wrong_proposition(alloc: Global, raw: &RawAutomaton) -> Result<bool, Refusal>
+pub(crate) fn has_wrong_proposition(
+    alloc: Global,
+    raw: &RawAutomaton,
+    counts: Counts,
+    found: BodyFound,
+) -> Result<bool, Refusal>
+    requires counts { AreCountsOf raw.now counts }
+    requires found { IsFoundOfStates counts raw.now.states found }
     ensures ok { IfOk result (λ wrong. wrong ≡ wrong_proposition raw.now) }
     ensures err { IfErr result IsMemory }
 {
-    let count = proposition_count(raw);
     if any_misnamed(alloc, raw.items.as_slice())? {
         return Ok(true);
     }
-    if any_alias_beyond(raw.items.as_slice(), count) {
-        return Ok(true);
-    }
-    Ok(any_label_beyond(raw.states.as_slice(), count))
+    Ok(any_alias_beyond(raw.items.as_slice(), counts.propositions) || found.proposition)
 }
 
 /// The count of propositions, 0 where there is no `AP:`.
@@ -103,39 +109,8 @@ fn alias_beyond(item: &RawItem, count: u32) -> bool
     }
 }
 
-/// Whether a label of the body mentions a proposition that is not below a count.
-fn any_label_beyond(states: &[RawState], count: u32) -> bool
-    ensures { result ≡ list_any (is_labelled (beyond count)) states.now }
-{
-    for state in states {
-        if labels_beyond(state, count) {
-            return true;
-        }
-    }
-    false
-}
-
-/// Whether a label of a state or of an edge of it mentions a proposition that is not below a count.
-fn labels_beyond(state: &RawState, count: u32) -> bool
-    ensures { result ≡ is_labelled (beyond count) state.now }
-{
-    label_beyond(&state.label, count) || edges_beyond(state.edges.as_slice(), count)
-}
-
-/// Whether a label of one of the edges mentions a proposition that is not below a count.
-fn edges_beyond(edges: &[RawEdge], count: u32) -> bool
-    ensures { result ≡ list_any (λ edge. passes (beyond count) edge.label) edges.now }
-{
-    for edge in edges {
-        if label_beyond(&edge.label, count) {
-            return true;
-        }
-    }
-    false
-}
-
 /// Whether there is a label that mentions a proposition that is not below a count.
-fn label_beyond(label: &Option<RawLabel>, count: u32) -> bool
+pub(crate) fn label_beyond(label: &Option<RawLabel>, count: u32) -> bool
     ensures { result ≡ passes (beyond count) label.now }
 {
     match label {

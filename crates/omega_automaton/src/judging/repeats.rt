@@ -1,4 +1,5 @@
 ghost use Rattle.std.specs.Prelude.{◌≡◌, [], false, map, nat_eq, IfErr, IfOk, IsTrue};
+ghost use Rattle.std.specs.List.{list_any};
 ghost use Rattle.std.specs.Str.{bytes_eq};
 ghost use Rattle.omega_acc.specs.Depth.{IsMemory};
 ghost use Rattle.omega_automaton.specs.Automaton.{has_repeat};
@@ -8,6 +9,9 @@ use indexmap::IndexSet;
 use omega_raw::{RawAutomaton, RawState};
 use omega_text::{Refusal, Seq};
 use std::alloc::Global;
+
+/// So many names are compared two by two, which is quicker than to look each up.
+const FEW_NAMES: usize = 8;
 
 /// Whether two states of the body have one number (refusal 28).
 #[tactic(auto, unfolding(crate::specs::Faults::has_state_twice))]
@@ -61,13 +65,42 @@ fn sees_number_twice(seen: &mut IndexSet<u32>, states: &[RawState]) -> Result<bo
     Ok(false)
 }
 
-/// Whether two of the names have equal bytes.
+/// Whether two of the names have equal bytes. A few, as nearly all automata have, take no memory.
 pub(crate) fn has_name_twice(alloc: Global, names: &[Seq<u8>]) -> Result<bool, Refusal>
     ensures ok { IfOk result (λ twice. twice ≡ has_repeat bytes_eq names.now) }
     ensures err { IfErr result IsMemory }
 {
+    if names.len() <= FEW_NAMES {
+        return Ok(any_two_alike(names));
+    }
     let mut seen = IndexSet::new(alloc);
     sees_name_twice(&mut seen, names)
+}
+
+/// The same of names each of which is compared with all behind it.
+fn any_two_alike(names: &[Seq<u8>]) -> bool
+    ensures { result ≡ has_repeat bytes_eq names.now }
+{
+    let mut left = names;
+    while let [first, others @ ..] = left {
+        if is_among(first.as_slice(), others) {
+            return true;
+        }
+        left = others;
+    }
+    false
+}
+
+/// Whether one of the names has these bytes.
+fn is_among(bytes: &[u8], names: &[Seq<u8>]) -> bool
+    ensures { result ≡ list_any (λ name. bytes_eq name bytes.now) names.now }
+{
+    for name in names {
+        if name.as_slice() == bytes {
+            return true;
+        }
+    }
+    false
 }
 
 /// The same where no name is seen yet.

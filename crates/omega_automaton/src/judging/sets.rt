@@ -1,20 +1,23 @@
 ghost use Rattle.std.specs.Prelude.{◌≡◌, nat_le, option_map, unwrap_or};
 ghost use Rattle.std.specs.List.{list_any};
-ghost use Rattle.omega_automaton.specs.Faults.{has_set_beyond as set_beyond, has_set_out_of_range as set_out_of_range, is_marked, passes, set_count as count_of_sets};
+ghost use Rattle.omega_automaton.specs.Faults.{has_set_beyond as set_beyond, has_set_out_of_range as set_out_of_range, passes, set_count as count_of_sets};
 ghost use Rattle.omega_automaton.specs.Items.{acceptance_in, first_said};
+ghost use Rattle.omega_automaton.specs.layout.Body.{AreCountsOf, IsFoundOfStates};
 
+use crate::judging::body::BodyFound;
+use crate::judging::counts::Counts;
 use crate::judging::states::any_beyond;
-use omega_raw::{RawAutomaton, RawEdge, RawItem, RawState};
+use omega_raw::{RawAutomaton, RawItem};
 use omega_text::Numbers;
 
 /// Whether a mark of a state or an edge, or a set of an acceptance, is not below the count of sets (refusal 25).
 #[tactic(auto, unfolding(crate::specs::Faults::has_set_out_of_range))]
-pub(crate) fn has_set_out_of_range(raw: &RawAutomaton) -> bool
+pub(crate) fn has_set_out_of_range(raw: &RawAutomaton, counts: Counts, found: BodyFound) -> bool
+    requires counts { AreCountsOf raw.now counts }
+    requires found { IsFoundOfStates counts raw.now.states found }
     ensures { result ≡ set_out_of_range raw.now }
 {
-    let count = set_count(raw);
-    any_accepted_beyond(raw.items.as_slice(), count)
-        || any_marked_beyond(raw.states.as_slice(), count)
+    any_accepted_beyond(raw.items.as_slice(), counts.sets) || found.mark
 }
 
 /// The count of sets, 0 where there is no acceptance.
@@ -58,39 +61,8 @@ fn accepted_beyond(item: &RawItem, count: u32) -> bool
     }
 }
 
-/// Whether a state or an edge of the body has a mark that is not below a count of sets.
-fn any_marked_beyond(states: &[RawState], count: u32) -> bool
-    ensures { result ≡ list_any (is_marked (nat_le count)) states.now }
-{
-    for state in states {
-        if marked_beyond(state, count) {
-            return true;
-        }
-    }
-    false
-}
-
-/// Whether a state of the body or an edge of it has a mark that is not below a count.
-fn marked_beyond(state: &RawState, count: u32) -> bool
-    ensures { result ≡ is_marked (nat_le count) state.now }
-{
-    marks_beyond(&state.marks, count) || edges_beyond(state.edges.as_slice(), count)
-}
-
-/// Whether one of the edges has a mark that is not below a count.
-fn edges_beyond(edges: &[RawEdge], count: u32) -> bool
-    ensures { result ≡ list_any (λ edge. passes (list_any (nat_le count)) edge.marks) edges.now }
-{
-    for edge in edges {
-        if marks_beyond(&edge.marks, count) {
-            return true;
-        }
-    }
-    false
-}
-
 /// Whether there are marks and one of them is not below a count.
-fn marks_beyond(marks: &Option<Numbers>, count: u32) -> bool
+pub(crate) fn marks_beyond(marks: &Option<Numbers>, count: u32) -> bool
     ensures { result ≡ passes (list_any (nat_le count)) marks.now }
 {
     match marks {

@@ -1,19 +1,22 @@
 ghost use Rattle.std.specs.Prelude.{◌≡◌, ◌+◌, ◌≤◌, ◌^◌, max, min, unwrap_or, [], nat_le};
 ghost use Rattle.std.specs.List.{list_any};
-ghost use Rattle.omega_automaton.specs.Faults.{bound_of as bound_in, greatest_of, has_state_out_of_range as state_out_of_range, are_out_of_range as out_of_range, item_bound as bound_of_item, is_out_of_range as state_is_out_of_range, mentioned_count as count_mentioned, passes, state_bound as bound_of_state, state_count as count_of_states};
+ghost use Rattle.omega_automaton.specs.Faults.{bound_of as bound_in, greatest_of, has_state_out_of_range as state_out_of_range, are_out_of_range as out_of_range, item_bound as bound_of_item, mentioned_count as count_mentioned, passes, state_bound as bound_of_state, state_count as count_of_states};
 ghost use Rattle.omega_automaton.specs.Items.{first_said, start_in, states_in};
+ghost use Rattle.omega_automaton.specs.layout.Body.{AreCountsOf, IsFoundOfStates};
 
+use crate::judging::body::BodyFound;
+use crate::judging::counts::Counts;
 use omega_raw::{RawAutomaton, RawEdge, RawItem, RawState};
 use omega_text::MOST_NUMBER;
 
 /// Whether a state that is mentioned is not below the count of states, or a start or an edge lists none (refusal 24).
 #[tactic(auto, unfolding(crate::specs::Faults::has_state_out_of_range))]
-pub(crate) fn has_state_out_of_range(raw: &RawAutomaton) -> bool
+pub(crate) fn has_state_out_of_range(raw: &RawAutomaton, counts: Counts, found: BodyFound) -> bool
+    requires counts { AreCountsOf raw.now counts }
+    requires found { IsFoundOfStates counts raw.now.states found }
     ensures { result ≡ state_out_of_range raw.now }
 {
-    let count = state_count(raw);
-    any_start_out_of_range(raw.items.as_slice(), count)
-        || any_state_out_of_range(raw.states.as_slice(), count)
+    any_start_out_of_range(raw.items.as_slice(), counts.states) || found.state
 }
 
 /// Whether one of the items is a start whose states are out of range.
@@ -28,18 +31,6 @@ fn any_start_out_of_range(items: &[RawItem], count: u32) -> bool
     false
 }
 
-/// Whether one of the states of the body is out of range.
-fn any_state_out_of_range(states: &[RawState], count: u32) -> bool
-    ensures { result ≡ list_any (state_is_out_of_range count) states.now }
-{
-    for state in states {
-        if is_out_of_range(state, count) {
-            return true;
-        }
-    }
-    false
-}
-
 /// Whether one of the numbers is not below a count.
 pub(crate) fn any_beyond(numbers: &[u32], count: u32) -> bool
     ensures { result ≡ list_any (nat_le count) numbers.now }
@@ -48,7 +39,7 @@ pub(crate) fn any_beyond(numbers: &[u32], count: u32) -> bool
 }
 
 /// Whether states that a start or an edge lists are not all below a count, or none at all, which no text writes.
-fn are_out_of_range(states: &[u32], count: u32) -> bool
+pub(crate) fn are_out_of_range(states: &[u32], count: u32) -> bool
     ensures { result ≡ out_of_range count states.now }
 {
     states.is_empty() || any_beyond(states, count)
@@ -62,25 +53,6 @@ fn is_start_out_of_range(item: &RawItem, count: u32) -> bool
         RawItem::Start(states) => are_out_of_range(states.as_slice(), count),
         _ => false,
     }
-}
-
-/// Whether a state of the body is not below a count, or an edge of it lists states that are out of range.
-fn is_out_of_range(state: &RawState, count: u32) -> bool
-    ensures { result ≡ state_is_out_of_range count state.now }
-{
-    count <= state.number || any_edge_out_of_range(state.edges.as_slice(), count)
-}
-
-/// Whether one of the edges lists states that are out of range.
-fn any_edge_out_of_range(edges: &[RawEdge], count: u32) -> bool
-    ensures { result ≡ list_any (λ edge. out_of_range count edge.targets) edges.now }
-{
-    for edge in edges {
-        if are_out_of_range(edge.targets.as_slice(), count) {
-            return true;
-        }
-    }
-    false
 }
 
 /// The count of states: that of `States:`, or by the states mentioned, where a count over the greatest number of a text is

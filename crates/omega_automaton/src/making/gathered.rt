@@ -93,11 +93,15 @@ fn keep_first<T: Drop>(kept: &mut Option<T>, value: T)
     }
 }
 
-/// Puts words behind others.
+/// Puts words behind others. Where there are no others, as at the first item, all are moved at once.
 fn put_all(words: &mut Vec<Seq<u8>>, more: Seq<Seq<u8>>) -> Result<(), Refusal>
     ensures ok { OnOk result (words.new.items ≡ words.old.items ++ more) }
     ensures err { IfErr result IsMemory }
 {
+    if words.is_empty() {
+        *words = more.into_vec();
+        return Ok(());
+    }
     for word in more.into_vec() {
         words.push(word)?;
     }

@@ -1,9 +1,12 @@
 ghost use Rattle.std.specs.Prelude.{◌≡◌, None, IfErr, IfOk};
 ghost use Rattle.omega_automaton.specs.Meaning.{IsMeaningless};
+ghost use Rattle.omega_automaton.specs.layout.Body.{AreCountsOf, IsFoundOfStates};
 ghost use Rattle.omega_automaton.specs.layout.Draft.{IsOutlineOf};
 ghost use Rattle.omega_automaton.specs.layout.Order.{early_fault as earliest};
 
-use crate::judging::{early_fault, has_deep_acceptance, late_fault, set_count, state_count};
+use crate::judging::{
+    BodyFound, Counts, counts_of, early_fault, found_of_states, has_deep_acceptance, late_fault,
+};
 use omega_raw::RawAutomaton;
 use omega_text::{AutomatonFault, Refusal};
 use std::alloc::Global;
@@ -24,24 +27,33 @@ pub(crate) fn outline_of(alloc: Global, raw: &RawAutomaton) -> Result<Outline, R
     ensures ok { IfOk result (IsOutlineOf raw.now) }
     ensures err { IfErr result (IsMeaningless raw.now) }
 {
-    let fault = early_fault(alloc, raw)?;
+    let counts = counts_of(raw);
+    let found = found_of_states(raw.states.as_slice(), counts);
+    let fault = early_fault(alloc, raw, counts, found)?;
     match fault {
         Some(fault) => Err(Refusal::Automaton(fault)),
-        None => later_outline(alloc, raw),
+        None => later_outline(alloc, raw, counts, found),
     }
 }
 
 /// The same where none of the faults 20 to 26 applies.
-fn later_outline(alloc: Global, raw: &RawAutomaton) -> Result<Outline, Refusal>
-    requires { earliest raw.now ≡ None }
+fn later_outline(
+    alloc: Global,
+    raw: &RawAutomaton,
+    counts: Counts,
+    found: BodyFound,
+) -> Result<Outline, Refusal>
+    requires early { earliest raw.now ≡ None }
+    requires counts { AreCountsOf raw.now counts }
+    requires found { IsFoundOfStates counts raw.now.states found }
     ensures ok { IfOk result (IsOutlineOf raw.now) }
     ensures err { IfErr result (IsMeaningless raw.now) }
 {
-    let late = late_fault(alloc, raw)?;
+    let late = late_fault(alloc, raw, counts, found)?;
     Ok(Outline {
         late,
         deep: has_deep_acceptance(raw.items.as_slice()),
-        state_count: state_count(raw),
-        set_count: set_count(raw),
+        state_count: counts.states,
+        set_count: counts.sets,
     })
 }

@@ -6,7 +6,7 @@ use omega_raw::{RawEdge, RawItem, RawState};
 use std::alloc::Global;
 
 // Items, body, and the number of the refusal of a text of version v1 with both, or 0.
-static ITEMS: [(&str, &str, u32); 47] = [
+static ITEMS: [(&str, &str, u32); 51] = [
     ("States: 1 States: 1", "", 21),
     ("Acceptance: 0 t AP: 0 AP: 0", "", 21),
     ("Acceptance: 0 t Acceptance: 0 t", "", 21),
@@ -43,6 +43,26 @@ static ITEMS: [(&str, &str, u32); 47] = [
     ("AP: 1 \"a\" \"b\" Acceptance: 0 t", "", 26),
     ("AP: 3 \"a\" \"b\" \"a\" Acceptance: 0 t", "", 26),
     ("AP: 2 \"a\" \"A\" Acceptance: 0 t", "", 0),
+    (
+        "AP: 8 \"a\" \"b\" \"c\" \"d\" \"e\" \"f\" \"g\" \"h\" Acceptance: 0 t",
+        "",
+        0,
+    ),
+    (
+        "AP: 8 \"a\" \"b\" \"c\" \"d\" \"e\" \"f\" \"g\" \"g\" Acceptance: 0 t",
+        "",
+        26,
+    ),
+    (
+        "AP: 9 \"a\" \"b\" \"c\" \"d\" \"e\" \"f\" \"g\" \"h\" \"i\" Acceptance: 0 t",
+        "",
+        0,
+    ),
+    (
+        "AP: 9 \"a\" \"b\" \"c\" \"d\" \"e\" \"f\" \"g\" \"h\" \"a\" Acceptance: 0 t",
+        "",
+        26,
+    ),
     ("Acceptance: 0 t", "State: [0] 0", 26),
     ("AP: 1 \"a\" Acceptance: 0 t", "State: 0 [t&!1] 0", 26),
     ("AP: 1 \"a\" Alias: @a 0|1 Acceptance: 0 t", "", 26),

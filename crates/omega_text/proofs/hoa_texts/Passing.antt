@@ -3,7 +3,7 @@ use Rattle.std.proofs.Common.{◌≡◌, ◌≢◌, ◌==◌, ◌⊎◌, inl, in
 use Rattle.std.proofs.lemmas.Bool.Decides.{eqb_tells, nat_tests}
 use Rattle.std.proofs.lemmas.List.{get_or-drop, take_more}
 use Rattle.std.specs.List.{prefix_len}
-use Rattle.std.proofs.lemmas.List.Sums.{prefix_len-le-length}
+use Rattle.std.proofs.lemmas.List.Sums.{prefix_len-le-length, prefix_len_is}
 use Rattle.omega_text.specs.Cut.{Cuts}
 use Rattle.omega_text.specs.Lexeme.{Lexeme}
 use Rattle.omega_text.specs.Limits.{most_number}
@@ -30,6 +30,8 @@ use Rattle.omega_text.proofs.hoa_texts.Pieces.{at_with, grown, judged, parts, sp
 use Rattle.omega_text.proofs.hoa_texts.Runs.{run_append}
 use Rattle.omega_text.proofs.hoa_texts.Tests.{either, pass}
 use Rattle.omega_text.proofs.hoa_texts.Units.{first_digits, first_reached}
+use Rattle.omega_text.proofs.hoa_texts.Values.{one_digit}
+use Rattle.omega_text.proofs.pg_texts.Numbers.{worth_small}
 use Rattle.omega_text.proofs.hoa_texts.Written.{digits_run, first_digit, first_letter, no_test}
 
 -- marks are none of two lists
@@ -209,7 +211,7 @@ stays_quoted byte quoted =
     let no_backslash : (byte == 92) ≡ false = grind (arith, nat_tests) in
     pass (byte == 34) _ _ no_quote ∙ pass (byte == 92) _ _ no_backslash
 
-quoted_front : (bytes : List ℕ) → run (Some Quoted) (take (prefix_len is_quoted bytes) bytes) ≡ Some Quoted
+pub quoted_front : (bytes : List ℕ) → run (Some Quoted) (take (prefix_len is_quoted bytes) bytes) ≡ Some Quoted
 quoted_front [] = refl
 quoted_front (byte ∷ rest) =
     either (λ count. run (Some Quoted) (take count (byte ∷ rest)) ≡ Some Quoted) (is_quoted byte) (1 + prefix_len is_quoted rest) 0
@@ -392,6 +394,22 @@ digits_simple start bytes rest place count value inside is digit prefix worth sm
     let between : Pending = record { mode = Digits; start = start; value = value } in
     ended_simple start bytes place (place + count) between (digits_pass bytes rest place start count inside is between digit prefix refl refl worth) more
     (digits_ended between (get_or bytes (place + count) 0) refl small single)
+
+-- one digit
+pub digit_simple : (start : ℕ) (bytes : List ℕ) (place : ℕ) → is_digit (get_or bytes place 0) ≡ true → place + 1 < length bytes → IsSingle (get_or bytes (place + 1) 0) → IsSimple start bytes place (Ended (place + 1 + 1))
+digit_simple start bytes place digit more single =
+    let byte = get_or bytes place 0 in
+    let rest = drop place bytes in
+    let inside : place < length bytes = omega (arith, more) in
+    let size = length-drop place bytes in
+    let here : place + 0 ≡ place = omega arith in
+    let one : place + 1 - place ≡ 1 = omega arith in
+    let front : take 1 rest ≡ byte ∷ [] = ap (λ n. take n rest) (sym one) ∙ one_part bytes place inside in
+    let first : is_digit (get_or rest 0 0) ≡ true = ap is_digit (get_or-drop place bytes 0 0 ∙ ap (λ n. get_or bytes n 0) here) ∙ digit in
+    let other : is_digit (get_or rest 1 0) ≡ false = ap is_digit (get_or-drop place bytes 1 0) ∙ single_no_digit (get_or bytes (place + 1) 0) single in
+    let count : prefix_len is_digit rest ≡ 1 =
+    prefix_len_is is_digit rest 1 0 (omega (arith, size, more)) (λ k below. let zeroth : 0 ≡ k = omega arith in subst (λ n. is_digit (get_or rest n 0) ≡ true) zeroth first) (λ _. other) in
+    digits_simple start bytes rest place 1 (byte - 48) inside refl digit (sym count) (subst (IsValueOf (byte - 48)) (sym front) (one_digit byte digit)) (omega (arith, worth_small byte digit)) more single
 
 -- a quote and what stands behind it
 pub string_passes : (start : ℕ) (bytes rest : List ℕ) (place count : ℕ) (after : Pending) → place < length bytes → rest ≡ drop (place + 1) bytes → get_or bytes place 0 ≡ 34 → count ≡ prefix_len is_quoted rest

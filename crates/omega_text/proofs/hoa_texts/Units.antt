@@ -10,7 +10,7 @@ use Rattle.omega_text.specs.declared.hoa.mode.Mode.{Mode}
 use Rattle.omega_text.specs.declared.hoa.mode.Mode.TheVariants.{Start, Word, Digits, Whole, Blank}
 use Rattle.omega_text.specs.hoa.Fault.{BeginsNoUnit, BeginsWrongDigits}
 use Rattle.omega_text.specs.hoa.Forms.{IsForm, IsUnit, Spells}
-use Rattle.omega_text.specs.hoa.scanning.Modes.{IsFirstUnit, IsScanned, IsStuck, SpellsUnit, letter_kind, next_mode, run, sign_kind, unit_of}
+use Rattle.omega_text.specs.hoa.scanning.Modes.{IsFirstUnit, IsScanned, IsStuck, SpellsUnit, first_mode, letter_kind, next_mode, run, unit_of}
 use Rattle.omega_text.specs.Bytes.{is_digit, is_letter, is_white, is_word_byte}
 use Rattle.omega_text.specs.Forms.{IsDigits, IsWord}
 use Rattle.omega_text.proofs.pg_texts.Classes.{both_ways}
@@ -20,7 +20,7 @@ use Rattle.omega_text.proofs.hoa_texts.Numbers.{IsNoNumber}
 use Rattle.omega_text.proofs.hoa_texts.Read.{unit_read}
 use Rattle.omega_text.proofs.hoa_texts.Runs.{answer, run_append}
 use Rattle.omega_text.proofs.hoa_texts.Tests.{pass}
-use Rattle.omega_text.proofs.hoa_texts.Written.{digit_no_letter, digits_run, first_sign, first_white, header_run, no_test, white_no_digit, word_run}
+use Rattle.omega_text.proofs.hoa_texts.Written.{digit_no_letter, digits_run, first_white, header_run, no_test, white_no_digit, word_run}
 
 -- a unit that is no digits has the value 0
 pub plain_unit : (sort : Option HoaKind) (text : List ℕ) → IsUnit sort text → (IsDigits text → ⊥) → SpellsUnit sort 0 text
@@ -97,10 +97,9 @@ pub white_unit : (bytes : List ℕ) → 0 < length bytes → is_white (head byte
 white_unit bytes some white = let scanned = one_byte bytes Blank some (first_white (head bytes) white) (λ byte. refl) in
     first_plain bytes 1 Blank scanned None refl (white_no_digit (head bytes) white)
 
-pub sign_unit : (bytes : List ℕ) (kind : HoaKind) → 0 < length bytes → is_white (head bytes) ≡ false → is_letter (head bytes) ≡ false → is_digit (head bytes) ≡ false
-    → sign_kind (head bytes) ≡ Some kind → IsFirstUnit bytes (Some kind) 0 1
-sign_unit bytes kind some no_white no_letter no_digit sign =
-    let scanned = one_byte bytes (Whole kind) some (first_sign (head bytes) kind no_white no_letter no_digit sign) (λ byte. refl) in
+pub one_sign : (bytes : List ℕ) (kind : HoaKind) → 0 < length bytes → first_mode (head bytes) ≡ Some (Whole kind) → is_digit (head bytes) ≡ false → IsFirstUnit bytes (Some kind) 0 1
+one_sign bytes kind some sign no_digit =
+    let scanned = one_byte bytes (Whole kind) some sign (λ byte. refl) in
     first_plain bytes 1 (Whole kind) scanned (Some kind) refl no_digit
 
 -- the kind of a word

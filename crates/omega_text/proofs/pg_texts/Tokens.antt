@@ -1,6 +1,6 @@
 -- Tokens made of the front of bytes, and faults of it.
-use Rattle.std.proofs.Common.{◌≡◌, ℕ, ◌+◌, ◌-◌, List, length, take, sym, ap, subst, arith, length-take-le}
-use Rattle.omega_text.specs.pg.Cut.{BeginsWith}
+use Rattle.std.proofs.Common.{◌≡◌, ℕ, ◌+◌, ◌-◌, List, length, take, drop, sym, ap, subst, arith, length-drop, length-take-le}
+use Rattle.omega_text.specs.pg.Cut.{BeginsWith, Follows, IsFirstForm, IsGap}
 use Rattle.omega_text.specs.declared.pg.kind.PgKind.{PgKind}
 use Rattle.omega_text.specs.pg.Forms.{IsLongest, Spells}
 use Rattle.omega_text.specs.Lexeme.{Lexeme, lexeme_at}
@@ -22,3 +22,18 @@ begins_at bytes place count kind value longest spells =
 -- the same of a token that is that lexeme
 pub begins_as : (bytes : List ℕ) (place count : ℕ) (kind : PgKind) (value : ℕ) (lexeme : Lexeme PgKind) → lexeme ≡ lexeme_at place kind value (take count bytes) → IsLongest bytes count → Spells kind value (take count bytes) → BeginsWith bytes lexeme
 begins_as bytes place count kind value lexeme is longest spells = subst (BeginsWith bytes) (sym is) (begins_at bytes place count kind value longest spells)
+
+-- a first form by equal parts
+pub front_as : (bytes : List ℕ) (kind sort : PgKind) (value count size : ℕ) → kind ≡ sort → value ≡ 0 → count ≡ size → IsLongest bytes size → Spells sort 0 (take size bytes) → IsFirstForm bytes kind value count
+front_as bytes kind sort value count size kinds values counts longest spells =
+    subst (λ s. IsFirstForm bytes s value count) (sym kinds) (subst (λ n. IsFirstForm bytes sort n count) (sym values) (subst (λ n. IsFirstForm bytes sort 0 n) (sym counts) (record { longest = longest; spells = spells })))
+
+-- a form behind a gap is the token that follows
+pub form_follows : (source : List ℕ) (at start : ℕ) (kind : PgKind) (value count : ℕ) → IsGap source at start → IsFirstForm (drop start source) kind value count
+    → Follows source at (lexeme_at start kind value (take count (drop start source)))
+form_follows source at start kind value count gap form =
+    let size = length-drop start source in
+    let short = length-take-le count (drop start source) form.longest.within in
+    let inside = form.longest.within in
+    let within = gap.within in
+    record { gap = gap; token = begins_at (drop start source) start count kind value form.longest form.spells; within = omega arith }

@@ -3,17 +3,19 @@
 ghost use Rattle.std.specs.Prelude.{◌≡◌, ◌+◌, ◌-◌, ◌<◌, ◌≤◌, ◌^◌, ◌∷◌, [], length, slice_index, take, true, IfSome, IsTrue};
 ghost use Rattle.std.specs.List.{prefix_len};
 ghost use Rattle.omega_text.specs.Bytes.{is_digit, is_letter};
-ghost use Rattle.omega_text.specs.hoa.scanning.Passing.{EndsWord, IsCourse, IsNoneMark, IsOnWayFor, IsPlain, IsSimple, IsSingle, Passes, PassesAs, is_quoted};
+ghost use Rattle.omega_text.specs.hoa.scanning.Passing.{EndsWord, IsCourse, IsNoneMark, IsOnWayFor, IsPlain, IsSimple, IsSingle, Passes, PassesAs};
 ghost use Rattle.omega_text.specs.hoa.scanning.Reading.{IsOnWay};
 ghost use Rattle.omega_text.specs.hoa.scanning.Unfinished.{IsValueOf, fresh};
 
 use super::kept_mode::KeptMode;
 use super::kind::HoaKind;
-use super::mode::{Mode, letter_kind, sign_kind};
+use super::lead::{Lead, lead_of};
+use super::mode::{Mode, letter_kind};
 use super::pending::{NO_NUMBER, Pending};
 use super::placed::{PlacedToken, Settled};
+use super::quoted::quoted_count;
 use super::tokenizer::read_byte;
-use crate::bytes::{is_letter, is_white, tail, word_count};
+use crate::bytes::{tail, word_count};
 use crate::digits::{front_digits, has_needless_zero};
 use crate::limits::MOST_NUMBER;
 
@@ -176,18 +178,16 @@ fn simple_unit(bytes: &[u8], place: usize, start: usize) -> Simple
 {
     let byte = bytes[place];
     if is_single(byte) {
-        Simple::Ended { place: place + 1 }
-    } else if is_letter(byte) {
-        pass_word(bytes, place, start)
-    } else if byte.is_ascii_digit() {
-        pass_digits(bytes, place, start)
-    } else if byte == b'"' {
-        pass_string(bytes, place, start)
-    } else {
-        Simple::Begun {
+        return Simple::Ended { place: place + 1 };
+    }
+    match lead_of(byte) {
+        Lead::Digit => pass_digits(bytes, place, start),
+        Lead::Letter => pass_word(bytes, place, start),
+        Lead::Quote => pass_string(bytes, place, start),
+        _ => Simple::Begun {
             pending: Pending::new(start),
             place,
-        }
+        },
     }
 }
 
@@ -196,7 +196,11 @@ fn simple_unit(bytes: &[u8], place: usize, start: usize) -> Simple
 fn is_single(byte: u8) -> bool
     ensures { IsTrue result → IsSingle byte }
 {
-    is_white(byte) || sign_kind(byte).is_some()
+    match lead_of(byte) {
+        Lead::White => true,
+        Lead::Sign(_) => true,
+        _ => false,
+    }
 }
 
 #[inline(always)]
@@ -240,6 +244,11 @@ fn pass_digits(bytes: &[u8], place: usize, start: usize) -> Simple
     requires digit { is_digit (slice_index bytes.now place) ≡ true }
     ensures { IsSimple start bytes.now place result }
 {
+    let next = place + 1;
+    if next < bytes.len() && is_single(bytes[next]) {
+        // Most numbers have one digit.
+        return Simple::Ended { place: next + 1 };
+    }
     let (count, value) = front_value(tail(bytes, place));
     let end = place + count;
     if end < bytes.len() && value <= MOST_NUMBER as u64 && is_single(bytes[end]) {
@@ -290,18 +299,4 @@ fn pass_string(bytes: &[u8], place: usize, start: usize) -> Simple
         },
         place: end,
     }
-}
-
-/// How many bytes at the front are neither quotes nor backslashes.
-fn quoted_count(bytes: &[u8]) -> usize
-    ensures { result ≡ prefix_len is_quoted bytes.now }
-{
-    bytes.iter().take_while(|byte| is_quoted(**byte)).count()
-}
-
-/// Whether a byte stands for itself in a string.
-fn is_quoted(byte: u8) -> bool
-    ensures { result ≡ is_quoted byte }
-{
-    byte != b'"' && byte != b'\\'
 }

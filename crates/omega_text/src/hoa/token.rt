@@ -1,19 +1,20 @@
 ghost use Rattle.std.specs.Prelude.{◌≡◌, ◌+◌, ◌<◌, ◌≤◌, ◌^◌, drop, take, length, IfErr, IfNone, IfOk, IfSome};
 ghost use Rattle.omega_text.specs.Format.{IsLexical, IsPartBehind};
 ghost use Rattle.omega_text.specs.Lexeme.{lexeme_at, lexeme_of};
-ghost use Rattle.omega_text.specs.hoa.Cut.{Ends, Follows};
+ghost use Rattle.omega_text.specs.hoa.Cut.{Ends, Follows, IsGapTo};
 ghost use Rattle.omega_text.specs.hoa.Fault.{Faults};
 
 use super::kind::HoaKind;
-use super::unit::first_unit;
-use crate::bytes::tail;
+use super::unit::{first_unit, plain_unit};
+use crate::bytes::{tail, white_count};
 use crate::refusal::TextFault;
 use crate::token::{Span, Token};
 
 /// The next token of a Hanoi text from a place on, or none where only a gap is left.
 ///
 /// White space and comments before the token are skipped. A fault is 1 or 2, at the least place from there. No memory is
-/// taken, and each byte up to the end of the token is looked at once, the one behind it perhaps too.
+/// taken, and each byte up to the end of the token is looked at once, or a few times in a comment, a mark, a string with a
+/// backslash or a fault; the one behind it perhaps too.
 #[inline(always)]
 pub fn next_hoa_token(source: &[u8], at: usize) -> Result<Option<Token<'_, HoaKind>>, TextFault>
     requires { at ≤ length source.now }
@@ -23,7 +24,64 @@ pub fn next_hoa_token(source: &[u8], at: usize) -> Result<Option<Token<'_, HoaKi
     ensures lexical { IfErr result IsLexical }
     ensures progress { IfOk result (λ found. IfSome found (λ token. IsPartBehind source.now at token.span)) }
 {
-    let mut start = at;
+    let start = white_end(source, at);
+    if start == source.len() {
+        return Ok(None);
+    }
+    let bytes = tail(source, start);
+    if let Some(unit) = plain_unit(bytes) {
+        if let Some(kind) = unit.kind {
+            let token = front_token(bytes, start, kind, unit.value, unit.count);
+            return Ok(Some(token));
+        }
+    }
+    next_later(source, at, start)
+}
+
+/// Where the white bytes end that stand at a place.
+#[inline(always)]
+fn white_end(source: &[u8], at: usize) -> usize
+    requires { at ≤ length source.now }
+    ensures { IsGapTo source.now at result }
+{
+    at + white_count(tail(source, at))
+}
+
+/// What `next_behind` gives. Its result stands in memory of its own, so that a token that is read before it need not.
+#[inline(always)]
+fn next_later(
+    source: &[u8],
+    at: usize,
+    passed: usize,
+) -> Result<Option<Token<'_, HoaKind>>, TextFault>
+    requires { IsGapTo source.now at passed }
+    ensures token { IfOk result (λ found. IfSome found (λ token. Follows source.now at (lexeme_of token))) }
+    ensures end { IfOk result (λ found. IfNone found (Ends source.now at)) }
+    ensures fault { IfErr result (Faults source.now at) }
+    ensures lexical { IfErr result IsLexical }
+    ensures progress { IfOk result (λ found. IfSome found (λ token. IsPartBehind source.now at token.span)) }
+{
+    match next_behind(source, at, passed) {
+        Ok(found) => Ok(found),
+        Err(fault) => Err(fault),
+    }
+}
+
+/// The next token from a place on, behind a gap there that has been passed. Whatever follows, it is read.
+#[inline(never)]
+fn next_behind(
+    source: &[u8],
+    at: usize,
+    passed: usize,
+) -> Result<Option<Token<'_, HoaKind>>, TextFault>
+    requires { IsGapTo source.now at passed }
+    ensures token { IfOk result (λ found. IfSome found (λ token. Follows source.now at (lexeme_of token))) }
+    ensures end { IfOk result (λ found. IfNone found (Ends source.now at)) }
+    ensures fault { IfErr result (Faults source.now at) }
+    ensures lexical { IfErr result IsLexical }
+    ensures progress { IfOk result (λ found. IfSome found (λ token. IsPartBehind source.now at token.span)) }
+{
+    let mut start = passed;
     while start < source.len() {
         let bytes = tail(source, start);
         let unit = first_unit(bytes, start)?;

@@ -2,7 +2,7 @@ ghost use Rattle.std.specs.Prelude.{◌≡◌, ◌+◌, ◌^◌, ◌≤◌, ◌<
 ghost use Rattle.std.specs.List.{AllPass, prefix_len};
 ghost use Rattle.std.specs.Str.Parse.{digits_value};
 ghost use Rattle.omega_text.specs.Bytes.{is_digit, is_letter, is_white};
-ghost use Rattle.omega_text.specs.pg.Cut.{BeginsWith, Follows, IsGap};
+ghost use Rattle.omega_text.specs.pg.Cut.{Follows, IsFirstForm, IsGap};
 ghost use Rattle.omega_text.specs.pg.Fault.{Faults, IsFaultOf};
 ghost use Rattle.omega_text.specs.Forms.{IsDigits};
 ghost use Rattle.omega_text.specs.pg.Forms.{IsNoToken};
@@ -34,7 +34,9 @@ pub fn next_pg_token(source: &[u8], at: usize) -> Result<Option<Token<'_, PgKind
     if start == source.len() {
         return Ok(None);
     }
-    first_token(tail(source, start), start).map(Some)
+    let bytes = tail(source, start);
+    let front = first_form(bytes, start)?;
+    Ok(Some(front_token(bytes, start, front)))
 }
 
 /// Where the white space ends that stands at a place.
@@ -46,105 +48,121 @@ fn gap_end(source: &[u8], from: usize) -> usize
     from + white_count(tail(source, from))
 }
 
-/// The token that bytes begin with, which stand at a place of the text and do not begin with white space.
+/// The longest form that bytes begin with, as the token that it is.
+#[derive(Clone, Copy, Debug, PartialEq, Eq)]
+struct Form {
+    kind: PgKind,
+    value: u32,
+    /// How many bytes it has.
+    count: usize,
+}
+
+/// The form that bytes begin with, which stand at a place of the text and do not begin with white space.
 #[inline(always)]
-fn first_token(bytes: &[u8], place: usize) -> Result<Token<'_, PgKind>, TextFault>
+fn first_form(bytes: &[u8], place: usize) -> Result<Form, TextFault>
     requires some { 0 < length bytes.now }
-    requires room { place + length bytes.now < 2 ^ 64 }
     requires black { is_white (slice_index bytes.now 0) ≡ false }
-    ensures token { IfOk result (λ token. BeginsWith bytes.now (lexeme_of token)) }
-    ensures start { IfOk result (λ token. token.span.start ≡ place) }
+    ensures form { IfOk result (λ form. IsFirstForm bytes.now form.kind form.value form.count) }
     ensures fault { IfErr result (IsFaultOf bytes.now place) }
 {
     let first = bytes[0];
     if first.is_ascii_digit() {
         first_number(bytes, place)
+    } else if first == b',' {
+        Ok(plain_form(PgKind::Comma, 1))
+    } else if first == b';' {
+        Ok(plain_form(PgKind::Semicolon, 1))
     } else if is_letter(first) {
         first_word(bytes, place)
     } else if first == b'"' {
         first_name(bytes, place)
-    } else if first == b';' {
-        Ok(front_token(bytes, place, 1, PgKind::Semicolon, 0))
-    } else if first == b',' {
-        Ok(front_token(bytes, place, 1, PgKind::Comma, 0))
     } else {
         Err(TextFault::Lex { at: place })
     }
 }
 
+/// A form of a kind that has no value.
+#[inline(always)]
+fn plain_form(kind: PgKind, count: usize) -> Form
+    ensures kind { result.kind ≡ kind }
+    ensures value { result.value ≡ 0 }
+    ensures count { result.count ≡ count }
+{
+    Form {
+        kind,
+        value: 0,
+        count,
+    }
+}
+
 /// The number that bytes begin with: their whole run of digits is one, or is refused.
 #[inline(always)]
-fn first_number(bytes: &[u8], place: usize) -> Result<Token<'_, PgKind>, TextFault>
+fn first_number(bytes: &[u8], place: usize) -> Result<Form, TextFault>
     requires some { 0 < length bytes.now }
-    requires room { place + length bytes.now < 2 ^ 64 }
     requires digit { is_digit (slice_index bytes.now 0) ≡ true }
-    ensures token { IfOk result (λ token. BeginsWith bytes.now (lexeme_of token)) }
-    ensures start { IfOk result (λ token. token.span.start ≡ place) }
+    ensures form { IfOk result (λ form. IsFirstForm bytes.now form.kind form.value form.count) }
     ensures fault { IfErr result (IsFaultOf bytes.now place) }
 {
     let (count, value) = front_digits(bytes);
     if has_needless_zero(bytes, count) || value > MOST_NUMBER as u64 {
         return Err(TextFault::Number { at: place });
     }
-    Ok(front_token(bytes, place, count, PgKind::Number, value as u32))
+    Ok(Form {
+        kind: PgKind::Number,
+        value: value as u32,
+        count,
+    })
 }
 
 /// The word that bytes begin with: the longest one is `parity` or `paritysol`, or is refused.
-fn first_word(bytes: &[u8], place: usize) -> Result<Token<'_, PgKind>, TextFault>
+#[inline(never)]
+fn first_word(bytes: &[u8], place: usize) -> Result<Form, TextFault>
     requires some { 0 < length bytes.now }
-    requires room { place + length bytes.now < 2 ^ 64 }
     requires letter { is_letter (slice_index bytes.now 0) ≡ true }
-    ensures token { IfOk result (λ token. BeginsWith bytes.now (lexeme_of token)) }
-    ensures start { IfOk result (λ token. token.span.start ≡ place) }
+    ensures form { IfOk result (λ form. IsFirstForm bytes.now form.kind form.value form.count) }
     ensures fault { IfErr result (IsFaultOf bytes.now place) }
 {
     let count = word_count(bytes);
     let word = &bytes[..count];
     if word == b"parity".as_slice() {
-        Ok(front_token(bytes, place, count, PgKind::Parity, 0))
+        Ok(plain_form(PgKind::Parity, count))
     } else if word == b"paritysol".as_slice() {
-        Ok(front_token(bytes, place, count, PgKind::ParitySol, 0))
+        Ok(plain_form(PgKind::ParitySol, count))
     } else {
         Err(TextFault::Lex { at: place })
     }
 }
 
 /// The name that bytes begin with: it ends at the next quote, and only bytes of a name stand between.
-fn first_name(bytes: &[u8], place: usize) -> Result<Token<'_, PgKind>, TextFault>
+#[inline(never)]
+fn first_name(bytes: &[u8], place: usize) -> Result<Form, TextFault>
     requires some { 0 < length bytes.now }
-    requires room { place + length bytes.now < 2 ^ 64 }
     requires quote { slice_index bytes.now 0 ≡ 34 }
-    ensures token { IfOk result (λ token. BeginsWith bytes.now (lexeme_of token)) }
-    ensures start { IfOk result (λ token. token.span.start ≡ place) }
+    ensures form { IfOk result (λ form. IsFirstForm bytes.now form.kind form.value form.count) }
     ensures fault { IfErr result (IsFaultOf bytes.now place) }
 {
     let close = 1 + name_count(tail(bytes, 1));
     if close < bytes.len() && bytes[close] == b'"' {
-        Ok(front_token(bytes, place, close + 1, PgKind::Name, 0))
+        Ok(plain_form(PgKind::Name, close + 1))
     } else {
         Err(TextFault::Lex { at: place })
     }
 }
 
-/// The token of a kind and value that the first bytes are.
-fn front_token(
-    bytes: &[u8],
-    place: usize,
-    count: usize,
-    kind: PgKind,
-    value: u32,
-) -> Token<'_, PgKind>
-    requires within { count ≤ length bytes.now }
+/// The token of a form that bytes begin with, which stand at a place of the text.
+#[inline(always)]
+fn front_token(bytes: &[u8], place: usize, form: Form) -> Token<'_, PgKind>
+    requires within { form.count ≤ length bytes.now }
     requires room { place + length bytes.now < 2 ^ 64 }
-    ensures { lexeme_of result ≡ lexeme_at place kind value (take count bytes.now) }
+    ensures { lexeme_of result ≡ lexeme_at place form.kind form.value (take form.count bytes.now) }
 {
     Token {
-        text: &bytes[..count],
+        text: &bytes[..form.count],
         span: Span {
             start: place,
-            end: place + count,
+            end: place + form.count,
         },
-        value,
-        kind,
+        value: form.value,
+        kind: form.kind,
     }
 }

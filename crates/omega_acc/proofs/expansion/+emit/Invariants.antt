@@ -9,8 +9,8 @@ decreases-emit l = l.before
 
 abbrev pub invariant-loop-node : goal.invariant-loop-node
 invariant-loop-node l = record {
-  rest : l.out.items ++ emitted (take l.before (entries_of [] l.aliases)) l.names (drop l.node-index l.node-items)
+  rest : l.out.items ++ emitted (take l.before (entries_of [] l.aliases)) l.names (drop l.node-index l.nodes)
       ≡ l.fn.out.items ++ nodes_of (replaced (take l.before (entries_of [] l.aliases)) l.raw);
-  stand : AllStand (take l.before (entries_of [] l.aliases)) l.names (drop l.node-index l.node-items);
+  stand : AllStand (take l.before (entries_of [] l.aliases)) l.names (drop l.node-index l.nodes);
   last : IsReplacedAt l.aliases l.before l.out.items l.last.place l.last.start l.last.end;
 }

@@ -1,6 +1,7 @@
 -- What is put out is the label of the meaning, which has no fault.
 use Rattle.std.proofs.Common.{◌++◌, [], Some, take, ap, subst, sym, ◌∙◌, IsSome}
-use Rattle.omega_acc.specs.Expanding.{entries_of, expansion, replaced}
+use Rattle.std.proofs.lemmas.Result.{IfOk-weaker}
+use Rattle.omega_acc.specs.Expanding.{IsExpansion, entries_of, expansion, replaced}
 use Rattle.omega_acc.specs.layout.Emitting.{nodes_of}
 use Rattle.omega_acc.proofs.EntryLemmas.{shallow-entries, shallow-replaced, take-entries_of}
 use Rattle.omega_acc.proofs.ExpansionLemmas.{IsLabel-sound, sound-some, tree-sound}
@@ -20,11 +21,14 @@ of_nodes-requires c =
     ∙ ap (λ entries. nodes_of (replaced entries c.args.raw.now)) (take-entries_of c.args.aliases.now c.len.result c.len.ensures)))
 
 pub returns-clause-ok : goal.returns-clause-ok
-returns-clause-ok c = record {
-  sound = c.requires.sound;
-  tree_is = tree-sound (expansion c.args.aliases.now c.args.raw.now) c.emit.new.out.items c.requires.sound
-      (c.in_ok-emit.ensures.ok
-      ∙ (ap (λ front. front ++ nodes_of (replaced (take c.len.result (entries_of [] c.args.aliases.now)) c.args.raw.now)) c.in_ok-nodes.ensures.items
-      ∙ ap (λ entries. nodes_of (replaced entries c.args.raw.now)) (take-entries_of c.args.aliases.now c.len.result c.len.ensures)))
-      ∙ ap Some (sym c.of_nodes.ensures);
-}
+returns-clause-ok c =
+    IfOk-weaker _ _ (IsExpansion c.args.aliases.now c.args.raw.now)
+    (λ label is. record {
+      sound = c.requires.sound;
+      tree_is = tree-sound (expansion c.args.aliases.now c.args.raw.now) c.emit.new.out.items c.requires.sound
+          (c.in_ok-emit.ensures.ok
+          ∙ (ap (λ front. front ++ nodes_of (replaced (take c.len.result (entries_of [] c.args.aliases.now)) c.args.raw.now)) c.in_ok-nodes.ensures.items
+          ∙ ap (λ entries. nodes_of (replaced entries c.args.raw.now)) (take-entries_of c.args.aliases.now c.len.result c.len.ensures)))
+          ∙ ap Some (sym is);
+    })
+    c.of_nodes.ensures.ok

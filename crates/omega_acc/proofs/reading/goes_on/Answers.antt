@@ -30,7 +30,7 @@ pub returns-clause-more : goal.returns-clause-more
 returns-clause-more g c whole has =
     c.in_ok-bind_tightly.ensures.ok whole _
     (after_close whole _ _ _ _ _ _ _ _ _ _ _ _ c.if-is_passed.ensures.passed c.if-is_passed-2.ensures.passed c.if-not-is_passed.ensures.passed c.in-Some.ensures
-    c.in_ok-push-3.ensures.items c.deeper-unfinished.ensures (c.in_ok-bind_loosely.ensures.ok whole _ has))
+    c.in_ok-push-3.ensures.ok c.deeper-unfinished.ensures (c.in_ok-bind_loosely.ensures.ok whole _ has))
 
 pub returns-in_err-operand-clause-err : goal.returns-in_err-operand-clause-err
 returns-in_err-operand-clause-err g c =

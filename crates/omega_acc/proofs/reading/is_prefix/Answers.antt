@@ -35,18 +35,18 @@ returns-clause-wants g c whole wants =
     elim c.match-token.branch [
       | in-True+in_ok-push-in-True w ↦ has_atom whole _ _ _ _ _ _ (constant true) _ _ _ c.in-Some.ensures.some
           (subst (IsAtom (constant true)) (sym (ap (λ k. seen_as k c.in-Some.token.value c.in-Some.token.text.now) w.in-True.is)) (truth true))
-          (ap (λ u. u.nodes.items) w.unfinished-is ∙ w.in_ok-push-in-True.ensures.items)
+          (ap (λ u. u.nodes.items) w.unfinished-is ∙ w.in_ok-push-in-True.ensures.ok)
           (ap (λ u. u.names.items) w.unfinished-is ∙ sym (append-nil _)) (ap (λ u. u.pending) w.unfinished-is) wants
       | in-False+in_ok-push-in-False w ↦ has_atom whole _ _ _ _ _ _ (constant false) _ _ _ c.in-Some.ensures.some
           (subst (IsAtom (constant false)) (sym (ap (λ k. seen_as k c.in-Some.token.value c.in-Some.token.text.now) w.in-False.is)) (truth false))
-          (ap (λ u. u.nodes.items) w.unfinished-is ∙ w.in_ok-push-in-False.ensures.items)
+          (ap (λ u. u.nodes.items) w.unfinished-is ∙ w.in_ok-push-in-False.ensures.ok)
           (ap (λ u. u.names.items) w.unfinished-is ∙ sym (append-nil _)) (ap (λ u. u.pending) w.unfinished-is) wants
       | in-Int+in_ok-push-in-Int w ↦ has_atom whole _ _ _ _ _ _ (proposition c.in-Some.token.value) _ _ _ c.in-Some.ensures.some
           (subst (IsAtom (proposition c.in-Some.token.value)) (sym (ap (λ k. seen_as k c.in-Some.token.value c.in-Some.token.text.now) w.in-Int.is)) (numbered c.in-Some.token.value))
-          (ap (λ u. u.nodes.items) w.unfinished-is ∙ w.in_ok-push-in-Int.ensures.items)
+          (ap (λ u. u.nodes.items) w.unfinished-is ∙ w.in_ok-push-in-Int.ensures.ok)
           (ap (λ u. u.names.items) w.unfinished-is ∙ sym (append-nil _)) (ap (λ u. u.pending) w.unfinished-is) wants
       | in-AliasName+in_ok-count-in-AliasName+in_ok-push-in-AliasName+in_ok-extend_from_slice-in-AliasName w ↦ has_atom whole _ _ _ _ _ _ (alias c.in-Some.token.text.now) _ _ _ c.in-Some.ensures.some
           (subst (IsAtom (alias c.in-Some.token.text.now)) (sym (ap (λ k. seen_as k c.in-Some.token.value c.in-Some.token.text.now) w.in-AliasName.is)) (called c.in-Some.token.text.now))
-          (ap (λ u. u.nodes.items) w.unfinished-is ∙ (w.in_ok-push-in-AliasName.ensures.items ∙ ap (λ n. c.args.unfinished.now.nodes.items ++ Alias n ∷ []) w.in_ok-count-in-AliasName.ensures.ok))
+          (ap (λ u. u.nodes.items) w.unfinished-is ∙ (w.in_ok-push-in-AliasName.ensures.ok ∙ ap (λ n. c.args.unfinished.now.nodes.items ++ Alias n ∷ []) w.in_ok-count-in-AliasName.ensures.ok))
           (ap (λ u. u.names.items) w.unfinished-is ∙ w.in_ok-extend_from_slice-in-AliasName.ensures.items) (ap (λ u. u.pending) w.unfinished-is) wants
     ]

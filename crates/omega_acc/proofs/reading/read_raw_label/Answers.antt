@@ -1,5 +1,6 @@
 -- The whole is read.
 use Rattle.std.proofs.Common.{subst, sym, ◌∙◌}
+use Rattle.std.proofs.lemmas.Result.{IfOk-weaker}
 use Rattle.omega_acc.specs.Reading.{Reads, ReadsNone}
 use Rattle.omega_acc.specs.Symbols.{IsUnread}
 use Rattle.omega_acc.proofs.RawLabelLemmas.{IsRawLabel-of, raw_tree-is}
@@ -9,19 +10,21 @@ use Rattle.omega_acc.proofs.reading.read_raw_label.Goals as goal
 pub of_nodes-requires : goal.of_nodes-requires
 of_nodes-requires g c =
     let read = rw c.if-branch.false at (c.in_ok-goes_on.ensures.more (g.S.TokenSource.left c.args.source.now) c.loop-unfinished.invariant) in
-    IsRawLabel-of read.tree _ _ _ (record { flat = c.in_ok-nodes.ensures.ok ∙ (c.as_slice.ensures.value ∙ read.flat); named = read.named }) read.deep
+    IsRawLabel-of read.tree _ _ _ (record { flat = c.as_slice.ensures ∙ read.flat; named = c.as_slice-2.ensures.value ∙ read.named }) read.deep
 
 pub returns-clause-ok : goal.returns-clause-ok
 returns-clause-ok g c =
     let read = rw c.if-branch.false at (c.in_ok-goes_on.ensures.more (g.S.TokenSource.left c.args.source.now) c.loop-unfinished.invariant) in
-    subst (λ label. Reads (g.S.TokenSource.left c.args.source.now) label (g.S.TokenSource.left c.goes_on.new.source))
-    (sym (c.of_nodes.ensures ∙ raw_tree-is read.tree _ _ (record { flat = c.in_ok-nodes.ensures.ok ∙ (c.as_slice.ensures.value ∙ read.flat); named = read.named }))) read.reads
+    IfOk-weaker _ _ _
+    (λ label is. subst (λ label. Reads (g.S.TokenSource.left c.args.source.now) label (g.S.TokenSource.left c.goes_on.new.source))
+    (sym (is ∙ raw_tree-is read.tree _ _ (record { flat = c.as_slice.ensures ∙ read.flat; named = c.as_slice-2.ensures.value ∙ read.named }))) read.reads)
+    c.of_nodes.ensures.ok
 
 pub returns-in_err-operand-clause-err : goal.returns-in_err-operand-clause-err
 returns-in_err-operand-clause-err g c =
-    error_then c.from_residual-in_err-operand.result _ _ c.from_residual-in_err-operand.ensures.1
+    error_then c.from_residual.result _ _ c.from_residual.ensures.1
     (λ e is. subst (IsUnread (ReadsNone (g.S.TokenSource.left c.args.source.now))) (sym is)
-    (c.in_err-operand.ensures.err (g.S.TokenSource.left c.args.source.now) (c.in_ok-unfinished.ensures.ok (g.S.TokenSource.left c.args.source.now))))
+    (c.in_err-operand.ensures.err (g.S.TokenSource.left c.args.source.now) (c.new-unfinished.ensures (g.S.TokenSource.left c.args.source.now))))
 
 pub returns-in_err-goes_on-clause-err : goal.returns-in_err-goes_on-clause-err
 returns-in_err-goes_on-clause-err g c =

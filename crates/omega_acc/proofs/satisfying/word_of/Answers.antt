@@ -1,10 +1,7 @@
--- There is room for each atom's word.
-use Rattle.std.proofs.Common.{refl}
-use Rattle.omega_acc.proofs.WordLemmas.{peak-atom}
+-- Few nodes never stack up past their count.
+use Rattle.std.proofs.Common.{arith}
+use Rattle.omega_acc.proofs.WordLemmas.{peak-short}
 use Rattle.omega_acc.proofs.satisfying.word_of.Goals as goal
 
-pub push-requires : goal.push-requires
-push-requires c = peak-atom _ c.args.nodes.now _ _ _ c.loop-node-test.true c.in-Constant.is refl c.loop-node.invariant.room
-
-pub push-requires-in-Proposition : goal.push-requires-in-Proposition
-push-requires-in-Proposition c = peak-atom _ c.args.nodes.now _ _ _ c.loop-node-test.true c.in-Proposition.is refl c.loop-node.invariant.room
+pub word_within-requires-clause-enough : goal.word_within-requires-clause-enough
+word_within-requires-clause-enough c = omega (arith, peak-short 0 c.args.nodes.now, c.if-nodes-le-MOST_IN_PLACE.true)

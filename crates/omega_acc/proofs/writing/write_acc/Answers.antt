@@ -10,4 +10,4 @@ returns-clause-ok c =
     ∙ ap (λ bytes. c.args.out.now.items ++ bytes)
     (c.top.ensures
     ∙ ap (λ (text : Text). text.bytes)
-    (top_of-formula c.args.formula.now c.in_ok-texts.texts c.put_formula.new.texts _ c.in_ok-texts.ensures.ok c.nodes.ensures c.in_ok-put_formula.ensures.ok))
+    (top_of-formula c.args.formula.now c.new-texts.result c.put_formula.new.texts _ c.new-texts.ensures c.nodes.ensures c.in_ok-put_formula.ensures.ok))

@@ -10,4 +10,4 @@ returns-clause-ok c =
     ∙ ap (λ bytes. c.args.out.now.items ++ bytes)
     (c.top.ensures
     ∙ ap (λ (text : Text). text.bytes)
-    (top_of-label c.args.label.now c.in_ok-texts.texts c.put_label.new.texts _ c.in_ok-texts.ensures.ok c.nodes.ensures.nodes c.in_ok-put_label.ensures.ok))
+    (top_of-label c.args.label.now c.new-texts.result c.put_label.new.texts _ c.new-texts.ensures c.nodes.ensures.nodes c.in_ok-put_label.ensures.ok))

@@ -164,3 +164,8 @@ pub record IsFirstUnit (bytes : List ℕ) (kind : Option HoaKind) (value count :
   pub within : count ≤ length bytes
   pub spells : SpellsUnit kind value (take count bytes)
   pub longest : IsLongest (take count bytes) (drop count bytes)
+
+-- bytes begin with others
+pub record BeginsAs (bytes front : List ℕ) : Type 0 where
+  pub within : length front ≤ length bytes
+  pub same : take (length front) bytes ≡ front

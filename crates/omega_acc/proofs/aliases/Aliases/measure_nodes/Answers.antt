@@ -10,5 +10,5 @@ pub returns-clause-ok : goal.returns-clause-ok
 returns-clause-ok c =
     c.pop-2.ensures.extent
     ∙ ap top_extent
-    (sym (at_drop_all (extents_behind (extent_named (entries_of [] c.args.self.now)) c.loop-node.stack c.loop-node.names.now) c.nodes-node-items.result.now c.loop-node.node-index (omega (arith, c.loop-node-test.false)))
+    (sym (at_drop_all (extents_behind (extent_named (entries_of [] c.args.self.now)) c.loop-node.stack c.loop-node.names.now) c.nodes-nodes.result.now c.loop-node.node-index (omega (arith, c.loop-node-test.false)))
     ∙ (c.loop-node.invariant ∙ extents_behind-label (entries_of [] c.args.self.now) c.args.raw.now))

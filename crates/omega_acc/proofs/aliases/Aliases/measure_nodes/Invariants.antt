@@ -7,5 +7,5 @@ use Rattle.omega_acc.proofs.aliases.Aliases.measure_nodes.Given as goal
 
 abbrev pub invariant-loop-node : goal.invariant-loop-node
 invariant-loop-node l =
-    extents_behind (extent_named (entries_of [] l.self)) l.stack l.names (drop l.node-index l.node-items)
+    extents_behind (extent_named (entries_of [] l.self)) l.stack l.names (drop l.node-index l.nodes)
     ≡ extents_behind (extent_named (entries_of [] l.self)) [] (alias_names l.raw) (raw_postfix l.raw)

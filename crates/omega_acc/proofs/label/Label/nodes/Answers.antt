@@ -5,7 +5,7 @@ use Rattle.omega_acc.specs.layout.Label.{postfix}
 use Rattle.omega_acc.proofs.label.Label.nodes.Goals as goal
 
 pub returns-clause-nodes : goal.returns-clause-nodes
-returns-clause-nodes c = c.as_slice.ensures ∙ (sym c.self.invariant.flat ∙ ap postfix c.self.view_is)
+returns-clause-nodes c = c.nodes.ensures ∙ (sym c.self.invariant.flat ∙ ap postfix c.self.view_is)
 
 pub returns-clause-shallow : goal.returns-clause-shallow
 returns-clause-shallow c = omega (arith, ap label_depth c.self.view_is, c.self.invariant.shallow)

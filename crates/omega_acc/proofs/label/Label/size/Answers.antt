@@ -7,4 +7,4 @@ use Rattle.omega_acc.proofs.label.Label.size.Goals as goal
 
 pub returns : goal.returns
 returns c =
-    c.len.ensures ∙ (ap length (sym c.self.invariant.flat) ∙ (length-postfix (tree_of c.self.inside.nodes) ∙ ap label_size c.self.view_is))
+    c.len.ensures ∙ (ap length (sym c.self.invariant.flat) ∙ (length-postfix (tree_of c.self.inside.written.nodes) ∙ ap label_size c.self.view_is))

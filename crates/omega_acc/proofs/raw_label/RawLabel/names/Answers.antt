@@ -4,4 +4,4 @@ use Rattle.omega_acc.proofs.RawLabelLemmas.{AreOf-seen}
 use Rattle.omega_acc.proofs.raw_label.RawLabel.names.Goals as goal
 
 pub returns : goal.returns
-returns c = c.as_slice.ensures ∙ (AreOf-seen _ _ _ _ c.self.invariant c.self.view_is).named
+returns c = c.names.ensures ∙ (AreOf-seen _ _ _ _ c.self.invariant c.self.view_is).named

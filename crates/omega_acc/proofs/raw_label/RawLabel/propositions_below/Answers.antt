@@ -3,7 +3,11 @@ use Rattle.std.proofs.Common.{ap, ◌∙◌}
 use Rattle.std.specs.List.{list_all}
 use Rattle.omega_acc.specs.layout.Propositions.{proposition_below}
 use Rattle.omega_acc.proofs.BelowLemmas.{propositions-postfix}
+use Rattle.omega_acc.proofs.RawLabelLemmas.{AreOf-seen}
 use Rattle.omega_acc.proofs.raw_label.RawLabel.propositions_below.Goals as goal
 
 pub returns : goal.returns
-returns c = c.all_propositions_below.ensures ∙ (ap (list_all (proposition_below c.args.count)) c.nodes.ensures ∙ propositions-postfix c.args.count c.args.self.now)
+returns c =
+    c.propositions_below.ensures
+    ∙ (ap (list_all (proposition_below c.args.count)) (AreOf-seen _ _ _ _ c.self.invariant c.self.view_is).flat
+    ∙ propositions-postfix c.args.count c.args.self.now)

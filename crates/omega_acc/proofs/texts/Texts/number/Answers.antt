@@ -7,7 +7,7 @@ use Rattle.omega_acc.proofs.texts.Texts.number.Goals as goal
 
 pub returns-clause-ok : goal.returns-clause-ok
 returns-clause-ok c =
-    texts-last c.write_number.new.out.items c.self.inside.parts.items _ _ c.in_ok-push.ensures.items
-    ∙ (texts-push c.self.inside.bytes.items (decimal c.args.number) c.write_number.new.out.items _ 3 (reverse c.self.inside.parts.items) (ap length c.as_slice-start.ensures.value)
+    texts-last c.write_number.new.bytes.items c.self.inside.parts.items _ _ c.in_ok-push.ensures.ok
+    ∙ (texts-push c.self.inside.bytes.items (decimal c.args.number) c.write_number.new.bytes.items _ 3 (reverse c.self.inside.parts.items) (ap length c.as_slice-start.ensures)
     c.in_ok-write_number.ensures.ok
     ∙ ap (λ rest. atom_text (decimal c.args.number) ∷ rest) c.self.view_is)

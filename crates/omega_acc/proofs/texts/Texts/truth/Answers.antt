@@ -12,7 +12,7 @@ returns-clause-ok c =
       | then-value w ↦ ap (λ b. b ∷ []) w.push-is ∙ ap truth_text (sym w.if-value.true)
       | else-value w ↦ ap (λ b. b ∷ []) w.push-is ∙ ap truth_text (sym w.if-value.false)
     ] in
-    texts-last c.push.new.self.items c.self.inside.parts.items _ _ c.in_ok-push-2.ensures.items
-    ∙ (texts-push c.self.inside.bytes.items (truth_text c.args.value) c.push.new.self.items _ 3 (reverse c.self.inside.parts.items) (ap length c.as_slice-start.ensures.value)
-    (c.in_ok-push.ensures.items ∙ ap (λ more. c.self.inside.bytes.items ++ more) byte)
+    texts-last c.push.new.self.items c.self.inside.parts.items _ _ c.in_ok-push-2.ensures.ok
+    ∙ (texts-push c.self.inside.bytes.items (truth_text c.args.value) c.push.new.self.items _ 3 (reverse c.self.inside.parts.items) (ap length c.as_slice-start.ensures)
+    (c.in_ok-push.ensures.ok ∙ ap (λ more. c.self.inside.bytes.items ++ more) byte)
     ∙ ap (λ rest. atom_text (truth_text c.args.value) ∷ rest) c.self.view_is)

@@ -9,7 +9,7 @@ use Rattle.omega_acc.proofs.unfinished.Unfinished.bind_loosely.Goals as goal
 pub returns-in_ok-push-in-Or-clause-ok : goal.returns-in_ok-push-in-Or-clause-ok
 returns-in_ok-push-in-Or-clause-ok c whole left has =
     has_disjoined whole left _ _ _ _ _ _ _ _ (c.in-Some.ensures ∙ ap (λ p. p ∷ c.pop.new.self) c.in-Or.is)
-    c.in_ok-push-in-Or.ensures.items (c.deeper-self.ensures ∙ ap (λ d. min (d + 1) 257) c.max.ensures) has
+    c.in_ok-push-in-Or.ensures.ok (c.deeper-self.ensures ∙ ap (λ d. min (d + 1) 257) c.max.ensures) has
 
 pub returns-in_ok-push-in_default-pending : goal.returns-in_ok-push-in_default-pending
 returns-in_ok-push-in_default-pending c = record {

@@ -9,12 +9,12 @@ use Rattle.omega_acc.proofs.unfinished.Unfinished.bind_tightly.Goals as goal
 pub loop-pending-preserved : goal.loop-pending-preserved
 loop-pending-preserved c whole left has =
     has_negated whole left _ _ _ _ _ _ _ (c.in-Some.ensures ∙ ap (λ p. p ∷ c.pop.new.self) c.in-Not.is)
-    c.in_ok-push-in-Not.ensures.items c.deeper-self.ensures (c.loop-pending.invariant whole left has)
+    c.in_ok-push-in-Not.ensures.ok c.deeper-self.ensures (c.loop-pending.invariant whole left has)
 
 pub returns-in-And-clause-ok : goal.returns-in-And-clause-ok
 returns-in-And-clause-ok c whole left has =
     has_conjoined whole left _ _ _ _ _ _ _ _ (c.in-Some.ensures ∙ ap (λ p. p ∷ c.pop.new.self) c.in-And.is)
-    c.in_ok-push-in-And.ensures.items (c.deeper-self-in-And.ensures ∙ ap (λ d. min (d + 1) 257) c.max.ensures) (c.loop-pending.invariant whole left has)
+    c.in_ok-push-in-And.ensures.ok (c.deeper-self-in-And.ensures ∙ ap (λ d. min (d + 1) 257) c.max.ensures) (c.loop-pending.invariant whole left has)
 
 pub returns-in_default-pending-clause-ok : goal.returns-in_default-pending-clause-ok
 returns-in_default-pending-clause-ok c whole left has =

@@ -4,7 +4,7 @@ use Rattle.std.proofs.lemmas.List.Sums.{prefix_len-le-length}
 use Rattle.std.specs.List.{prefix_len}
 use Rattle.omega_text.specs.pg.Forms.{is_name_byte}
 use Rattle.omega_text.proofs.pg_texts.Quoted.{longest_name, no_name}
-use Rattle.omega_text.proofs.pg_texts.Tokens.{begins_as}
+use Rattle.omega_text.proofs.pg_texts.Tokens.{front_as}
 use Rattle.omega_text.proofs.pg.token.first_name.Goals as goal
 use Rattle.omega_text.proofs.pg.token.first_name.Goals.{After-name_count-close, else-close-bytes-via-then-close-bytes+else-bytes-close-eq34, else-close-bytes-via-else-close-bytes}
 
@@ -17,10 +17,10 @@ overflow_add-close c =
     let is = counted (goal.at.overflow_add-close c).After-name_count-close in
     omega (arith, prefix_len-le-length is_name_byte (drop 1 c.args.bytes.now), length-drop 1 c.args.bytes.now)
 
-pub returns-then-bytes-close-eq34-clause-token : goal.returns-then-bytes-close-eq34-clause-token
-returns-then-bytes-close-eq34-clause-token c =
-    let name = longest_name c.args.bytes.now c.requires.some c.requires.quote _ (counted (goal.at.returns-then-bytes-close-eq34-clause-token c).After-name_count-close) c.if-close-bytes.true c.if-bytes-close-eq34.true in
-    begins_as _ _ _ _ _ _ c.front_token.ensures name.0 (refl, name.1)
+pub returns-then-bytes-close-eq34-clause-form : goal.returns-then-bytes-close-eq34-clause-form
+returns-then-bytes-close-eq34-clause-form c =
+    let name = longest_name c.args.bytes.now c.requires.some c.requires.quote _ (counted (goal.at.returns-then-bytes-close-eq34-clause-form c).After-name_count-close) c.if-close-bytes.true c.if-bytes-close-eq34.true in
+    front_as _ _ _ _ _ _ c.plain_form.ensures.kind c.plain_form.ensures.value c.plain_form.ensures.count name.0 (refl, name.1)
 
 pub returns-else-close-bytes-clause-fault : goal.returns-else-close-bytes-clause-fault
 returns-else-close-bytes-clause-fault c =

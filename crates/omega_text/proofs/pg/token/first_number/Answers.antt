@@ -5,7 +5,6 @@ use Rattle.omega_text.specs.Forms.{IsDigits}
 use Rattle.omega_text.specs.pg.Forms.{IsLongest, IsNoToken}
 use Rattle.omega_text.proofs.pg_texts.Longest.{longest_digits}
 use Rattle.omega_text.proofs.pg_texts.Numbers.{front_value, needless_zero, too_great}
-use Rattle.omega_text.proofs.pg_texts.Tokens.{begins_as}
 use Rattle.omega_text.proofs.pg.token.first_number.Goals as goal
 use Rattle.omega_text.proofs.pg.token.first_number.Goals.{After-front_digits-count, then-has_needless_zero-via-then-has_needless_zero, then-has_needless_zero-via-else-has_needless_zero+then-value}
 
@@ -34,13 +33,16 @@ returns-then-has_needless_zero-clause-fault c =
     ] in
     (refl, record { count = count; longest = front.0; digits = front.1; wrong = wrong })
 
-pub returns-clause-token : goal.returns-clause-token
-returns-clause-token c =
-    let after = (goal.at.returns-clause-token c).After-front_digits-count in
+pub returns-clause-form : goal.returns-clause-form
+returns-clause-form c =
+    let after = (goal.at.returns-clause-form c).After-front_digits-count in
     let front = counted after in
-    begins_as _ _ _ _ _ _ c.front_token.ensures front.0 (
-      omega (arith, c.if-value.false),
-      front_value (take c.front_digits-count.result.0 c.args.bytes.now) c.front_digits-count.result.1 front.1
-          (λ zero_first. omega (arith, long after, c.if-has_needless_zero.ensures (sym (first after) ∙ zero_first)))
-          (c.front_digits-count.ensures.value (omega (arith, c.if-value.false))) (omega (arith, c.if-value.false)),
-    )
+    record {
+      longest = front.0;
+      spells = (
+        omega (arith, c.if-value.false),
+        front_value (take c.front_digits-count.result.0 c.args.bytes.now) c.front_digits-count.result.1 front.1
+            (λ zero_first. omega (arith, long after, c.if-has_needless_zero.ensures (sym (first after) ∙ zero_first)))
+            (c.front_digits-count.ensures.value (omega (arith, c.if-value.false))) (omega (arith, c.if-value.false)),
+      );
+    }

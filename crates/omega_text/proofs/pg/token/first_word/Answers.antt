@@ -6,7 +6,7 @@ use Rattle.omega_text.specs.pg.Forms.{IsLongest}
 use Rattle.omega_text.proofs.pg_texts.Classes.{both_ways}
 use Rattle.omega_text.proofs.pg_texts.Longest.{longest_word}
 use Rattle.omega_text.proofs.pg_texts.Numbers.{wrong_word}
-use Rattle.omega_text.proofs.pg_texts.Tokens.{begins_as}
+use Rattle.omega_text.proofs.pg_texts.Tokens.{front_as}
 use Rattle.omega_text.proofs.pg.token.first_word.Goals as goal
 use Rattle.omega_text.proofs.pg.token.first_word.Goals.{After-word_count-count}
 
@@ -14,15 +14,15 @@ use Rattle.omega_text.proofs.pg.token.first_word.Goals.{After-word_count-count}
 counted : (c : After-word_count-count) → IsLongest c.args.bytes.now c.word_count-count.result × IsWord (take c.word_count-count.result c.args.bytes.now)
 counted c = subst (λ count. IsLongest c.args.bytes.now count × IsWord (take count c.args.bytes.now)) (sym c.word_count-count.ensures) (longest_word c.args.bytes.now c.requires.some c.requires.letter)
 
-pub returns-then-eq-clause-token : goal.returns-then-eq-clause-token
-returns-then-eq-clause-token c =
+pub returns-then-eq-clause-form : goal.returns-then-eq-clause-form
+returns-then-eq-clause-form c =
     let same = (bytes_decides _ _).0 (sym c.eq.ensures ∙ c.if-eq.true) ∙ c.as_slice.ensures in
-    begins_as _ _ _ _ _ _ c.front_token.ensures (counted (goal.at.returns-then-eq-clause-token c).After-word_count-count).0 (refl, same)
+    front_as _ _ _ _ _ _ c.plain_form.ensures.kind c.plain_form.ensures.value c.plain_form.ensures.count (counted (goal.at.returns-then-eq-clause-form c).After-word_count-count).0 (refl, same)
 
-pub returns-then-eq-2-clause-token : goal.returns-then-eq-2-clause-token
-returns-then-eq-2-clause-token c =
+pub returns-then-eq-2-clause-form : goal.returns-then-eq-2-clause-form
+returns-then-eq-2-clause-form c =
     let same = (bytes_decides _ _).0 (sym c.eq-else-eq.ensures ∙ c.if-eq-2.true) ∙ c.as_slice-else-eq.ensures in
-    begins_as _ _ _ _ _ _ c.front_token-then-eq-2.ensures (counted (goal.at.returns-then-eq-2-clause-token c).After-word_count-count).0 (refl, same)
+    front_as _ _ _ _ _ _ c.plain_form-then-eq-2.ensures.kind c.plain_form-then-eq-2.ensures.value c.plain_form-then-eq-2.ensures.count (counted (goal.at.returns-then-eq-2-clause-form c).After-word_count-count).0 (refl, same)
 
 pub returns-else-eq-2-clause-fault : goal.returns-else-eq-2-clause-fault
 returns-else-eq-2-clause-fault c =

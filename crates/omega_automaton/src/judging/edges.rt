@@ -1,0 +1,44 @@
+ghost use Rattle.omega_automaton.specs.layout.Body.{IsFoundOfEdges};
+
+use crate::judging::counts::Counts;
+use crate::judging::propositions::label_beyond;
+use crate::judging::sets::marks_beyond;
+use crate::judging::states::are_out_of_range;
+use omega_raw::RawEdge;
+
+/// What is found of the edges of a state.
+#[derive(Clone, Copy)]
+pub(crate) struct EdgesFound {
+    /// Whether one lists a state that is not below the count of states, or none at all.
+    pub target: bool,
+    /// Whether one has a mark that is not below the count of sets.
+    pub mark: bool,
+    /// Whether the label of one mentions a proposition that is not below the count of propositions.
+    pub proposition: bool,
+    /// Whether one has a label.
+    pub labelled: bool,
+    /// Whether one has no label.
+    pub unlabelled: bool,
+}
+
+/// What is found of edges, each of which is looked at once.
+pub(crate) fn found_of_edges(edges: &[RawEdge], counts: Counts) -> EdgesFound
+    ensures { IsFoundOfEdges counts edges.now result }
+{
+    let mut found = EdgesFound {
+        target: false,
+        mark: false,
+        proposition: false,
+        labelled: false,
+        unlabelled: false,
+    };
+    for edge in edges {
+        let labelled = edge.label.is_some();
+        found.target = found.target || are_out_of_range(edge.targets.as_slice(), counts.states);
+        found.mark = found.mark || marks_beyond(&edge.marks, counts.sets);
+        found.proposition = found.proposition || label_beyond(&edge.label, counts.propositions);
+        found.labelled = found.labelled || labelled;
+        found.unlabelled = found.unlabelled || !labelled;
+    }
+    found
+}
