@@ -1,2 +1,3 @@
 -- Lemmas by theme.
+pub mod Emptiness
 pub mod Refused

@@ -4,5 +4,6 @@ pub mod Check
 pub mod Draw
 pub mod Game
 pub mod Show
+pub mod Watching
 pub mod empty
 pub mod steps

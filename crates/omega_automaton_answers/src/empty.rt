@@ -1,5 +1,7 @@
 ghost use Rattle.std.specs.Prelude.{◌≡◌, ◌≤◌, IfOk, IfErr, IsOkUnless};
 ghost use Rattle.omega_automaton_answers.specs.empty.Answer.{IsEmptyAnswer, IsEmptyRefusal, IsEmptySearchRefusal, emptiness_text};
+ghost use Rattle.omega_automaton_answers.specs.Watching.{LiftsAutomaton, LiftsAutomatonText};
+ghost use Rattle.omega_watch.specs.Watching.{IsWatched};
 ghost use Rattle.omega_empty.specs.Refusing.{IsGameRefusal};
 ghost use Rattle.omega_empty.specs.Verdict.{IsEmptinessRefusal, IsVerdict};
 ghost use Rattle.omega_solve.specs.Limits.{most_lifts};
@@ -11,19 +13,28 @@ mod lasso_text;
 use crate::automaton_text::automaton_in;
 use lasso_text::lasso_text;
 use omega_automaton::Automaton;
-use omega_empty::{Verdict, emptiness, lasso};
-use omega_game::Refusal;
+use omega_empty::{Verdict, emptiness_game, lasso, verdict_of};
+use omega_game::{Player, Refusal};
+use omega_solve::{Nested, PackedTable, Solver};
+use omega_watch::{Watch, found_watched};
 use std::alloc::Global;
 
 /// An accepting lasso of the automaton that a text stands for, or `empty` where no lasso accepts, by lifting in the
-/// emptiness game. 1 to 4, 20 to 33, then 13, 40, 41 or 42, then 50, then 51, or 60.
-pub fn decide_emptiness(alloc: Global, text: Vec<u8>, budget: u64) -> Result<Vec<u8>, Refusal>
+/// emptiness game; the listener is told of the run. 1 to 4, 20 to 33, then 13, 40, 41 or 42, then 50, then 51, or 60.
+pub fn decide_emptiness<L, W: Watch<L>>(
+    alloc: Global,
+    text: Vec<u8>,
+    budget: u64,
+    watch: &W,
+    listener: &mut L,
+) -> Result<Vec<u8>, Refusal>
     requires { budget ≤ most_lifts }
     ensures answer { IfOk result (λ output. IsEmptyAnswer text.items output.items) }
     ensures refused { IfErr result (or_memory (IsEmptyRefusal text.items budget)) }
+    ensures told { IsWatched (LiftsAutomatonText text.items) (W.tells watch.now) (W.pace watch.now) budget listener.old listener.new }
 {
     let automaton = automaton_in(alloc, text)?;
-    let verdict = decided(alloc, automaton, budget)?;
+    let verdict = decided(alloc, automaton, budget, watch, listener)?;
     emptiness_text(alloc, verdict)
 }
 
@@ -39,12 +50,22 @@ pub fn search_emptiness(alloc: Global, text: Vec<u8>) -> Result<Vec<u8>, Refusal
 }
 
 /// The verdict on an automaton, which is let go, by lifting. 13, 40, 41, 42, 50, 51 or 60.
-fn decided(alloc: Global, automaton: Automaton, budget: u64) -> Result<Verdict, Refusal>
+fn decided<L, W: Watch<L>>(
+    alloc: Global,
+    automaton: Automaton,
+    budget: u64,
+    watch: &W,
+    listener: &mut L,
+) -> Result<Verdict, Refusal>
     requires { budget ≤ most_lifts }
     ensures verdict { IfOk result (IsVerdict automaton) }
     ensures refused { IfErr result (IsEmptinessRefusal automaton budget) }
+    ensures told { IsWatched (LiftsAutomaton automaton) (W.tells watch.now) (W.pace watch.now) budget listener.old listener.new }
 {
-    emptiness(alloc, &automaton, budget)
+    let game = emptiness_game(alloc, &automaton)?;
+    let solver: Solver<'_, PackedTable, Nested> = Solver::prepare(alloc, &game, Player::Zero)?;
+    let found = found_watched(alloc, solver, &game, Player::Zero, budget, watch, listener)?;
+    verdict_of(alloc, &automaton, &game, &found)
 }
 
 /// The verdict on an automaton, which is let go, by a search. 13, 40, 41, 42 or 60.

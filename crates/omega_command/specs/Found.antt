@@ -24,6 +24,7 @@ id_of name.Game = codes "game"
 id_of name.Explain = codes "explain"
 id_of name.Solution = codes "solution"
 id_of name.Lasso = codes "lasso"
+id_of name.Progress = codes "progress"
 
 -- the line is the fault that tells of the mistake; want of memory is told by no line
 abbrev pub IsFaultOf : Mistake → Line → Type 0
@@ -49,5 +50,6 @@ abbrev pub IsPrinted : ErrorKind → Line → Type 0
 IsPrinted kind (line.Help text) = (kind ≡ DisplayHelp) ⊎ (kind ≡ DisplayVersion)
 IsPrinted kind (line.Fault text) = (kind ≢ DisplayHelp) × (kind ≢ DisplayVersion)
 IsPrinted kind (line.Run command budget) = ⊥
+IsPrinted kind (line.Watched command budget) = ⊥
 IsPrinted kind (line.Verify file from explain) = ⊥
 IsPrinted kind (line.DrawSolution file) = ⊥

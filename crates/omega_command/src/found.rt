@@ -21,5 +21,6 @@ pub fn options_in<'a>(found: &ArgMatches<'a>) -> Options<'a>
         explain: found.get_str("explain"),
         solution: found.get_str("solution"),
         lasso: found.get_str("lasso"),
+        progress: found.get_str("progress"),
     }
 }

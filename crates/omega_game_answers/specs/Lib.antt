@@ -7,5 +7,6 @@ pub mod Part
 pub mod PlayerText
 pub mod Show
 pub mod Verify
+pub mod Watching
 pub mod solve
 pub mod steps

@@ -4,6 +4,8 @@ ghost use Rattle.omega_text.specs.Cases.{or_memory};
 ghost use Rattle.omega_game_answers.specs.solve.Refusing.{IsSolveRefusal};
 ghost use Rattle.omega_game_answers.specs.solve.Solving.{IsSolveAnswer, SolvesPart, SolvesWhole};
 ghost use Rattle.omega_game_answers.specs.steps.GameRefusal.{IsGameRefusal};
+ghost use Rattle.omega_game_answers.specs.Watching.{LiftsGame, LiftsPart, LiftsText};
+ghost use Rattle.omega_watch.specs.Watching.{IsWatched};
 
 mod answer_text;
 pub mod asked;
@@ -18,62 +20,79 @@ use both::solve_both;
 use omega_game::{Game, Refusal};
 use omega_region::regions_of_parts;
 use omega_solve::{MeasureTable, Schedule};
+use omega_watch::Watch;
 use one::solve_one;
 use searched::solve_by_judged_search;
 use std::alloc::Global;
 
 /// The answer text of a player for the game that a text stands for, or its solution text. Where
-/// an identifier is given, that of the part that its node reaches. 1 to 4, 10 to 14, 54, 50, 51 or 60.
-pub fn solve_game<T: MeasureTable, S: Schedule>(
+/// an identifier is given, that of the part that its node reaches. The listener is told of each run.
+/// 1 to 4, 10 to 14, 54, 50, 51 or 60.
+pub fn solve_game<T: MeasureTable, S: Schedule, L, W: Watch<L>>(
     alloc: Global,
     text: Vec<u8>,
     asked: Asked,
     from: Option<u32>,
     budget: u64,
+    watch: &W,
+    listener: &mut L,
 ) -> Result<Vec<u8>, Refusal>
     requires { budget ≤ most_lifts }
     ensures answer { IfOk result (λ output. IsSolveAnswer text.items asked from budget output.items) }
     ensures refused { IfErr result (or_memory (IsSolveRefusal text.items asked from budget)) }
+    ensures told { IsWatched (LiftsText text.items asked from) (W.tells watch.now) (W.pace watch.now) budget listener.old listener.new }
 {
     let game = game_of(alloc, text)?;
     match from {
-        None => solve_whole::<T, S>(alloc, &game, asked, budget),
-        Some(identifier) => solve_part::<T, S>(alloc, game, asked, identifier, budget),
+        None => solve_whole::<T, S, L, W>(alloc, &game, asked, budget, watch, listener),
+        Some(identifier) => {
+            solve_part::<T, S, L, W>(alloc, game, asked, identifier, budget, watch, listener)
+        }
     }
 }
 
 /// The text for the part that the node with an identifier reaches. The game is let go. 54, 50, 51 or 60.
-fn solve_part<T: MeasureTable, S: Schedule>(
+fn solve_part<T: MeasureTable, S: Schedule, L, W: Watch<L>>(
     alloc: Global,
     game: Game,
     asked: Asked,
     identifier: u32,
     budget: u64,
+    watch: &W,
+    listener: &mut L,
 ) -> Result<Vec<u8>, Refusal>
     requires { budget ≤ most_lifts }
     ensures answer { IfOk result (λ output. SolvesPart game asked identifier budget output.items) }
     ensures refused { IfErr result (IsGameRefusal game asked (Some identifier) budget) }
+    ensures told { IsWatched (LiftsPart game asked identifier) (W.tells watch.now) (W.pace watch.now) budget listener.old listener.new }
 {
     regions_of_parts();
     game.keeps_limits();
     let part = part_from(alloc, game, identifier)?;
-    solve_whole::<T, S>(alloc, &part, asked, budget)
+    solve_whole::<T, S, L, W>(alloc, &part, asked, budget, watch, listener)
 }
 
 /// The text for a whole game. 50, 51 or 60.
-fn solve_whole<T: MeasureTable, S: Schedule>(
+fn solve_whole<T: MeasureTable, S: Schedule, L, W: Watch<L>>(
     alloc: Global,
     game: &Game,
     asked: Asked,
     budget: u64,
+    watch: &W,
+    listener: &mut L,
 ) -> Result<Vec<u8>, Refusal>
     requires { budget ≤ most_lifts }
     ensures answer { IfOk result (λ output. SolvesWhole game.now asked budget output.items) }
     ensures refused { IfErr result (IsGameRefusal game.now asked None budget) }
+    ensures told { IsWatched (LiftsGame game.now asked) (W.tells watch.now) (W.pace watch.now) budget listener.old listener.new }
 {
     match asked {
-        Asked::Both => solve_both::<T, S>(alloc, game, budget),
-        Asked::Search => solve_by_judged_search::<T, S>(alloc, game, budget),
-        Asked::Player(player) => solve_one::<T, S>(alloc, game, player, budget),
+        Asked::Both => solve_both::<T, S, L, W>(alloc, game, budget, watch, listener),
+        Asked::Search => {
+            solve_by_judged_search::<T, S, L, W>(alloc, game, budget, watch, listener)
+        }
+        Asked::Player(player) => {
+            solve_one::<T, S, L, W>(alloc, game, player, budget, watch, listener)
+        }
     }
 }

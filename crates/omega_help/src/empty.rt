@@ -1,4 +1,4 @@
-use crate::options::{BUDGET, OptionHelp, Value};
+use crate::options::{BUDGET, OptionHelp, PROGRESS, Value};
 use crate::subcommand::subcommand;
 use clap::Command;
 use std::alloc::{AllocError, Global};
@@ -33,10 +33,15 @@ take as many lifts as the bound of the game says, far more than there is time fo
 but `omega: 51 Budget` on standard error, and exits with status 3. 50 TooWide is told where the nodes of
 the game times its losing priorities are over 67108864.
 
+--progress writes a line on standard error each time that 67108864 more lifts were made and the game is
+not yet solved, as `player 0: 67108864 lifts of at most 1099511627776`: how many were made, and the bound
+or, if it is less, the budget. What is written on standard output and the exit status are the same without
+it, also where standard error takes no line.
+
 --search decides it without lifting: it looks in the game for a cycle whose greatest priority is even,
 in a time that is near-linear in the automaton. Its answers are proved as those of lifting are, though
 the lasso may be another. It has no bound on lifts that is known before the run, and needs none:
---budget is not given beside it, and 50 and 51 are not told. Take it for large automata, and where
+neither --budget nor --progress is given beside it, and 50 and 51 are not told. Take it for large automata, and where
 lifting gives up.
 
 What is wrong with the text is told first; `omega check --help` lists it. A text with --ABORT--, with no
@@ -53,6 +58,7 @@ const OPTIONS: &[OptionHelp] = &[
         help: "Decide by a search without lifting, near-linear in the automaton",
     },
     BUDGET,
+    PROGRESS,
 ];
 
 /// The subcommand that says whether an automaton accepts anything.

@@ -89,3 +89,10 @@ pub const LASSO: OptionHelp = OptionHelp {
     value: Value::None,
     help: "Draw an accepting lasso of the automaton too",
 };
+
+/// The flag that asks how far runs have come.
+pub const PROGRESS: OptionHelp = OptionHelp {
+    name: "progress",
+    value: Value::None,
+    help: "Tell on standard error, every 67108864 lifts, how many were made",
+};

@@ -1,4 +1,4 @@
-use crate::options::{BUDGET, OptionHelp, PLAYER, Value};
+use crate::options::{BUDGET, OptionHelp, PLAYER, PROGRESS, Value};
 use crate::subcommand::subcommand;
 use clap::Command;
 use std::alloc::{AllocError, Global};
@@ -34,12 +34,18 @@ A lift is one step of the solver. It makes no more of them for a player than the
 what is needed, and a game may need more time than there is: --budget N gives up after N lifts for
 a player, writes nothing but `omega: 51 Budget` on standard error, and exits with status 3.
 
+--progress writes a line on standard error each time that 67108864 more lifts were made for a player
+and the game is not yet solved for that player, as `player 0: 67108864 lifts of at most 1099511627776`:
+how many were made, and the bound or, if it is less, the budget. What is written on standard output and
+the exit status are the same without it, also where standard error takes no line.
+
 --search finds winners and choices by Zielonka's recursive algorithm, of which nothing is proved. What it
 finds is written only after the proved check that `omega verify` makes: that for each player the choices
 win from all the nodes given to the player. No node is won by both players, so winners that pass are
 right, whatever the search did. Take it for large games; lifting, for a bound that is known before the
 run. The choices may be others than those of lifting. Where the search gives nothing, the game is solved
-by lifting, within the budget. It is for both players: --player is not given beside it.
+by lifting, within the budget; --progress tells of that alone. It is for both players: --player is not
+given beside it.
 
 --from ID solves the part of the game that is reached from the node with that identifier, and writes
 of those nodes alone. Nothing else of the game has a say in who wins them. Where no node has the
@@ -63,6 +69,7 @@ const OPTIONS: &[OptionHelp] = &[
         help: "Solve by a search whose answer is judged, which is far quicker on large games",
     },
     BUDGET,
+    PROGRESS,
 ];
 
 /// The subcommand that solves a game.

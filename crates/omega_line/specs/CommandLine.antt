@@ -5,6 +5,7 @@ use Rattle.omega_game.specs.declared.player.Player.{Player}
 use Rattle.omega_game.specs.Player.{player_number}
 use Rattle.omega_solve.specs.Limits.{most_lifts}
 use Rattle.omega_text.specs.Limits.{most_number}
+use Rattle.omega_line.specs.declared.command.Command.{Command}
 use Rattle.omega_line.specs.declared.command.Command.TheVariants as command
 use Rattle.omega_line.specs.declared.command.Format.{Format}
 use Rattle.omega_line.specs.declared.command.Format.TheVariants.{Hoa, Pg}
@@ -68,8 +69,21 @@ text_of name.Game options = option_map (λ text. text.now) options.game
 text_of name.Explain options = option_map (λ text. text.now) options.explain
 text_of name.Solution options = option_map (λ text. text.now) options.solution
 text_of name.Lasso options = option_map (λ text. text.now) options.lasso
+text_of name.Progress options = option_map (λ text. text.now) options.progress
 
 -- ---- what a subcommand asks for
+
+-- the subcommand of this name, with these options, asks for a command that lifts, with this budget
+abbrev pub AsksToLift : List ℕ → Options → Command → ℕ → Type 0
+AsksToLift subcommand options (command.Solve player from) budget =
+    (subcommand ≡ codes "solve") × GivesFlag (text_of name.Search options) false × Gives IsPlayerText (text_of name.Player options) player
+    × Gives (IsNumberText most_number) (text_of name.From options) from × GivesBudget (text_of name.Budget options) budget
+AsksToLift subcommand options (command.Search from) budget =
+    (subcommand ≡ codes "solve") × GivesFlag (text_of name.Search options) true × (text_of name.Player options ≡ None)
+    × Gives (IsNumberText most_number) (text_of name.From options) from × GivesBudget (text_of name.Budget options) budget
+AsksToLift subcommand options command.Empty budget =
+    (subcommand ≡ codes "empty") × GivesFlag (text_of name.Search options) false × GivesBudget (text_of name.Budget options) budget
+AsksToLift subcommand options other budget = ⊥
 
 -- the subcommand of this name, with these options, asks for the line
 abbrev pub Asks : List ℕ → Options → Line → Type 0
@@ -84,16 +98,15 @@ Asks subcommand options (line.Run (command.CanonPart from) budget) =
     (subcommand ≡ codes "canon") × Gives IsFormatText (text_of name.Format options) (Some Pg)
     × Gives (IsNumberText most_number) (text_of name.From options) (Some from) × (budget ≡ most_lifts)
 Asks subcommand options (line.Run (command.Solve player from) budget) =
-    (subcommand ≡ codes "solve") × GivesFlag (text_of name.Search options) false × Gives IsPlayerText (text_of name.Player options) player
-    × Gives (IsNumberText most_number) (text_of name.From options) from × GivesBudget (text_of name.Budget options) budget
+    AsksToLift subcommand options (command.Solve player from) budget × GivesFlag (text_of name.Progress options) false
 Asks subcommand options (line.Run (command.Search from) budget) =
-    (subcommand ≡ codes "solve") × GivesFlag (text_of name.Search options) true × (text_of name.Player options ≡ None)
-    × Gives (IsNumberText most_number) (text_of name.From options) from × GivesBudget (text_of name.Budget options) budget
+    AsksToLift subcommand options (command.Search from) budget × GivesFlag (text_of name.Progress options) false
 Asks subcommand options (line.Run (command.Verify game from explain) budget) = ⊥
 Asks subcommand options (line.Run command.Empty budget) =
-    (subcommand ≡ codes "empty") × GivesFlag (text_of name.Search options) false × GivesBudget (text_of name.Budget options) budget
+    AsksToLift subcommand options command.Empty budget × GivesFlag (text_of name.Progress options) false
 Asks subcommand options (line.Run command.EmptySearch budget) =
-    (subcommand ≡ codes "empty") × GivesFlag (text_of name.Search options) true × (text_of name.Budget options ≡ None) × (budget ≡ most_lifts)
+    (subcommand ≡ codes "empty") × GivesFlag (text_of name.Search options) true × (text_of name.Budget options ≡ None)
+    × GivesFlag (text_of name.Progress options) false × (budget ≡ most_lifts)
 Asks subcommand options (line.Run command.Game budget) = (subcommand ≡ codes "game") × (budget ≡ most_lifts)
 Asks subcommand options (line.Run (command.Draw format) budget) =
     (subcommand ≡ codes "draw") × Gives IsFormatText (text_of name.Format options) (Some format)
@@ -102,6 +115,8 @@ Asks subcommand options (line.Run (command.DrawSolution solution) budget) = ⊥
 Asks subcommand options (line.Run command.DrawLasso budget) =
     (subcommand ≡ codes "draw") × Gives IsFormatText (text_of name.Format options) (Some Hoa)
     × (text_of name.Solution options ≡ None) × GivesFlag (text_of name.Lasso options) true × (budget ≡ most_lifts)
+Asks subcommand options (line.Watched command budget) =
+    AsksToLift subcommand options command budget × GivesFlag (text_of name.Progress options) true
 Asks subcommand options (line.Verify file from explain) =
     (subcommand ≡ codes "verify") × (text_of name.Game options ≡ Some (string_bytes file))
     × Gives (IsNumberText most_number) (text_of name.From options) from × GivesFlag (text_of name.Explain options) explain
@@ -125,6 +140,7 @@ HasOption subcommand name.Game = subcommand ≡ codes "verify"
 HasOption subcommand name.Explain = subcommand ≡ codes "verify"
 HasOption subcommand name.Solution = subcommand ≡ codes "draw"
 HasOption subcommand name.Lasso = subcommand ≡ codes "draw"
+HasOption subcommand name.Progress = (subcommand ≡ codes "solve") ⊎ (subcommand ≡ codes "empty")
 
 -- the option has to be given
 abbrev pub IsRequired : OptionName → Type 0
@@ -137,6 +153,7 @@ IsRequired name.Game = Unit {0}
 IsRequired name.Explain = ⊥
 IsRequired name.Solution = ⊥
 IsRequired name.Lasso = ⊥
+IsRequired name.Progress = ⊥
 
 -- the text stands for no value of the option
 abbrev pub StandsForNothing : OptionName → List ℕ → Type 0
@@ -149,6 +166,7 @@ StandsForNothing name.Game text = ⊥
 StandsForNothing name.Explain text = (flag : Bool) → IsTruthText text flag → ⊥
 StandsForNothing name.Solution text = ⊥
 StandsForNothing name.Lasso text = (flag : Bool) → IsTruthText text flag → ⊥
+StandsForNothing name.Progress text = (flag : Bool) → IsTruthText text flag → ⊥
 
 -- the mistake is that the option is missing, or that its text stands for nothing
 abbrev pub IsFaulty : OptionName → Options → Mistake → Type 0
@@ -182,11 +200,13 @@ IsUsed name.Game options = text_of name.Game options ≢ None
 IsUsed name.Explain options = GivesFlag (text_of name.Explain options) true
 IsUsed name.Solution options = text_of name.Solution options ≢ None
 IsUsed name.Lasso options = GivesFlag (text_of name.Lasso options) true
+IsUsed name.Progress options = GivesFlag (text_of name.Progress options) true
 
 -- the option that is not given beside the search of the subcommand: that of `solve` is for both players, that of `empty` makes no lifts
 abbrev pub IsApartFromSearch : List ℕ → OptionName → Type 0
 IsApartFromSearch subcommand option =
-    ((subcommand ≡ codes "solve") × (option ≡ name.Player)) ⊎ ((subcommand ≡ codes "empty") × (option ≡ name.Budget))
+    ((subcommand ≡ codes "solve") × (option ≡ name.Player))
+    ⊎ ((subcommand ≡ codes "empty") × ((option ≡ name.Budget) ⊎ (option ≡ name.Progress)))
 
 -- two options that are not given together: the search, and the option that is apart from it
 pub record IsConflict (subcommand : List ℕ) (options : Options) (one other : OptionName) : Type 0 where

@@ -6,7 +6,8 @@ use crate::line::Line;
 use crate::mistake::Mistake;
 use crate::options::{OptionName, Options};
 use crate::values::{
-    budget_in, format_in, identifier_in, is_explained, is_search, is_with_lasso, player_in,
+    budget_in, format_in, identifier_in, is_explained, is_search, is_watched, is_with_lasso,
+    player_in,
 };
 use omega_solve::MOST_LIFTS;
 use std::alloc::Global;
@@ -91,13 +92,24 @@ fn solving_for<'a>(options: &Options<'a>) -> Result<Line, Mistake<'a>>
     let player = player_in(options)?;
     let from = identifier_in(options)?;
     let budget = budget_in(options)?;
+    let watched = is_watched(options)?;
     if !is_search(options)? {
-        return Ok(Line::Run(Command::Solve { player, from }, budget));
+        let command = Command::Solve { player, from };
+        return Ok(if watched {
+            Line::Watched(command, budget)
+        } else {
+            Line::Run(command, budget)
+        });
     }
     if player.is_some() {
         return Err(Mistake::Conflict(OptionName::Search, OptionName::Player));
     }
-    Ok(Line::Run(Command::Search { from }, budget))
+    let command = Command::Search { from };
+    Ok(if watched {
+        Line::Watched(command, budget)
+    } else {
+        Line::Run(command, budget)
+    })
 }
 
 /// What `empty` asks for with the texts of its options, or what is wrong with them.
@@ -106,11 +118,19 @@ fn emptiness_for<'a>(options: &Options<'a>) -> Result<Line, Mistake<'a>>
     ensures mistaken { IfErr result (IsMistake (codes "empty") options.now) }
 {
     let budget = budget_in(options)?;
+    let watched = is_watched(options)?;
     if !is_search(options)? {
-        return Ok(Line::Run(Command::Empty, budget));
+        return Ok(if watched {
+            Line::Watched(Command::Empty, budget)
+        } else {
+            Line::Run(Command::Empty, budget)
+        });
     }
     if options.budget.is_some() {
         return Err(Mistake::Conflict(OptionName::Search, OptionName::Budget));
+    }
+    if watched {
+        return Err(Mistake::Conflict(OptionName::Search, OptionName::Progress));
     }
     Ok(Line::Run(Command::EmptySearch, MOST_LIFTS))
 }

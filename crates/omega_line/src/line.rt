@@ -5,6 +5,8 @@ use crate::command::Command;
 pub enum Line {
     /// A command, and the most lifts of each of its runs.
     Run(Command, u64),
+    /// The same of a command that lifts; how far its runs have come is told on standard error.
+    Watched(Command, u64),
     /// To verify a solution of the game in a file, or of the part that one node reaches, and to explain a `no` where
     /// that is asked for.
     Verify {

@@ -12,6 +12,7 @@ pub enum OptionName {
     Explain,
     Solution,
     Lasso,
+    Progress,
 }
 
 impl fmt::Display for OptionName {
@@ -26,6 +27,7 @@ impl fmt::Display for OptionName {
             OptionName::Explain => "--explain",
             OptionName::Solution => "--solution <FILE>",
             OptionName::Lasso => "--lasso",
+            OptionName::Progress => "--progress",
         })
     }
 }
@@ -45,4 +47,6 @@ pub struct Options<'a> {
     pub solution: Option<&'a str>,
     /// As `search`.
     pub lasso: Option<&'a str>,
+    /// As `search`.
+    pub progress: Option<&'a str>,
 }

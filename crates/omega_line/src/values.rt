@@ -99,6 +99,20 @@ pub fn is_with_lasso<'a>(options: &Options<'a>) -> Result<bool, Mistake<'a>>
     }
 }
 
+/// Whether it is told how far runs have come.
+pub(super) fn is_watched<'a>(options: &Options<'a>) -> Result<bool, Mistake<'a>>
+    ensures given { IfOk result (GivesFlag (text_of name.Progress options.now)) }
+    ensures faulty { IfErr result (IsFaulty name.Progress options.now) }
+{
+    let Some(text) = options.progress else {
+        return Ok(false);
+    };
+    match truth_in(text) {
+        Some(flag) => Ok(flag),
+        None => Err(Mistake::Value(OptionName::Progress, text, Reason::NoTruth)),
+    }
+}
+
 /// What the text of a flag says, if it says anything.
 fn truth_in(text: &str) -> Option<bool>
     ensures { MatchOption result ((flag : Bool) → IsTruthText text.now flag → ⊥) (IsTruthText text.now) }

@@ -1,2 +1,4 @@
 -- Lemmas by theme.
+pub mod Performing
+pub mod ProgressLines
 pub mod Telling

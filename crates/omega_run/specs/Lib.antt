@@ -7,5 +7,6 @@ pub use Rattle.omega_io.specs.Reading
 pub use Rattle.omega_io.specs.RefusalLine
 pub use Rattle.omega_io.specs.Writing
 pub mod Obey
+pub mod Progress
 pub mod Respond
 pub mod Run

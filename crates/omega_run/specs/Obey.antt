@@ -1,5 +1,5 @@
 -- What the program leaves when it obeys a command line: its status, and what it read, wrote and told.
-use Rattle.std.specs.Prelude.{◌≡◌, ◌+◌, ◌<◌, ◌≤◌, ◌⊎◌, [], List, Option, Result, Ok, Err, ℕ, string_bytes}
+use Rattle.std.specs.Prelude.{◌≡◌, ◌+◌, ◌<◌, ◌≤◌, ◌⊎◌, ◌++◌, [], List, Option, Result, Ok, Err, ℕ, string_bytes}
 use Rattle.std.specs.Io.KnownBytes.{Appends, Keeps}
 use Rattle.omega_text.specs.declared.refusal.Refusal.{Refusal}
 use Rattle.omega_text.specs.declared.refusal.Refusal.TheVariants.{Io, Memory}
@@ -9,9 +9,11 @@ use Rattle.omega_line.specs.declared.command.Command.TheVariants as command
 use Rattle.omega_io.specs.declared.exit.Exit.{Exit}
 use Rattle.omega_io.specs.declared.exit.Exit.TheVariants.{Done}
 use Rattle.omega_line.specs.declared.line.Line.{Line}
-use Rattle.omega_line.specs.declared.line.Line.TheVariants.{DrawSolution, Fault, Help, Run, Verify}
+use Rattle.omega_line.specs.declared.line.Line.TheVariants.{DrawSolution, Fault, Help, Run, Verify, Watched}
 use Rattle.omega_io.specs.Exit.{fault_status, status_of}
 use Rattle.omega_io.specs.RefusalLine.{line_of}
+use Rattle.omega_watch.specs.Watching.{lifts_between_reports}
+use Rattle.omega_run.specs.Progress.{AreProgressLines}
 use Rattle.omega_run.specs.Respond.{IsRunRefusal}
 use Rattle.omega_run.specs.Run.{BreaksOff, Completes}
 use Rattle.omega_io.specs.Failures.{failures_in}
@@ -70,6 +72,7 @@ PerformsWithFile reads refuses command_with (Err refusal) before after =
 -- what the line asks for was done, and ended so, where files are read so and refused so by their names
 abbrev pub Obeys : (List ℕ → List ℕ → Type 0) → (List ℕ → Refusal → Type 0) → Line → Result Exit Refusal → Streams → Streams → Type 0
 Obeys reads refuses (Run command budget) outcome before after = Performs command budget outcome before after
+Obeys reads refuses (Watched command budget) outcome before after = Performs command budget outcome before after
 Obeys reads refuses (Verify file from explain) outcome before after =
     PerformsWithFile (reads (string_bytes file)) (refuses (string_bytes file)) (λ game. command.Verify game from explain) outcome before after
 Obeys reads refuses (DrawSolution file) outcome before after =
@@ -88,10 +91,14 @@ abbrev pub Reports : Result Exit Refusal → ℕ → (List ℕ → Type 0) → T
 Reports (Ok exit) status tells = (status ≡ status_of (Ok exit)) × tells []
 Reports (Err refusal) status tells = IsTold refusal status tells ⊎ IsTold Memory status tells
 
--- the program obeyed the command line, or told why it asks for nothing that can be done
+-- the program obeyed the command line, or told why it asks for nothing that can be done; of a command that is watched, the lines of its progress come
+-- before what is told of its outcome, and both are one text
 abbrev pub IsObeyed : (List ℕ → List ℕ → Type 0) → (List ℕ → Refusal → Type 0) → Result Line Refusal → ℕ → (List ℕ → Type 0) → Streams → Streams → Type 0
 IsObeyed reads refuses (Ok (Fault text)) status tells before after =
     (status ≡ fault_status) × tells (string_bytes text) × (after ≡ before)
+IsObeyed reads refuses (Ok (Watched command budget)) status tells before after =
+    (outcome : Result Exit Refusal) × (lines : List ℕ) × Performs command budget outcome before after
+    × AreProgressLines command lifts_between_reports budget before.unread after.unread lines × Reports outcome status (λ text. tells (lines ++ text))
 IsObeyed reads refuses (Ok line) status tells before after =
     (outcome : Result Exit Refusal) × Obeys reads refuses line outcome before after × Reports outcome status tells
 IsObeyed reads refuses (Err refusal) status tells before after = Reports (Err refusal) status tells × (after ≡ before)

@@ -2,8 +2,10 @@
 #![tactic(auto)]
 
 mod obeying;
+mod progress;
 mod respond;
 mod run;
+mod watching;
 
 pub use obeying::obey;
 pub use omega_io::{
@@ -11,3 +13,4 @@ pub use omega_io::{
 };
 pub use omega_line::{Command, Format, Line, Player, Seq};
 pub use run::run_command;
+pub use watching::run_watched;

@@ -1,16 +1,19 @@
-ghost use Rattle.std.specs.Prelude.{◌≡◌, ◌-◌, ◌^◌, ◌<◌, IfOk, ℕ, List};
+ghost use Rattle.std.specs.Prelude.{◌≡◌, ◌-◌, ◌^◌, ◌<◌, ◌≤◌, IfOk, ℕ, List};
 ghost use Rattle.omega_line.specs.Line.{IsRunnable};
 ghost use Rattle.omega_line.specs.declared.command.Command.TheVariants as command;
 ghost use Rattle.omega_run.specs.Obey.{IsObeyed, PerformsWithFile, Prints, Reports, streams};
 ghost use Rattle.omega_io.specs.Writing.{Tells};
+ghost use Rattle.omega_run.specs.Progress.{TellsLast};
 
 use crate::run::run_command;
+use crate::watching::run_watched;
 use omega_io::{
     Exit, GameFiles, Input, Output, Refusal, exit_code, refusal_line, tell, write_text,
 };
 use omega_line::{Command, Line};
 use omega_solve::MOST_LIFTS;
 use omega_text::Seq;
+use omega_watch::LIFTS_BETWEEN_REPORTS;
 use std::alloc::Global;
 
 /// The status after a fault of the command line.
@@ -40,6 +43,19 @@ pub fn obey<F: GameFiles, R: Input, W: Output, E: Output>(
             let outcome = run_command(alloc, &command, input, output, budget);
             report(alloc, outcome, errors)
         }
+        Ok(Line::Watched(command, budget)) => {
+            let sound = errors.failures();
+            let outcome = run_watched(
+                alloc,
+                &command,
+                input,
+                output,
+                errors,
+                budget,
+                LIFTS_BETWEEN_REPORTS,
+            );
+            report_behind(alloc, outcome, sound, errors)
+        }
         Ok(
             Line::Verify {
                 file,
@@ -63,6 +79,24 @@ pub fn obey<F: GameFiles, R: Input, W: Output, E: Output>(
             FAULT
         }
         Err(refusal) => report(alloc, Err(refusal), errors),
+    }
+}
+
+/// Tells of a refusal behind lines of progress, unless a write of those failed, and gives the status after the outcome.
+fn report_behind<E: Output>(
+    alloc: Global,
+    outcome: Result<Exit, Refusal>,
+    sound: u64,
+    errors: &mut E,
+) -> u8
+    requires sound { sound < 2 ^ 64 - 1 }
+    requires since { sound ≤ E.failed errors.old }
+    ensures { Reports outcome result (TellsLast sound (E.contents errors.old) (E.contents errors.new) (E.failed errors.old) (E.failed errors.new)) }
+{
+    if errors.failures() == sound {
+        report(alloc, outcome, errors)
+    } else {
+        exit_code(&outcome)
     }
 }
 

@@ -5,6 +5,8 @@ ghost use Rattle.omega_solve.specs.Limits.{most_lifts};
 ghost use Rattle.omega_run.specs.Respond.{Answers, IsOfOneText, IsRunRefusal, Refuses, Responds, asked_for};
 ghost use Rattle.omega_io.specs.Failures.{failures_of};
 ghost use Rattle.omega_io.specs.declared.exit.Exit.TheVariants.{Done};
+ghost use Rattle.omega_game_answers.specs.solve.Refusing.{IsSolveRefusal};
+ghost use Rattle.omega_game_answers.specs.solve.Solving.{IsSolveAnswer};
 
 use omega_automaton_answers::{
     canon_stream, check_stream, decide_emptiness, draw_automaton_text, draw_lasso_text,
@@ -18,6 +20,7 @@ use omega_game_answers::{
 use omega_io::{Exit, Input, Refusal, read_all};
 use omega_line::{Command, Format};
 use omega_solve::{Nested, PackedTable};
+use omega_watch::Unwatched;
 use std::alloc::Global;
 
 /// Reads what a command needs, and makes its whole answer in memory, with how it ends. Each command reads for itself, to
@@ -85,12 +88,10 @@ fn answer(alloc: Global, command: &Command, text: Vec<u8>, budget: u64) -> Resul
         Command::CanonPart { from } => canon_part(alloc, text, *from),
         Command::Solve { player, from } => {
             let asked = asked_for(*player);
-            solve_game::<PackedTable, Nested>(alloc, text, asked, *from, budget)
+            solved(alloc, text, asked, *from, budget)
         }
-        Command::Search { from } => {
-            solve_game::<PackedTable, Nested>(alloc, text, Asked::Search, *from, budget)
-        }
-        Command::Empty => decide_emptiness(alloc, text, budget),
+        Command::Search { from } => { solved(alloc, text, Asked::Search, *from, budget) }
+        Command::Empty => decide_emptiness(alloc, text, budget, &Unwatched, &mut ()),
         Command::EmptySearch => search_emptiness(alloc, text),
         Command::Game => write_emptiness_game(alloc, text),
         Command::Draw(Format::Pg) => draw_game_text(alloc, text),
@@ -104,8 +105,31 @@ fn answer(alloc: Global, command: &Command, text: Vec<u8>, budget: u64) -> Resul
     }
 }
 
+/// The text that solves a game, of which nobody is told while it is made.
+fn solved(
+    alloc: Global,
+    text: Vec<u8>,
+    asked: Asked,
+    from: Option<u32>,
+    budget: u64,
+) -> Result<Vec<u8>, Refusal>
+    requires { budget ≤ most_lifts }
+    ensures answer { IfOk result (λ output. IsSolveAnswer text.items asked from budget output.items) }
+    ensures refused { IfErr result (or_memory (IsSolveRefusal text.items asked from budget)) }
+{
+    solve_game::<PackedTable, Nested, (), Unwatched>(
+        alloc,
+        text,
+        asked,
+        from,
+        budget,
+        &Unwatched,
+        &mut (),
+    )
+}
+
 /// What is asked of a game for one player, or for both where none is named.
-fn asked_for(player: Option<Player>) -> Asked
+pub(crate) fn asked_for(player: Option<Player>) -> Asked
     ensures { result ≡ asked_for player }
 {
     match player {

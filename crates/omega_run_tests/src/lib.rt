@@ -7,6 +7,8 @@ mod files;
 #[cfg(test)]
 mod portions;
 #[cfg(test)]
+mod progress;
+#[cfg(test)]
 mod running;
 #[cfg(test)]
 mod streams;

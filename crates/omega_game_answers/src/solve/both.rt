@@ -5,45 +5,54 @@ ghost use Rattle.omega_game_answers.specs.declared.solve.asked.Asked.TheVariants
 ghost use Rattle.omega_game_answers.specs.solve.Solution.{IsRight, IsSolutionOf};
 ghost use Rattle.omega_game_answers.specs.steps.GameRefusal.{IsGameRefusal};
 ghost use Rattle.omega_game_answers.specs.steps.Winners.{winners_of};
+ghost use Rattle.omega_game_answers.specs.Watching.{LiftsGame};
+ghost use Rattle.omega_watch.specs.Watching.{IsWatched};
 
 use omega_game::{Game, Player, Refusal, Seq, Strategy};
 use omega_pg::{Solution, write_solution};
 use omega_region::{regions_are_apart, regions_cover};
-use omega_solve::{Found, MeasureTable, Schedule, Solver};
+use omega_solve::{MeasureTable, Schedule, Solver};
+use omega_watch::{Watch, found_watched};
 use std::alloc::Global;
 
 /// The solution text of a game. 50, 51 or 60.
-pub fn solve_both<T: MeasureTable, S: Schedule>(
+pub fn solve_both<T: MeasureTable, S: Schedule, L, W: Watch<L>>(
     alloc: Global,
     game: &Game,
     budget: u64,
+    watch: &W,
+    listener: &mut L,
 ) -> Result<Vec<u8>, Refusal>
     requires { budget ≤ most_lifts }
     ensures answer { IfOk result (λ output. IsSolutionOf game.now budget output.items) }
     ensures refused { IfErr result (IsGameRefusal game.now Both None budget) }
+    ensures told { IsWatched (LiftsGame game.now Both) (W.tells watch.now) (W.pace watch.now) budget listener.old listener.new }
 {
-    let solution = solution_of::<T, S>(alloc, game, budget)?;
+    let solution = solution_of::<T, S, L, W>(alloc, game, budget, watch, listener)?;
     write_solution(alloc, game, &solution)
 }
 
 /// The solution of a game. Both solvers are prepared before either runs, so that 50 comes before 51, and each may make
 /// the whole budget of lifts. 50, 51 or 60.
-pub fn solution_of<T: MeasureTable, S: Schedule>(
+pub fn solution_of<T: MeasureTable, S: Schedule, L, W: Watch<L>>(
     alloc: Global,
     game: &Game,
     budget: u64,
+    watch: &W,
+    listener: &mut L,
 ) -> Result<Solution, Refusal>
     requires { budget ≤ most_lifts }
     ensures right { IfOk result (IsRight game.now budget) }
     ensures refused { IfErr result (IsGameRefusal game.now Both None budget) }
+    ensures told { IsWatched (LiftsGame game.now Both) (W.tells watch.now) (W.pace watch.now) budget listener.old listener.new }
 {
     regions_are_apart();
     regions_cover();
     game.keeps_limits();
     let for_zero: Solver<'_, T, S> = Solver::prepare(alloc, game, Player::Zero)?;
     let for_one: Solver<'_, T, S> = Solver::prepare(alloc, game, Player::One)?;
-    let zero = Found::by(alloc, for_zero, budget)?;
-    let one = Found::by(alloc, for_one, budget)?;
+    let zero = found_watched(alloc, for_zero, game, Player::Zero, budget, watch, listener)?;
+    let one = found_watched(alloc, for_one, game, Player::One, budget, watch, listener)?;
     let winners = winners_of(alloc, zero.won.as_slice())?;
     Ok(Solution {
         winners: Seq::from_vec(winners),

@@ -3,25 +3,31 @@ ghost use Rattle.omega_game_answers.specs.declared.solve.asked.Asked.TheVariants
 ghost use Rattle.omega_solve.specs.Limits.{most_lifts};
 ghost use Rattle.omega_game_answers.specs.solve.AnswerText.{IsAnswerOf};
 ghost use Rattle.omega_game_answers.specs.steps.GameRefusal.{IsGameRefusal};
+ghost use Rattle.omega_game_answers.specs.Watching.{LiftsGame};
+ghost use Rattle.omega_watch.specs.Watching.{IsWatched};
 
 use super::answer_text::write_answer;
 use omega_game::{Game, Player, Refusal};
-use omega_solve::{Found, MeasureTable, Schedule, Solver};
+use omega_solve::{MeasureTable, Schedule, Solver};
+use omega_watch::{Watch, found_watched};
 use std::alloc::Global;
 
-/// The answer text of a player for a game. 50, 51 or 60.
-pub fn solve_one<T: MeasureTable, S: Schedule>(
+/// The answer text of a player for a game; the listener is told of the run. 50, 51 or 60.
+pub fn solve_one<T: MeasureTable, S: Schedule, L, W: Watch<L>>(
     alloc: Global,
     game: &Game,
     player: Player,
     budget: u64,
+    watch: &W,
+    listener: &mut L,
 ) -> Result<Vec<u8>, Refusal>
     requires { budget ≤ most_lifts }
     ensures answer { IfOk result (λ output. IsAnswerOf game.now player budget output.items) }
     ensures refused { IfErr result (IsGameRefusal game.now (way.Player player) None budget) }
+    ensures told { IsWatched (LiftsGame game.now (way.Player player)) (W.tells watch.now) (W.pace watch.now) budget listener.old listener.new }
 {
     let solver: Solver<'_, T, S> = Solver::prepare(alloc, game, player)?;
-    let found = Found::by(alloc, solver, budget)?;
+    let found = found_watched(alloc, solver, game, player, budget, watch, listener)?;
     write_answer(
         alloc,
         game,

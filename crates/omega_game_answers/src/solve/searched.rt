@@ -3,38 +3,47 @@ ghost use Rattle.omega_solve.specs.Limits.{most_lifts};
 ghost use Rattle.omega_game_answers.specs.declared.solve.asked.Asked.TheVariants.{Search};
 ghost use Rattle.omega_game_answers.specs.solve.Solution.{IsExact, IsExactSolutionOf};
 ghost use Rattle.omega_game_answers.specs.steps.GameRefusal.{IsGameRefusal};
+ghost use Rattle.omega_game_answers.specs.Watching.{LiftsGame};
+ghost use Rattle.omega_watch.specs.Watching.{IsWatched};
 
 use super::both::solution_of;
 use omega_game::{Game, Refusal};
 use omega_pg::{Solution, write_solution};
 use omega_search::solve_by_search;
 use omega_solve::{MeasureTable, Schedule};
+use omega_watch::Watch;
 use std::alloc::Global;
 
 /// The solution text of a game, found by a search and judged. Where the search gives nothing the game is solved by
 /// lifting, each player's run within the budget: then, and only then, 50 or 51. Else 60 alone.
-pub fn solve_by_judged_search<T: MeasureTable, S: Schedule>(
+pub fn solve_by_judged_search<T: MeasureTable, S: Schedule, L, W: Watch<L>>(
     alloc: Global,
     game: &Game,
     budget: u64,
+    watch: &W,
+    listener: &mut L,
 ) -> Result<Vec<u8>, Refusal>
     requires { budget ≤ most_lifts }
     ensures answer { IfOk result (λ output. IsExactSolutionOf game.now output.items) }
     ensures refused { IfErr result (IsGameRefusal game.now Search None budget) }
+    ensures told { IsWatched (LiftsGame game.now Search) (W.tells watch.now) (W.pace watch.now) budget listener.old listener.new }
 {
-    let solution = searched_solution::<T, S>(alloc, game, budget)?;
+    let solution = searched_solution::<T, S, L, W>(alloc, game, budget, watch, listener)?;
     write_solution(alloc, game, &solution)
 }
 
 /// The solution of a game, by the search or else by lifting. 50, 51 or 60.
-fn searched_solution<T: MeasureTable, S: Schedule>(
+fn searched_solution<T: MeasureTable, S: Schedule, L, W: Watch<L>>(
     alloc: Global,
     game: &Game,
     budget: u64,
+    watch: &W,
+    listener: &mut L,
 ) -> Result<Solution, Refusal>
     requires { budget ≤ most_lifts }
     ensures exact { IfOk result (IsExact game.now) }
     ensures refused { IfErr result (IsGameRefusal game.now Search None budget) }
+    ensures told { IsWatched (LiftsGame game.now Search) (W.tells watch.now) (W.pace watch.now) budget listener.old listener.new }
 {
     match solve_by_search(alloc, game)? {
         Some(regions) => Ok(Solution {
@@ -42,6 +51,6 @@ fn searched_solution<T: MeasureTable, S: Schedule>(
             zero: regions.zero,
             one: regions.one,
         }),
-        None => solution_of::<T, S>(alloc, game, budget),
+        None => solution_of::<T, S, L, W>(alloc, game, budget, watch, listener),
     }
 }

@@ -1,9 +1,14 @@
 -- `decide_emptiness`: what is written is the verdict on the automaton that was read.
+use Rattle.std.proofs.Common.{rules}
 use Rattle.std.proofs.lemmas.Result.{IfErr-weaker, IfOk-weaker}
+use Rattle.omega_text.specs.Cases.{or_memory}
+use Rattle.omega_automaton_answers.specs.empty.Answer.{IsEmptyRefusal}
+use Rattle.omega_automaton_answers.proofs.Emptiness.{refused-automaton, refused-text}
+use Rattle.omega_watch.proofs.Watched.{none_watched, watched_as}
 use Rattle.omega_automaton_answers.proofs.empty.decide_emptiness.Goals as goal
 
 pub returns-clause-answer : goal.returns-clause-answer
-returns-clause-answer c =
+returns-clause-answer g c =
     IfOk-weaker c.emptiness_text.result _ _
     (λ output written. record {
       automaton = c.in_ok-automaton.automaton;
@@ -15,4 +20,31 @@ returns-clause-answer c =
     c.emptiness_text.ensures.text
 
 pub returns-clause-refused : goal.returns-clause-refused
-returns-clause-refused c = IfErr-weaker c.emptiness_text.result _ _ (λ refusal e. rw e tt) c.emptiness_text.ensures.memory
+returns-clause-refused g c = IfErr-weaker c.emptiness_text.result _ _ (λ refusal e. rw e tt) c.emptiness_text.ensures.memory
+
+pub returns-in_err-automaton-clause-refused : goal.returns-in_err-automaton-clause-refused
+returns-in_err-automaton-clause-refused g c =
+    let refused : or_memory (IsEmptyRefusal c.args.text.items c.args.budget) c.in_err-automaton.field-0.0 =
+    refused-text c.args.text.items c.args.budget _ c.in_err-automaton.ensures.refused in
+    search rules
+
+pub returns-in_err-verdict-clause-refused : goal.returns-in_err-verdict-clause-refused
+returns-in_err-verdict-clause-refused g c =
+    let refused : or_memory (IsEmptyRefusal c.args.text.items c.args.budget) c.in_err-verdict.field-0.0 =
+    refused-automaton c.args.text.items c.args.budget c.in_ok-automaton.automaton _ c.in_ok-automaton.ensures.automaton c.in_err-verdict.ensures.refused in
+    search rules
+
+pub returns-in_err-automaton-clause-told : goal.returns-in_err-automaton-clause-told
+returns-in_err-automaton-clause-told g c = none_watched _ _ _ _ _
+
+pub returns-in_err-verdict-clause-told : goal.returns-in_err-verdict-clause-told
+returns-in_err-verdict-clause-told g c =
+    watched_as _ _ _ _ _ _ _
+    (λ nodes players lifted. record { automaton = c.in_ok-automaton.automaton; read = c.in_ok-automaton.ensures.automaton; lifts = lifted })
+    c.decided.ensures.told
+
+pub returns-clause-told : goal.returns-clause-told
+returns-clause-told g c =
+    watched_as _ _ _ _ _ _ _
+    (λ nodes players lifted. record { automaton = c.in_ok-automaton.automaton; read = c.in_ok-automaton.ensures.automaton; lifts = lifted })
+    c.decided.ensures.told

@@ -3,7 +3,7 @@ use Rattle.std.proofs.Common.{◌∙◌}
 use Rattle.clap.proofs.WalkLemmas.{first_value-rows}
 use Rattle.clap.specs.Words.{found_of}
 use Rattle.omega_command.specs.Found.{id_of}
-use Rattle.omega_line.specs.declared.options.OptionName.TheVariants.{Format, Player, From, Budget, Search, Game, Explain, Solution, Lasso}
+use Rattle.omega_line.specs.declared.options.OptionName.TheVariants.{Format, Player, From, Budget, Search, Game, Explain, Solution, Lasso, Progress}
 use Rattle.omega_command.proofs.found.options_in.Goals as goal
 
 pub returns : goal.returns
@@ -16,3 +16,4 @@ returns c Game = c.get_str-6.ensures ∙ first_value-rows (found_of c.args.found
 returns c Explain = c.get_str-7.ensures ∙ first_value-rows (found_of c.args.found.now) (id_of Explain)
 returns c Solution = c.get_str-8.ensures ∙ first_value-rows (found_of c.args.found.now) (id_of Solution)
 returns c Lasso = c.get_str-9.ensures ∙ first_value-rows (found_of c.args.found.now) (id_of Lasso)
+returns c Progress = c.get_str-10.ensures ∙ first_value-rows (found_of c.args.found.now) (id_of Progress)

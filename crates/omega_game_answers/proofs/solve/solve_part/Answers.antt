@@ -3,6 +3,7 @@ use Rattle.std.proofs.Common.{Some, rules}
 use Rattle.std.proofs.lemmas.Result.{IfErr-weaker, IfOk-weaker}
 use Rattle.omega_game_answers.specs.steps.GameRefusal.{IsGameRefusal}
 use Rattle.omega_game_answers.proofs.Solving.{refused-part, refused-unknown}
+use Rattle.omega_watch.proofs.Watched.{none_watched, watched_as}
 use Rattle.omega_game_answers.proofs.solve.solve_part.Goals as goal
 
 pub returns-in_err-part-clause-refused : goal.returns-in_err-part-clause-refused
@@ -33,3 +34,11 @@ returns-clause-refused g c =
     IfErr-weaker c.solve_whole.result _ _
     (λ refusal h. refused-part c.args.game c.args.asked c.args.identifier c.args.budget c.in_ok-part.part refusal c.in_ok-part.ensures.part h)
     c.solve_whole.ensures.refused
+
+pub returns-in_err-part-clause-told : goal.returns-in_err-part-clause-told
+returns-in_err-part-clause-told g c = none_watched _ _ _ _ _
+
+pub returns-clause-told : goal.returns-clause-told
+returns-clause-told g c =
+    let part_of = c.in_ok-part.ensures.part in
+    watched_as _ _ _ _ _ _ _ (λ nodes players lifted. (rw lifted.0 part_of, lifted.1)) c.solve_whole.ensures.told

@@ -6,29 +6,48 @@ use Rattle.omega_game_answers.specs.steps.GameRefusal.{IsGameRefusal}
 use Rattle.omega_game_answers.specs.steps.Winners.{winners_of}
 use Rattle.omega_game_answers.proofs.Solving.{refused-budget}
 use Rattle.omega_game_answers.proofs.Solutions.{by_player, right_solution}
+use Rattle.omega_watch.proofs.Watched.{none_watched, one_watched, two_watched}
 use Rattle.omega_game_answers.proofs.solve.both.solution_of.Goals as goal
 
 pub returns-in_err-zero-clause-refused : goal.returns-in_err-zero-clause-refused
 returns-in_err-zero-clause-refused g c =
     let narrow = by_player c.args.game.now (c.in_ok-for_zero.ensures.fits refl) (c.in_ok-for_one.ensures.fits refl) in
     let refused : IsGameRefusal c.args.game.now Both None c.args.budget c.in_err-zero.field-0.0 =
-    refused-budget c.args.game.now Both Zero c.args.budget _ (λ other _. narrow other) tt
-    (rw c.in_ok-for_zero.ensures.start at c.in_err-zero.ensures.refused) in
+    refused-budget c.args.game.now Both Zero c.args.budget _ (λ other _. narrow other) tt c.in_err-zero.ensures.refused in
     search rules
 
 pub returns-in_err-one-clause-refused : goal.returns-in_err-one-clause-refused
 returns-in_err-one-clause-refused g c =
     let narrow = by_player c.args.game.now (c.in_ok-for_zero.ensures.fits refl) (c.in_ok-for_one.ensures.fits refl) in
     let refused : IsGameRefusal c.args.game.now Both None c.args.budget c.in_err-one.field-0.0 =
-    refused-budget c.args.game.now Both One c.args.budget _ (λ other _. narrow other) tt
-    (rw c.in_ok-for_one.ensures.start at c.in_err-one.ensures.refused) in
+    refused-budget c.args.game.now Both One c.args.budget _ (λ other _. narrow other) tt c.in_err-one.ensures.refused in
     search rules
 
 pub returns-clause-right : goal.returns-clause-right
 returns-clause-right g c =
     right_solution c.args.game.now c.args.budget c.in_ok-zero.zero c.in_ok-one.one _ c.keeps_limits.ensures.game
-    (c.in_ok-for_zero.ensures.fits refl) (c.in_ok-for_one.ensures.fits refl)
-    (rw c.in_ok-for_zero.ensures.start at c.in_ok-zero.ensures.found)
-    (rw c.in_ok-for_one.ensures.start at c.in_ok-one.ensures.found)
+    (c.in_ok-for_zero.ensures.fits refl) (c.in_ok-for_one.ensures.fits refl) c.in_ok-zero.ensures.found c.in_ok-one.ensures.found
     (c.from_vec.ensures ∙ c.in_ok-winners.ensures.winners ∙ ap winners_of c.as_slice.ensures.value) c.from_vec-2.ensures
     c.from_vec-3.ensures c.regions_are_apart.ensures c.regions_cover.ensures
+
+pub returns-in_err-for_zero-clause-told : goal.returns-in_err-for_zero-clause-told
+returns-in_err-for_zero-clause-told g c = none_watched _ _ _ _ _
+
+pub returns-in_err-for_one-clause-told : goal.returns-in_err-for_one-clause-told
+returns-in_err-for_one-clause-told g c = none_watched _ _ _ _ _
+
+pub returns-in_err-zero-clause-told : goal.returns-in_err-zero-clause-told
+returns-in_err-zero-clause-told g c =
+    one_watched _ _ _ c.args.game.now Zero c.args.budget _ _ (refl, (1, refl)) c.found_watched.ensures.told
+
+pub returns-in_err-one-clause-told : goal.returns-in_err-one-clause-told
+returns-in_err-one-clause-told g c =
+    two_watched _ _ _ c.args.game.now Zero One c.args.budget _ _ _ (refl, (2, refl)) c.found_watched.ensures.told c.found_watched-2.ensures.told
+
+pub returns-in_err-winners-clause-told : goal.returns-in_err-winners-clause-told
+returns-in_err-winners-clause-told g c =
+    two_watched _ _ _ c.args.game.now Zero One c.args.budget _ _ _ (refl, (2, refl)) c.found_watched.ensures.told c.found_watched-2.ensures.told
+
+pub returns-clause-told : goal.returns-clause-told
+returns-clause-told g c =
+    two_watched _ _ _ c.args.game.now Zero One c.args.budget _ _ _ (refl, (2, refl)) c.found_watched.ensures.told c.found_watched-2.ensures.told

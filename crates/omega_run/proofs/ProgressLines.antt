@@ -1,0 +1,171 @@
+-- What standard error was told of runs is a text of lines of progress.
+use Rattle.std.proofs.Common.{◌≡◌, ◌++◌, ◌+◌, ◌*◌, ◌-◌, ◌^◌, ◌<◌, ◌≤◌, ◌∙◌, ℕ, zero, suc, List, [], ◌∷◌, Option, Some, None, length, take, ap, arith, inl, inr, refl, subst, sym}
+use Rattle.std.proofs.KnownBytes.{Appends-trans}
+use Rattle.std.proofs.lemmas.List.{append-nil, length-append, take-append-le}
+use Rattle.std.proofs.Math.Nat.{eq-or-lt_of_le}
+use Rattle.std.proofs.Math.Seq.{take-append-add}
+use Rattle.std.specs.Io.KnownBytes.{Appends}
+use Rattle.omega_game.specs.declared.player.Player.{Player}
+use Rattle.omega_game.specs.Game.{Node}
+use Rattle.omega_watch.specs.Watching.{IsTold, IsWatched, TellsEach, TellsRun, TellsRuns, most_of, progress}
+use Rattle.omega_watch.specs.declared.watching.Progress.{Progress}
+use Rattle.omega_io.specs.Writing.{Tells, WritesBeginning}
+use Rattle.omega_run.specs.Progress.{GoesOnByLine, HasTold, TellsLast, TellsOn, progress_line}
+
+-- ---- one text behind another
+
+-- a beginning of the text that follows is, behind the whole of the first, a beginning of both
+begins_behind : (start before after : Option (List ℕ)) (text more : List ℕ) → Appends start before text → WritesBeginning before after more
+    → WritesBeginning start after (text ++ more)
+begins_behind start before after text more whole begun = record {
+  count = length text + begun.count;
+  less = omega (arith, length-append text more, begun.less);
+  taken = rw (take-append-add text more begun.count) (Appends-trans start before after text (take begun.count more) whole begun.taken);
+}
+
+-- a beginning of the first is one of both
+begins_before : (start before : Option (List ℕ)) (text more : List ℕ) → WritesBeginning start before text → WritesBeginning start before (text ++ more)
+begins_before start before text more begun = record {
+  count = begun.count;
+  less = omega (arith, length-append text more, begun.less);
+  taken = rw (take-append-le begun.count text more (omega (arith, begun.less))) begun.taken;
+}
+
+-- where none failed before, the text goes on
+tells_behind : (start before after : Option (List ℕ)) (sound failed later : ℕ) (text more : List ℕ) → failed ≡ sound
+    → Tells start before sound failed text → Tells before after failed later more → Tells start after sound later (text ++ more)
+tells_behind start before after sound failed later text more none told then = record {
+  whole = λ same.
+      Appends-trans start before after text more (told.whole none) (then.whole (omega (arith, same, none)));
+  beginning = λ less. begins_behind start before after text more (told.whole none) (then.beginning (omega (arith, less, none)));
+}
+
+-- where one failed before, nothing more is told
+tells_nothing : (start before after : Option (List ℕ)) (sound failed later : ℕ) (text more : List ℕ) → sound < failed
+    → Tells start before sound failed text → after ≡ before → later ≡ failed → Tells start after sound later (text ++ more)
+tells_nothing start before after sound failed later text more some told same counted = record {
+  whole = λ none. absurd (omega (arith, some, none, counted));
+  beginning = λ less. rw same (begins_before start before text more (told.beginning some));
+}
+
+-- what is told on goes on with what was told
+pub told_on : (start before after : Option (List ℕ)) (sound failed later : ℕ) (text more : List ℕ) → sound < 2 ^ 64 - 1
+    → HasTold start before sound failed text → TellsOn sound before after failed later more → HasTold start after sound later (text ++ more)
+told_on start before after sound failed later text more fits told on = record {
+  counted = omega (arith, told.counted, on.counted);
+  told = elim (eq-or-lt_of_le told.counted) [
+    | inl none ↦ tells_behind start before after sound failed later text more (sym none) told.told (on.told (sym none) fits)
+    | inr some ↦ tells_nothing start before after sound failed later text more some told.told (on.silent some).0 (on.silent some).1
+  ];
+}
+
+-- and so does what is told at last
+pub told_at_last : (start before after : Option (List ℕ)) (sound failed later : ℕ) (text more : List ℕ)
+    → HasTold start before sound failed text → TellsLast sound before after failed later more → Tells start after sound later (text ++ more)
+told_at_last start before after sound failed later text more told last = elim (eq-or-lt_of_le told.counted) [
+  | inl none ↦ tells_behind start before after sound failed later text more (sym none) told.told (last.told (sym none))
+  | inr some ↦ tells_nothing start before after sound failed later text more some told.told (last.silent some).0 (last.silent some).1
+]
+
+-- two texts told on are one
+pub on_and_on : (before between after : Option (List ℕ)) (sound failed more later : ℕ) (text then : List ℕ)
+    → TellsOn sound before between failed more text → TellsOn sound between after more later then
+    → TellsOn sound before after failed later (text ++ then)
+on_and_on before between after sound failed more later text then first second = record {
+  counted = omega (arith, first.counted, second.counted);
+  told = λ none fits.
+      (told_on before between after failed more later text then (omega (arith, none, fits))
+      (record { counted = first.counted; told = first.told none fits })
+      (subst (λ (n : ℕ). TellsOn n between after more later then) (sym none) second)).told;
+  silent = λ some.
+      let was = first.silent some in
+      let is = second.silent (omega (arith, some, was.1)) in
+      (is.0 ∙ was.0, is.1 ∙ was.1);
+}
+
+-- nothing was told
+nothing_appended : (held : Option (List ℕ)) → Appends held held []
+nothing_appended None = tt
+nothing_appended (Some bytes) = sym (append-nil bytes)
+
+nothing_told : (held : Option (List ℕ)) (failed : ℕ) → HasTold held held failed failed []
+nothing_told held failed = record {
+  counted = omega arith;
+  told = record { whole = λ same. nothing_appended held; beginning = λ less. absurd (omega (arith, less)) };
+}
+
+-- ---- lines of progress
+
+-- what tells a listener that holds a text and counts failures, in lines
+abbrev pub TellsLines : {L : Type 0} → (L → Option (List ℕ)) → (L → ℕ) → ℕ → Progress → L → L → Type 0
+TellsLines held failed sound = λ progress before after.
+    TellsOn sound (held before) (held after) (failed before) (failed after) (progress_line progress)
+
+-- a text that the listener was told, and of which this holds
+pub record HasLines (Holds : List ℕ → Type 0) (start now : Option (List ℕ)) (sound failed : ℕ) : Type 0 where
+  pub text : List ℕ
+  pub told : HasTold start now sound failed text
+  pub holds : Holds text
+
+each_lines : {L : Type 0} (held : L → Option (List ℕ)) (failed : L → ℕ) (sound : ℕ) (start : Option (List ℕ)) (player : Player) (every most times : ℕ)
+    (before after : L) (text : List ℕ) → sound < 2 ^ 64 - 1 → HasTold start (held before) sound (failed before) text
+    → TellsEach (TellsLines held failed sound) player every most times before after
+    → HasLines (TellsEach GoesOnByLine player every most times text) start (held after) sound (failed after)
+each_lines {L} held failed sound start player every most zero before after text fits told same = record {
+  text = text;
+  told = subst (λ (l : L). HasTold start (held l) sound (failed l) text) (sym same) told;
+  holds = refl;
+}
+each_lines {L} held failed sound start player every most (suc times) before after text fits told (between, earlier, last) =
+    let so_far = each_lines held failed sound start player every most times before between text fits told earlier in
+    record {
+      text = so_far.text ++ progress_line (progress player (suc times * every) most);
+      told = told_on start (held between) (held after) sound (failed between) (failed after) so_far.text _ fits so_far.told last;
+      holds = (so_far.text, so_far.holds, refl);
+    }
+
+run_lines : {L : Type 0} (held : L → Option (List ℕ)) (failed : L → ℕ) (sound : ℕ) (start : Option (List ℕ)) (every : ℕ) (nodes : List Node)
+    (player : Player) (budget : ℕ) (before after : L) (text : List ℕ) → sound < 2 ^ 64 - 1 → HasTold start (held before) sound (failed before) text
+    → TellsRun (TellsLines held failed sound) every nodes player budget before after
+    → HasLines (TellsRun GoesOnByLine every nodes player budget text) start (held after) sound (failed after)
+run_lines held failed sound start every nodes player budget before after text fits told run =
+    let lines = each_lines held failed sound start player every (most_of nodes player budget) run.told.times before after text fits told run.told.told in
+    record {
+      text = lines.text;
+      told = lines.told;
+      holds = record {
+        lifts = run.lifts;
+        within = run.within;
+        told = record { times = run.told.times; made = run.told.made; each = run.told.each; told = lines.holds };
+      };
+    }
+
+runs_lines : {L : Type 0} (held : L → Option (List ℕ)) (failed : L → ℕ) (sound : ℕ) (start : Option (List ℕ)) (every : ℕ) (nodes : List Node)
+    (players : List Player) (budget : ℕ) (before after : L) (text : List ℕ) → sound < 2 ^ 64 - 1
+    → HasTold start (held before) sound (failed before) text
+    → TellsRuns (TellsLines held failed sound) every nodes players budget before after
+    → HasLines (TellsRuns GoesOnByLine every nodes players budget text) start (held after) sound (failed after)
+runs_lines {L} held failed sound start every nodes [] budget before after text fits told same = record {
+  text = text;
+  told = subst (λ (l : L). HasTold start (held l) sound (failed l) text) (sym same) told;
+  holds = refl;
+}
+runs_lines held failed sound start every nodes (player ∷ players) budget before after text fits told (between, run, runs) =
+    let first = run_lines held failed sound start every nodes player budget before between text fits told run in
+    let rest = runs_lines held failed sound start every nodes players budget between after first.text fits first.told runs in
+    record { text = rest.text; told = rest.told; holds = (first.text, first.holds, rest.holds) }
+
+-- what a listener was told of runs in lines is a text of these
+pub watched_lines : {L : Type 0} (held : L → Option (List ℕ)) (failed : L → ℕ) (Runs : List Node → List Player → Type 0) (every budget sound : ℕ)
+    (before after : L) → failed before < 2 ^ 64 - 1 → sound ≡ failed before
+    → IsWatched Runs (TellsLines held failed sound) every budget before after
+    → HasLines (IsWatched Runs GoesOnByLine every budget []) (held before) (held after) (failed before) (failed after)
+watched_lines {L} held failed Runs every budget sound before after fits same watched =
+    let told = subst (λ (n : ℕ). TellsRuns (TellsLines held failed n) every watched.nodes watched.players budget before after) same watched.told in
+    let lines = runs_lines held failed (failed before) (held before) every watched.nodes watched.players budget before after [] fits
+    (nothing_told (held before) (failed before)) told in
+    record {
+      text = lines.text;
+      told = lines.told;
+      holds = record { nodes = watched.nodes; players = watched.players; runs = watched.runs; told = lines.holds };
+    }

@@ -1,0 +1,57 @@
+-- What standard error is told of runs that lift, while they last.
+use Rattle.std.specs.Prelude.{◌≡◌, ◌++◌, ◌-◌, ◌^◌, ◌<◌, ◌≤◌, List, [], Option, ℕ, codes, decimal, max}
+use Rattle.omega_game.specs.declared.player.Player.{Player}
+use Rattle.omega_game.specs.Game.{Node}
+use Rattle.omega_game_answers.specs.PlayerText.{player_text}
+use Rattle.omega_automaton_answers.specs.Watching.{LiftsAutomatonText}
+use Rattle.omega_game_answers.specs.Watching.{LiftsText}
+use Rattle.omega_watch.specs.Watching.{IsWatched}
+use Rattle.omega_game_answers.specs.declared.solve.asked.Asked.TheVariants as way
+use Rattle.omega_watch.specs.declared.watching.Progress.{Progress}
+use Rattle.omega_line.specs.declared.command.Command.{Command}
+use Rattle.omega_line.specs.declared.command.Command.TheVariants.{Empty, Search, Solve}
+use Rattle.omega_io.specs.Reading.{ReadsText}
+use Rattle.omega_io.specs.Writing.{Tells}
+use Rattle.omega_run.specs.Respond.{asked_for}
+
+-- the line that tells how far a run has come: the player, how many lifts were made, and how many there are at most
+abbrev pub progress_line : Progress → List ℕ
+progress_line progress =
+    player_text progress.player ++ codes ": " ++ decimal progress.lifts ++ codes " lifts of at most " ++ decimal progress.most ++ codes "\n"
+
+-- the text goes on by the line
+abbrev pub GoesOnByLine : Progress → List ℕ → List ℕ → Type 0
+GoesOnByLine progress before after = after ≡ before ++ progress_line progress
+
+-- the command lifts these games for these players, where this is its text
+abbrev pub LiftsFor : Command → List ℕ → List Node → List Player → Type 0
+LiftsFor (Solve player from) text = LiftsText text (asked_for player) from
+LiftsFor (Search from) text = LiftsText text way.Search from
+LiftsFor Empty text = LiftsAutomatonText text
+LiftsFor other text = λ nodes players. ⊥
+
+-- the command lifts this game for these players, where its text was read from the input
+abbrev pub LiftsInput : Command → (unread_before unread_after : Option (List ℕ)) → List Node → List Player → Type 0
+LiftsInput command unread_before unread_after nodes players =
+    ReadsText unread_before unread_after (λ text. LiftsFor command text nodes players)
+
+-- the lines that tell of the runs of the command, one after so many lifts more
+abbrev pub AreProgressLines : Command → (every budget : ℕ) → (unread_before unread_after : Option (List ℕ)) → List ℕ → Type 0
+AreProgressLines command every budget unread_before unread_after lines =
+    IsWatched (LiftsInput command unread_before unread_after) GoesOnByLine every budget [] lines
+
+-- the output took more of a text of which it took so much before: nothing, where a write of that failed; a failed write breaks it off
+pub record TellsOn (sound : ℕ) (before after : Option (List ℕ)) (failed_before failed_after : ℕ) (text : List ℕ) : Type 0 where
+  pub counted : failed_before ≤ failed_after
+  pub told : failed_before ≡ sound → sound < 2 ^ 64 - 1 → Tells before after failed_before failed_after text
+  pub silent : sound < failed_before → (after ≡ before) × (failed_after ≡ failed_before)
+
+-- the same of the last that is told
+pub record TellsLast (sound : ℕ) (before after : Option (List ℕ)) (failed_before failed_after : ℕ) (text : List ℕ) : Type 0 where
+  pub told : failed_before ≡ sound → Tells before after failed_before failed_after text
+  pub silent : sound < failed_before → (after ≡ before) × (failed_after ≡ failed_before)
+
+-- the output took the text, or where one of its writes failed, a beginning of it
+pub record HasTold (before after : Option (List ℕ)) (failed_before failed_after : ℕ) (text : List ℕ) : Type 0 where
+  pub counted : failed_before ≤ failed_after
+  pub told : Tells before after failed_before failed_after text

@@ -1,0 +1,125 @@
+use crate::portions::{Filling, Portions};
+use crate::running::{Asked, Left, expect};
+use omega_run::{Command, Exit, FromRead, Output, Refusal, ToWrite, run_watched};
+use std::alloc::Global;
+use std::test::Fail;
+
+/// A game that takes eight lifts for player 0, of at most 32, and none for player 1.
+const RING: &str = "0 1 0 1; 1 1 0 2; 2 1 0 3; 3 3 0 0;";
+
+/// Its solution.
+const WON: &str = "paritysol 3;\n0 1;\n1 1;\n2 1;\n3 1;\n";
+
+/// What a run left: how it ended, what stands on standard output and standard error, and how many writes of the latter
+/// failed.
+#[derive(Drop)]
+struct Told {
+    ended: Result<Exit, Refusal>,
+    output: Vec<u8>,
+    error: Vec<u8>,
+    failures: u64,
+}
+
+/// Runs a command over a text, told of after so many lifts more each time.
+fn watched(
+    alloc: Global,
+    command: &Command,
+    text: &str,
+    budget: u32,
+    every: u64,
+    errors: Filling,
+) -> Told {
+    let mut input = FromRead::new(Portions::whole(text));
+    let mut output = ToWrite::new(Filling::without_end(alloc));
+    let mut errors = ToWrite::new(errors);
+    let ended = run_watched(
+        alloc,
+        command,
+        &mut input,
+        &mut output,
+        &mut errors,
+        u64::from(budget),
+        every,
+    );
+    Told {
+        ended,
+        failures: errors.failures(),
+        output: output.into_inner().taken,
+        error: errors.into_inner().taken,
+    }
+}
+
+/// Solves the ring for both players.
+fn solved(alloc: Global, budget: u32, every: u64, errors: Filling) -> Told {
+    let command = Command::Solve {
+        player: None,
+        from: None,
+    };
+    watched(alloc, &command, RING, budget, every, errors)
+}
+
+#[test]
+fn a_line_comes_each_time_that_so_many_lifts_were_made(rt: HostRuntime) -> Result<(), Fail> {
+    let alloc = rt.alloc();
+    let lines = "player 0: 3 lifts of at most 32\nplayer 0: 6 lifts of at most 32\n";
+    for (every, told) in [
+        (3, lines),
+        (4, "player 0: 4 lifts of at most 32\n"),
+        (8, ""),
+    ] {
+        let left = solved(alloc, 1000, every, Filling::without_end(alloc));
+        assert!(rt; left.ended.is_ok() && left.output.as_slice() == WON.as_bytes());
+        assert!(rt; left.error.as_slice() == told.as_bytes(), "{every}");
+    }
+    Ok(())
+}
+
+#[test]
+fn the_budget_is_told_where_it_is_less_than_the_bound(rt: HostRuntime) -> Result<(), Fail> {
+    let alloc = rt.alloc();
+    let left = solved(alloc, 5, 2, Filling::without_end(alloc));
+    assert!(rt; left.output.is_empty());
+    assert!(rt; left.ended.is_err());
+    let told = "player 0: 2 lifts of at most 5\nplayer 0: 4 lifts of at most 5\n";
+    assert!(rt; left.error.as_slice() == told.as_bytes());
+    Ok(())
+}
+
+#[test]
+fn a_failed_line_stops_no_run(rt: HostRuntime) -> Result<(), Fail> {
+    let alloc = rt.alloc();
+    let left = solved(alloc, 1000, 1, Filling::with_room(alloc, 12, true));
+    assert!(rt; left.ended.is_ok() && left.output.as_slice() == WON.as_bytes());
+    assert!(rt; left.error.as_slice() == b"player 0: 1 " && left.failures == 1);
+    Ok(())
+}
+
+#[test]
+fn emptiness_is_told_of_player_0(rt: HostRuntime) -> Result<(), Fail> {
+    let alloc = rt.alloc();
+    let automaton = "HOA: v1 States: 2 Start: 0 acc-name: co-Buchi Acceptance: 1 Fin(0) --BODY-- \
+        State: 0 [t] 0 {0} [t] 1 State: 1 [t] 1 --END--";
+    let left = watched(
+        alloc,
+        &Command::Empty,
+        automaton,
+        1000,
+        3,
+        Filling::without_end(alloc),
+    );
+    assert!(rt; left.ended.is_ok() && left.output.as_slice() == b"stem 1\ncycle 2\n");
+    assert!(rt; left.error.as_slice() == b"player 0: 3 lifts of at most 18\n");
+    Ok(())
+}
+
+#[test]
+fn a_short_run_is_not_told_of(rt: HostRuntime) -> Result<(), Fail> {
+    for line in [
+        "omega solve",
+        "omega solve --progress",
+        "omega solve --search --progress",
+    ] {
+        expect(rt.alloc(), Asked::of(line, RING), Left::of(0, WON, ""))?;
+    }
+    Ok(())
+}

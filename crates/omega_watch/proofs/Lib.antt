@@ -1,0 +1,3 @@
+-- Lemmas by theme.
+pub mod Lifting
+pub mod Watched

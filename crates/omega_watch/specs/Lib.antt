@@ -1,0 +1,3 @@
+-- Runs of a solver that is watched.
+pub mod Lifting
+pub mod Watching
