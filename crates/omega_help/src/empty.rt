@@ -41,8 +41,8 @@ it, also where standard error takes no line.
 --search decides it without lifting: it looks in the game for a cycle whose greatest priority is even,
 in a time that is near-linear in the automaton. Its answers are proved as those of lifting are, though
 the lasso may be another. It has no bound on lifts that is known before the run, and needs none:
-neither --budget nor --progress is given beside it, and 50 and 51 are not told. Take it for large automata, and where
-lifting gives up.
+neither --budget nor --progress is given beside it, and 50 and 51 are not told. Take it for large
+automata, and where lifting gives up.
 
 What is wrong with the text is told first; `omega check --help` lists it. A text with --ABORT--, with no
 automaton or with several is no automaton: 3 Syntax is told of it. Then 13, 40, 41 and 42 come in this

@@ -1,5 +1,5 @@
--- `run_watched`: what standard error was told of the runs is a text of lines.
-use Rattle.std.proofs.Common.{max}
+-- `run_watched`: nothing is written before the answer is there, and what standard error was told of the runs is a text of lines.
+use Rattle.std.proofs.Common.{max, rules}
 use Rattle.omega_run.proofs.ProgressLines.{watched_lines}
 use Rattle.omega_run.proofs.watching.run_watched.Goals as goal
 
@@ -20,3 +20,27 @@ returns-clause-told g c =
     let lines = watched_lines g.E.Output.contents g.E.Output.failed _ (max 1 c.args.every) c.args.budget c.failures.result c.args.errors.now
     c.respond_watched.new.listener c.requires.tells c.failures.ensures c.respond_watched.ensures.told in
     (lines.text, lines.holds, lines.told)
+
+pub returns-in_err-exit-clause-unwritten : goal.returns-in_err-exit-clause-unwritten
+returns-in_err-exit-clause-unwritten g c = search rules
+
+pub returns-in_err-exit-clause-broken_off : goal.returns-in_err-exit-clause-broken_off
+returns-in_err-exit-clause-broken_off g c = search rules
+
+pub returns-in_err-exit-clause-counted : goal.returns-in_err-exit-clause-counted
+returns-in_err-exit-clause-counted g c = search rules
+
+pub write_text-requires : goal.write_text-requires
+write_text-requires g c = search rules
+
+pub returns-in_err-write_text-clause-broken_off : goal.returns-in_err-write_text-clause-broken_off
+returns-in_err-write_text-clause-broken_off g c = search rules
+
+pub returns-in_err-write_text-clause-counted : goal.returns-in_err-write_text-clause-counted
+returns-in_err-write_text-clause-counted g c = search rules
+
+pub returns-clause-completed : goal.returns-clause-completed
+returns-clause-completed g c = search rules
+
+pub returns-clause-counted : goal.returns-clause-counted
+returns-clause-counted g c = search rules
