@@ -90,7 +90,7 @@ fn a_failed_line_stops_no_run(rt: HostRuntime) -> Result<(), Fail> {
     let alloc = rt.alloc();
     let left = solved(alloc, 1000, 1, Filling::with_room(alloc, 12, true));
     assert!(rt; left.ended.is_ok() && left.output.as_slice() == WON.as_bytes());
-    assert!(rt; left.error.as_slice() == b"player 0: 1 " && left.failures == 1);
+    assert!(rt; left.error.as_slice() == b"player 0: 1 ".as_slice() && left.failures == 1);
     Ok(())
 }
 
@@ -107,8 +107,8 @@ fn emptiness_is_told_of_player_0(rt: HostRuntime) -> Result<(), Fail> {
         3,
         Filling::without_end(alloc),
     );
-    assert!(rt; left.ended.is_ok() && left.output.as_slice() == b"stem 1\ncycle 2\n");
-    assert!(rt; left.error.as_slice() == b"player 0: 3 lifts of at most 18\n");
+    assert!(rt; left.ended.is_ok() && left.output.as_slice() == b"stem 1\ncycle 2\n".as_slice());
+    assert!(rt; left.error.as_slice() == b"player 0: 3 lifts of at most 18\n".as_slice());
     Ok(())
 }
 

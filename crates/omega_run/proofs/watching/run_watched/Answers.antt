@@ -44,3 +44,15 @@ returns-clause-completed g c = search rules
 
 pub returns-clause-counted : goal.returns-clause-counted
 returns-clause-counted g c = search rules
+
+pub returns-in_err-exit-clause-writes_kept : goal.returns-in_err-exit-clause-writes_kept
+returns-in_err-exit-clause-writes_kept g c = search rules
+
+pub returns-in_err-write_text-clause-unwritten : goal.returns-in_err-write_text-clause-unwritten
+returns-in_err-write_text-clause-unwritten g c = search rules
+
+pub returns-in_err-write_text-clause-writes_kept : goal.returns-in_err-write_text-clause-writes_kept
+returns-in_err-write_text-clause-writes_kept g c = search rules
+
+pub returns-clause-writes_kept : goal.returns-clause-writes_kept
+returns-clause-writes_kept g c = search rules
