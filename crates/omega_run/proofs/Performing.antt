@@ -1,5 +1,5 @@
 -- What the program does with a command line, from what its steps do.
-use Rattle.std.proofs.Common.{◌≡◌, ◌+◌, ◌<◌, ◌≤◌, ℕ, List, [], Option, Result, Ok, Err, IfOk, IfErr, OnErr, arith, inl, inr}
+use Rattle.std.proofs.Common.{◌≡◌, ◌+◌, ◌<◌, ◌≤◌, ℕ, List, [], Result, Ok, Err, IfOk, IfErr, OnErr, arith, inl, inr}
 use Rattle.std.specs.Io.KnownBytes.{Keeps}
 use Rattle.omega_text.specs.declared.refusal.Refusal.{Refusal}
 use Rattle.omega_line.specs.declared.command.Command.{Command}

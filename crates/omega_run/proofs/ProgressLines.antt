@@ -1,5 +1,5 @@
 -- What standard error was told of runs is a text of lines of progress.
-use Rattle.std.proofs.Common.{◌≡◌, ◌++◌, ◌+◌, ◌*◌, ◌-◌, ◌^◌, ◌<◌, ◌≤◌, ◌∙◌, ℕ, zero, suc, List, [], ◌∷◌, Option, Some, None, length, take, ap, arith, inl, inr, refl, subst, sym}
+use Rattle.std.proofs.Common.{◌≡◌, ◌++◌, ◌+◌, ◌*◌, ◌-◌, ◌^◌, ◌<◌, ◌∙◌, ℕ, zero, suc, List, [], ◌∷◌, Option, Some, None, length, take, arith, inl, inr, refl, subst, sym}
 use Rattle.std.proofs.KnownBytes.{Appends-trans}
 use Rattle.std.proofs.lemmas.List.{append-nil, length-append, take-append-le}
 use Rattle.std.proofs.Math.Nat.{eq-or-lt_of_le}
@@ -7,7 +7,7 @@ use Rattle.std.proofs.Math.Seq.{take-append-add}
 use Rattle.std.specs.Io.KnownBytes.{Appends}
 use Rattle.omega_game.specs.declared.player.Player.{Player}
 use Rattle.omega_game.specs.Game.{Node}
-use Rattle.omega_watch.specs.Watching.{IsTold, IsWatched, TellsEach, TellsRun, TellsRuns, most_of, progress}
+use Rattle.omega_watch.specs.Watching.{IsWatched, TellsEach, TellsRun, TellsRuns, most_of, progress}
 use Rattle.omega_watch.specs.declared.watching.Progress.{Progress}
 use Rattle.omega_io.specs.Writing.{Tells, WritesBeginning}
 use Rattle.omega_run.specs.Progress.{GoesOnByLine, HasTold, TellsLast, TellsOn, progress_line}

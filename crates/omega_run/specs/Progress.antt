@@ -1,5 +1,5 @@
 -- What standard error is told of runs that lift, while they last.
-use Rattle.std.specs.Prelude.{◌≡◌, ◌++◌, ◌-◌, ◌^◌, ◌<◌, ◌≤◌, List, [], Option, ℕ, codes, decimal, max}
+use Rattle.std.specs.Prelude.{◌≡◌, ◌++◌, ◌-◌, ◌^◌, ◌<◌, ◌≤◌, List, [], Option, ℕ, codes, decimal}
 use Rattle.omega_game.specs.declared.player.Player.{Player}
 use Rattle.omega_game.specs.Game.{Node}
 use Rattle.omega_game_answers.specs.PlayerText.{player_text}
