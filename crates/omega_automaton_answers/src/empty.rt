@@ -1,7 +1,7 @@
 ghost use Rattle.std.specs.Prelude.{◌≡◌, ◌≤◌, IfOk, IfErr, IsOkUnless};
 ghost use Rattle.omega_automaton_answers.specs.empty.Answer.{IsEmptyAnswer, IsEmptyRefusal, IsEmptySearchRefusal, emptiness_text};
 ghost use Rattle.omega_automaton_answers.specs.Watching.{LiftsAutomaton, LiftsAutomatonText};
-ghost use Rattle.omega_watch.specs.Watching.{IsWatched};
+ghost use Rattle.omega_watch.specs.Watching.{IsWatched, refusal_in};
 ghost use Rattle.omega_empty.specs.Refusing.{IsGameRefusal};
 ghost use Rattle.omega_empty.specs.Verdict.{IsEmptinessRefusal, IsVerdict};
 ghost use Rattle.omega_solve.specs.Limits.{most_lifts};
@@ -31,7 +31,7 @@ pub fn decide_emptiness<L, W: Watch<L>>(
     requires { budget ≤ most_lifts }
     ensures answer { IfOk result (λ output. IsEmptyAnswer text.items output.items) }
     ensures refused { IfErr result (or_memory (IsEmptyRefusal text.items budget)) }
-    ensures told { IsWatched (LiftsAutomatonText text.items) (W.tells watch.now) (W.pace watch.now) budget listener.old listener.new }
+    ensures told { IsWatched (LiftsAutomatonText text.items) (refusal_in result) (W.tells watch.now) (W.pace watch.now) budget listener.old listener.new }
 {
     let automaton = automaton_in(alloc, text)?;
     let verdict = decided(alloc, automaton, budget, watch, listener)?;
@@ -60,7 +60,7 @@ fn decided<L, W: Watch<L>>(
     requires { budget ≤ most_lifts }
     ensures verdict { IfOk result (IsVerdict automaton) }
     ensures refused { IfErr result (IsEmptinessRefusal automaton budget) }
-    ensures told { IsWatched (LiftsAutomaton automaton) (W.tells watch.now) (W.pace watch.now) budget listener.old listener.new }
+    ensures told { IsWatched (LiftsAutomaton automaton) (refusal_in result) (W.tells watch.now) (W.pace watch.now) budget listener.old listener.new }
 {
     let game = emptiness_game(alloc, &automaton)?;
     let solver: Solver<'_, PackedTable, Nested> = Solver::prepare(alloc, &game, Player::Zero)?;

@@ -9,3 +9,4 @@ pub mod Solutions
 pub mod Solved
 pub mod Solving
 pub mod Verifying
+pub mod Watching

@@ -1,5 +1,6 @@
 -- In which games, and for whom, `solve` lifts.
-use Rattle.std.specs.Prelude.{◌≡◌, ℕ, List, [], ◌∷◌, Option, take}
+use Rattle.std.specs.Prelude.{◌≡◌, ◌⊎◌, ℕ, List, [], ◌∷◌, Option}
+use Rattle.omega_text.specs.declared.refusal.Refusal.{Refusal}
 use Rattle.omega_game.specs.declared.player.Player.{Player}
 use Rattle.omega_game.specs.declared.player.Player.TheVariants.{One, Zero}
 use Rattle.omega_game.specs.Game.{Node}
@@ -7,25 +8,22 @@ use Rattle.omega_game_answers.specs.Part.{IsPartFrom}
 use Rattle.omega_game_answers.specs.Verify.{IsJudged}
 use Rattle.omega_game_answers.specs.declared.solve.asked.Asked.{Asked}
 use Rattle.omega_game_answers.specs.declared.solve.asked.Asked.TheVariants as way
+use Rattle.omega_watch.specs.Watching.{AreMade, IsSpent}
 
--- for whom a game is lifted, in this order, as far as that is done
-abbrev pub players_of : Asked → List Player
-players_of way.Both = Zero ∷ One ∷ []
-players_of way.Search = Zero ∷ One ∷ []
-players_of (way.Player player) = player ∷ []
-
--- the players are those for whom the game is lifted, up to some one
-abbrev pub AreRuns : Asked → List Player → Type 0
-AreRuns asked players = (count : ℕ) × (players ≡ take count (players_of asked))
+-- for whom a game is lifted, until the run of one is refused; a search that answers makes no run
+abbrev pub AreRuns : Asked → Option Refusal → List Player → Type 0
+AreRuns way.Both refusal players = AreMade (Zero ∷ One ∷ []) refusal players
+AreRuns way.Search refusal players = ((players ≡ []) × (IsSpent refusal → ⊥)) ⊎ AreMade (Zero ∷ One ∷ []) refusal players
+AreRuns (way.Player player) refusal players = AreMade (player ∷ []) refusal players
 
 -- a whole game is lifted
-abbrev pub LiftsGame : List Node → Asked → List Node → List Player → Type 0
-LiftsGame game asked nodes players = (nodes ≡ game) × AreRuns asked players
+abbrev pub LiftsGame : List Node → Asked → Option Refusal → List Node → List Player → Type 0
+LiftsGame game asked refusal nodes players = (nodes ≡ game) × AreRuns asked refusal players
 
 -- the part of a game that the node with the identifier reaches is lifted
-abbrev pub LiftsPart : List Node → Asked → ℕ → List Node → List Player → Type 0
-LiftsPart game asked identifier nodes players = IsPartFrom game identifier nodes × AreRuns asked players
+abbrev pub LiftsPart : List Node → Asked → ℕ → Option Refusal → List Node → List Player → Type 0
+LiftsPart game asked identifier refusal nodes players = IsPartFrom game identifier nodes × AreRuns asked refusal players
 
 -- `solve` lifts the game of the text, or the part of it that a node reaches
-abbrev pub LiftsText : List ℕ → Asked → Option ℕ → List Node → List Player → Type 0
-LiftsText text asked from nodes players = IsJudged text from nodes × AreRuns asked players
+abbrev pub LiftsText : List ℕ → Asked → Option ℕ → Option Refusal → List Node → List Player → Type 0
+LiftsText text asked from refusal nodes players = IsJudged text from nodes × AreRuns asked refusal players

@@ -5,7 +5,7 @@ ghost use Rattle.omega_game_answers.specs.solve.Refusing.{IsSolveRefusal};
 ghost use Rattle.omega_game_answers.specs.solve.Solving.{IsSolveAnswer, SolvesPart, SolvesWhole};
 ghost use Rattle.omega_game_answers.specs.steps.GameRefusal.{IsGameRefusal};
 ghost use Rattle.omega_game_answers.specs.Watching.{LiftsGame, LiftsPart, LiftsText};
-ghost use Rattle.omega_watch.specs.Watching.{IsWatched};
+ghost use Rattle.omega_watch.specs.Watching.{IsWatched, refusal_in};
 
 mod answer_text;
 pub mod asked;
@@ -40,7 +40,7 @@ pub fn solve_game<T: MeasureTable, S: Schedule, L, W: Watch<L>>(
     requires { budget ≤ most_lifts }
     ensures answer { IfOk result (λ output. IsSolveAnswer text.items asked from budget output.items) }
     ensures refused { IfErr result (or_memory (IsSolveRefusal text.items asked from budget)) }
-    ensures told { IsWatched (LiftsText text.items asked from) (W.tells watch.now) (W.pace watch.now) budget listener.old listener.new }
+    ensures told { IsWatched (LiftsText text.items asked from) (refusal_in result) (W.tells watch.now) (W.pace watch.now) budget listener.old listener.new }
 {
     let game = game_of(alloc, text)?;
     match from {
@@ -64,7 +64,7 @@ fn solve_part<T: MeasureTable, S: Schedule, L, W: Watch<L>>(
     requires { budget ≤ most_lifts }
     ensures answer { IfOk result (λ output. SolvesPart game asked identifier budget output.items) }
     ensures refused { IfErr result (IsGameRefusal game asked (Some identifier) budget) }
-    ensures told { IsWatched (LiftsPart game asked identifier) (W.tells watch.now) (W.pace watch.now) budget listener.old listener.new }
+    ensures told { IsWatched (LiftsPart game asked identifier) (refusal_in result) (W.tells watch.now) (W.pace watch.now) budget listener.old listener.new }
 {
     regions_of_parts();
     game.keeps_limits();
@@ -84,7 +84,7 @@ fn solve_whole<T: MeasureTable, S: Schedule, L, W: Watch<L>>(
     requires { budget ≤ most_lifts }
     ensures answer { IfOk result (λ output. SolvesWhole game.now asked budget output.items) }
     ensures refused { IfErr result (IsGameRefusal game.now asked None budget) }
-    ensures told { IsWatched (LiftsGame game.now asked) (W.tells watch.now) (W.pace watch.now) budget listener.old listener.new }
+    ensures told { IsWatched (LiftsGame game.now asked) (refusal_in result) (W.tells watch.now) (W.pace watch.now) budget listener.old listener.new }
 {
     match asked {
         Asked::Both => solve_both::<T, S, L, W>(alloc, game, budget, watch, listener),

@@ -5,6 +5,7 @@ use Rattle.std.proofs.lemmas.List.{append-nil, length-append, take-append-le}
 use Rattle.std.proofs.Math.Nat.{eq-or-lt_of_le}
 use Rattle.std.proofs.Math.Seq.{take-append-add}
 use Rattle.std.specs.Io.KnownBytes.{Appends}
+use Rattle.omega_text.specs.declared.refusal.Refusal.{Refusal}
 use Rattle.omega_game.specs.declared.player.Player.{Player}
 use Rattle.omega_game.specs.Game.{Node}
 use Rattle.omega_watch.specs.Watching.{IsWatched, TellsEach, TellsRun, TellsRuns, most_of, progress}
@@ -125,44 +126,48 @@ each_lines {L} held failed sound start player every most (suc times) before afte
     }
 
 run_lines : {L : Type 0} (held : L → Option (List ℕ)) (failed : L → ℕ) (sound : ℕ) (start : Option (List ℕ)) (every : ℕ) (nodes : List Node)
-    (player : Player) (budget : ℕ) (before after : L) (text : List ℕ) → sound < 2 ^ 64 - 1 → HasTold start (held before) sound (failed before) text
-    → TellsRun (TellsLines held failed sound) every nodes player budget before after
-    → HasLines (TellsRun GoesOnByLine every nodes player budget text) start (held after) sound (failed after)
-run_lines held failed sound start every nodes player budget before after text fits told run =
+    (player : Player) (budget : ℕ) (refusal : Option Refusal) (before after : L) (text : List ℕ) → sound < 2 ^ 64 - 1
+    → HasTold start (held before) sound (failed before) text → TellsRun (TellsLines held failed sound) every nodes player budget refusal before after
+    → HasLines (TellsRun GoesOnByLine every nodes player budget refusal text) start (held after) sound (failed after)
+run_lines held failed sound start every nodes player budget refusal before after text fits told run =
     let lines = each_lines held failed sound start player every (most_of nodes player budget) run.told.times before after text fits told run.told.told in
     record {
       text = lines.text;
       told = lines.told;
       holds = record {
-        lifts = run.lifts;
-        within = run.within;
+        outcome = run.outcome;
+        state = run.state;
+        lifted = run.lifted;
+        ended = run.ended;
         told = record { times = run.told.times; made = run.told.made; each = run.told.each; told = lines.holds };
       };
     }
 
 runs_lines : {L : Type 0} (held : L → Option (List ℕ)) (failed : L → ℕ) (sound : ℕ) (start : Option (List ℕ)) (every : ℕ) (nodes : List Node)
-    (players : List Player) (budget : ℕ) (before after : L) (text : List ℕ) → sound < 2 ^ 64 - 1
+    (players : List Player) (budget : ℕ) (refusal : Option Refusal) (before after : L) (text : List ℕ) → sound < 2 ^ 64 - 1
     → HasTold start (held before) sound (failed before) text
-    → TellsRuns (TellsLines held failed sound) every nodes players budget before after
-    → HasLines (TellsRuns GoesOnByLine every nodes players budget text) start (held after) sound (failed after)
-runs_lines {L} held failed sound start every nodes [] budget before after text fits told same = record {
+    → TellsRuns (TellsLines held failed sound) every nodes players budget refusal before after
+    → HasLines (TellsRuns GoesOnByLine every nodes players budget refusal text) start (held after) sound (failed after)
+runs_lines {L} held failed sound start every nodes [] budget refusal before after text fits told same = record {
   text = text;
   told = subst (λ (l : L). HasTold start (held l) sound (failed l) text) (sym same) told;
   holds = refl;
 }
-runs_lines held failed sound start every nodes (player ∷ players) budget before after text fits told (between, run, runs) =
-    let first = run_lines held failed sound start every nodes player budget before between text fits told run in
-    let rest = runs_lines held failed sound start every nodes players budget between after first.text fits first.told runs in
+runs_lines held failed sound start every nodes (player ∷ []) budget refusal before after text fits told run =
+    run_lines held failed sound start every nodes player budget refusal before after text fits told run
+runs_lines held failed sound start every nodes (player ∷ other ∷ players) budget refusal before after text fits told (between, run, runs) =
+    let first = run_lines held failed sound start every nodes player budget None before between text fits told run in
+    let rest = runs_lines held failed sound start every nodes (other ∷ players) budget refusal between after first.text fits first.told runs in
     record { text = rest.text; told = rest.told; holds = (first.text, first.holds, rest.holds) }
 
 -- what a listener was told of runs in lines is a text of these
-pub watched_lines : {L : Type 0} (held : L → Option (List ℕ)) (failed : L → ℕ) (Runs : List Node → List Player → Type 0) (every budget sound : ℕ)
-    (before after : L) → failed before < 2 ^ 64 - 1 → sound ≡ failed before
-    → IsWatched Runs (TellsLines held failed sound) every budget before after
-    → HasLines (IsWatched Runs GoesOnByLine every budget []) (held before) (held after) (failed before) (failed after)
-watched_lines {L} held failed Runs every budget sound before after fits same watched =
-    let told = subst (λ (n : ℕ). TellsRuns (TellsLines held failed n) every watched.nodes watched.players budget before after) same watched.told in
-    let lines = runs_lines held failed (failed before) (held before) every watched.nodes watched.players budget before after [] fits
+pub watched_lines : {L : Type 0} (held : L → Option (List ℕ)) (failed : L → ℕ) (Runs : Option Refusal → List Node → List Player → Type 0) (refusal : Option Refusal)
+    (every budget sound : ℕ) (before after : L) → failed before < 2 ^ 64 - 1 → sound ≡ failed before
+    → IsWatched Runs refusal (TellsLines held failed sound) every budget before after
+    → HasLines (IsWatched Runs refusal GoesOnByLine every budget []) (held before) (held after) (failed before) (failed after)
+watched_lines {L} held failed Runs refusal every budget sound before after fits same watched =
+    let told = subst (λ (n : ℕ). TellsRuns (TellsLines held failed n) every watched.nodes watched.players budget refusal before after) same watched.told in
+    let lines = runs_lines held failed (failed before) (held before) every watched.nodes watched.players budget refusal before after [] fits
     (nothing_told (held before) (failed before)) told in
     record {
       text = lines.text;

@@ -12,7 +12,7 @@ use Rattle.omega_line.specs.declared.line.Line.{Line}
 use Rattle.omega_line.specs.declared.line.Line.TheVariants.{DrawSolution, Fault, Help, Run, Verify, Watched}
 use Rattle.omega_io.specs.Exit.{fault_status, status_of}
 use Rattle.omega_io.specs.RefusalLine.{line_of}
-use Rattle.omega_watch.specs.Watching.{lifts_between_reports}
+use Rattle.omega_watch.specs.Watching.{lifts_between_reports, refusal_in}
 use Rattle.omega_run.specs.Progress.{AreProgressLines}
 use Rattle.omega_run.specs.Respond.{IsRunRefusal}
 use Rattle.omega_run.specs.Run.{BreaksOff, Completes}
@@ -98,7 +98,7 @@ IsObeyed reads refuses (Ok (Fault text)) status tells before after =
     (status ≡ fault_status) × tells (string_bytes text) × (after ≡ before)
 IsObeyed reads refuses (Ok (Watched command budget)) status tells before after =
     (outcome : Result Exit Refusal) × (lines : List ℕ) × Performs command budget outcome before after
-    × AreProgressLines command lifts_between_reports budget before.unread after.unread lines × Reports outcome status (λ text. tells (lines ++ text))
+    × AreProgressLines command (refusal_in outcome) lifts_between_reports budget before.unread after.unread lines × Reports outcome status (λ text. tells (lines ++ text))
 IsObeyed reads refuses (Ok line) status tells before after =
     (outcome : Result Exit Refusal) × Obeys reads refuses line outcome before after × Reports outcome status tells
 IsObeyed reads refuses (Err refusal) status tells before after = Reports (Err refusal) status tells × (after ≡ before)

@@ -1,5 +1,6 @@
 -- What standard error is told of runs that lift, while they last.
 use Rattle.std.specs.Prelude.{◌≡◌, ◌++◌, ◌-◌, ◌^◌, ◌<◌, ◌≤◌, List, [], Option, ℕ, codes, decimal}
+use Rattle.omega_text.specs.declared.refusal.Refusal.{Refusal}
 use Rattle.omega_game.specs.declared.player.Player.{Player}
 use Rattle.omega_game.specs.Game.{Node}
 use Rattle.omega_game_answers.specs.PlayerText.{player_text}
@@ -23,22 +24,20 @@ progress_line progress =
 abbrev pub GoesOnByLine : Progress → List ℕ → List ℕ → Type 0
 GoesOnByLine progress before after = after ≡ before ++ progress_line progress
 
--- the command lifts these games for these players, where this is its text
-abbrev pub LiftsFor : Command → List ℕ → List Node → List Player → Type 0
-LiftsFor (Solve player from) text = LiftsText text (asked_for player) from
-LiftsFor (Search from) text = LiftsText text way.Search from
-LiftsFor Empty text = LiftsAutomatonText text
-LiftsFor other text = λ nodes players. ⊥
+-- the command lifts this game for these players, where its text was read from the input; most commands lift none
+abbrev pub LiftsInput : Command → (unread_before unread_after : Option (List ℕ)) → Option Refusal → List Node → List Player → Type 0
+LiftsInput (Solve player from) unread_before unread_after refusal nodes players =
+    ReadsText unread_before unread_after (λ text. LiftsText text (asked_for player) from refusal nodes players)
+LiftsInput (Search from) unread_before unread_after refusal nodes players =
+    ReadsText unread_before unread_after (λ text. LiftsText text way.Search from refusal nodes players)
+LiftsInput Empty unread_before unread_after refusal nodes players =
+    ReadsText unread_before unread_after (λ text. LiftsAutomatonText text refusal nodes players)
+LiftsInput other unread_before unread_after refusal nodes players = players ≡ []
 
--- the command lifts this game for these players, where its text was read from the input
-abbrev pub LiftsInput : Command → (unread_before unread_after : Option (List ℕ)) → List Node → List Player → Type 0
-LiftsInput command unread_before unread_after nodes players =
-    ReadsText unread_before unread_after (λ text. LiftsFor command text nodes players)
-
--- the lines that tell of the runs of the command, one after so many lifts more
-abbrev pub AreProgressLines : Command → (every budget : ℕ) → (unread_before unread_after : Option (List ℕ)) → List ℕ → Type 0
-AreProgressLines command every budget unread_before unread_after lines =
-    IsWatched (LiftsInput command unread_before unread_after) GoesOnByLine every budget [] lines
+-- the lines that tell of the runs of the command, which was refused so or not at all, one after so many lifts more
+abbrev pub AreProgressLines : Command → Option Refusal → (every budget : ℕ) → (unread_before unread_after : Option (List ℕ)) → List ℕ → Type 0
+AreProgressLines command refusal every budget unread_before unread_after lines =
+    IsWatched (LiftsInput command unread_before unread_after) refusal GoesOnByLine every budget [] lines
 
 -- the output took more of a text of which it took so much before: nothing, where a write of that failed; a failed write breaks it off
 pub record TellsOn (sound : ℕ) (before after : Option (List ℕ)) (failed_before failed_after : ℕ) (text : List ℕ) : Type 0 where

@@ -1,7 +1,7 @@
 //! Commands that lift, told of on standard error while they run.
 ghost use Rattle.std.specs.Prelude.{◌≡◌, ◌+◌, ◌-◌, ◌^◌, ◌<◌, ◌≤◌, List, ℕ, IfOk, IfErr, OnErr, max};
 ghost use Rattle.std.specs.Io.KnownBytes.{Keeps};
-ghost use Rattle.omega_watch.specs.Watching.{IsWatched};
+ghost use Rattle.omega_watch.specs.Watching.{IsWatched, refusal_in};
 ghost use Rattle.omega_io.specs.Failures.{failures_of};
 ghost use Rattle.omega_run.specs.Progress.{AreProgressLines, HasTold, LiftsInput};
 ghost use Rattle.omega_run.specs.Respond.{IsRunRefusal, Responds};
@@ -41,7 +41,7 @@ pub fn run_watched<R: Input, W: Output, E: Output>(
     ensures counted { R.failed input.new + W.failed output.new ≡ R.failed input.old + W.failed output.old + failures_of result }
     ensures reads_kept { R.failed input.old ≤ R.failed input.new }
     ensures writes_kept { W.failed output.old ≤ W.failed output.new }
-    ensures told { (lines : List ℕ) × AreProgressLines command.now (max 1 every) budget (R.remaining input.old) (R.remaining input.new) lines
+    ensures told { (lines : List ℕ) × AreProgressLines command.now (refusal_in result) (max 1 every) budget (R.remaining input.old) (R.remaining input.new) lines
         × HasTold (E.contents errors.old) (E.contents errors.new) (E.failed errors.old) (E.failed errors.new) lines }
 {
     let lines = ProgressLines {
@@ -67,7 +67,7 @@ fn respond_watched<R: Input, L, W: Watch<L>>(
     ensures answered { IfOk result (λ made. Responds command.now budget (R.remaining input.old) (R.remaining input.new) made.0 made.1.items) }
     ensures refused { IfErr result (IsRunRefusal command.now budget (R.remaining input.old) (R.remaining input.new)) }
     ensures counted { R.failed input.new ≡ R.failed input.old + failures_of result }
-    ensures told { IsWatched (LiftsInput command.now (R.remaining input.old) (R.remaining input.new)) (W.tells watch.now) (W.pace watch.now) budget listener.old listener.new }
+    ensures told { IsWatched (LiftsInput command.now (R.remaining input.old) (R.remaining input.new)) (refusal_in result) (W.tells watch.now) (W.pace watch.now) budget listener.old listener.new }
 {
     match command {
         Command::Solve { player, from } => {

@@ -1,8 +1,15 @@
 -- What a listener is told of runs of solvers while they last.
-use Rattle.std.specs.Prelude.{◌≡◌, ◌⊎◌, ℕ, zero, suc, ◌+◌, ◌*◌, ◌^◌, ◌≤◌, List, [], ◌∷◌, min}
+use Rattle.std.specs.Prelude.{◌≡◌, ◌≢◌, ◌⊎◌, ◌↔◌, ℕ, zero, suc, ◌+◌, ◌*◌, ◌^◌, ◌<◌, ◌≤◌, List, [], ◌∷◌, length, min, take, Option, None, Some, Result, Ok, Err}
+use Rattle.omega_text.specs.declared.refusal.Refusal.{Refusal}
+use Rattle.omega_text.specs.declared.refusal.Refusal.TheVariants.{Task}
+use Rattle.omega_text.specs.declared.refusal.task.TaskFault.TheVariants.{Budget}
 use Rattle.omega_game.specs.declared.player.Player.{Player}
 use Rattle.omega_game.specs.Bound.{bound_of}
 use Rattle.omega_game.specs.Game.{Node, priorities}
+use Rattle.omega_solve.specs.declared.outcome.Outcome.{Outcome}
+use Rattle.omega_solve.specs.declared.outcome.Outcome.TheVariants.{Spent}
+use Rattle.omega_solve.specs.Solver.{State}
+use Rattle.omega_watch.specs.Lifting.{HasLifted}
 use Rattle.omega_watch.specs.declared.watching.Progress.{Progress}
 
 -- how many lifts the program makes from one report to the next
@@ -26,27 +33,52 @@ pub record IsTold {L : Type 0} (tells : Progress → L → L → Type 0) (player
   pub each : lifts ≤ times * every + every
   pub told : TellsEach tells player every most times before after
 
--- the most lifts of a run: the bound of the game for the player or, if it is less, the budget
+-- the most lifts of a run: the bound of the game or, if it is less, the budget
 abbrev pub most_of : List Node → Player → ℕ → ℕ
 most_of nodes player budget = min (bound_of player (priorities nodes)) budget
 
--- a listener was told of a run for the player within the budget
-pub record TellsRun {L : Type 0} (tells : Progress → L → L → Type 0) (every : ℕ) (nodes : List Node) (player : Player) (budget : ℕ) (before after : L)
+-- what refused it, if anything did
+abbrev pub refusal_in : {A : Type 0} → Result A Refusal → Option Refusal
+refusal_in (Ok answer) = None
+refusal_in (Err refusal) = Some refusal
+
+-- the budget refused it
+abbrev pub IsSpent : Option Refusal → Type 0
+IsSpent refusal = refusal ≡ Some (Task Budget)
+
+-- a run for the player within the budget, which ended with a lift due where the budget refused it and with none due else; a listener was told of all its lifts
+pub record TellsRun {L : Type 0} (tells : Progress → L → L → Type 0) (every : ℕ) (nodes : List Node) (player : Player) (budget : ℕ) (refusal : Option Refusal) (before after : L)
     : Type 0 where
-  pub lifts : ℕ
-  pub within : lifts ≤ most_of nodes player budget
-  pub told : IsTold tells player every (most_of nodes player budget) lifts before after
+  pub outcome : Outcome
+  pub state : State
+  pub lifted : HasLifted nodes player budget outcome state
+  pub ended : (outcome ≡ Spent) ↔ IsSpent refusal
+  pub told : IsTold tells player every (most_of nodes player budget) state.lifts before after
 
--- a listener was told of runs for these players, one after another
-abbrev pub TellsRuns : {L : Type 0} → (Progress → L → L → Type 0) → (every : ℕ) → List Node → List Player → (budget : ℕ) → L → L → Type 0
-TellsRuns tells every nodes [] budget before after = after ≡ before
-TellsRuns {L} tells every nodes (player ∷ players) budget before after =
-    (between : L) × TellsRun tells every nodes player budget before between × TellsRuns tells every nodes players budget between after
+-- a listener was told of runs for these players, one after another, each of which but the last ended with no lift due
+abbrev pub TellsRuns : {L : Type 0} → (Progress → L → L → Type 0) → (every : ℕ) → List Node → List Player → (budget : ℕ) → Option Refusal → L → L → Type 0
+TellsRuns tells every nodes [] budget refusal before after = after ≡ before
+TellsRuns tells every nodes (player ∷ []) budget refusal before after = TellsRun tells every nodes player budget refusal before after
+TellsRuns {L} tells every nodes (player ∷ other ∷ players) budget refusal before after =
+    (between : L) × TellsRun tells every nodes player budget None before between
+    × TellsRuns tells every nodes (other ∷ players) budget refusal between after
 
--- a listener was told of the runs for these players in a game, of which this holds; of nothing where there was none
-pub record IsWatched {L : Type 0} (Runs : List Node → List Player → Type 0) (tells : Progress → L → L → Type 0) (every budget : ℕ) (before after : L)
+-- of the runs for all these players those for some were made: for all where nothing is refused, and for at least one where the budget refuses it
+pub record AreMade (all : List Player) (refusal : Option Refusal) (players : List Player) : Type 0 where
+  pub first : (count : ℕ) × (players ≡ take count all)
+  pub whole : refusal ≡ None → players ≡ all
+  pub some : IsSpent refusal → 0 < length players
+
+-- no run was made, since it was refused before, and not for the budget
+pub record IsUntried (refusal : Option Refusal) (players : List Player) : Type 0 where
+  pub none : players ≡ []
+  pub refused : refusal ≢ None
+  pub before : IsSpent refusal → ⊥
+
+-- a listener was told of the runs for these players in a game, of which this holds; of nothing where it was refused before
+pub record IsWatched {L : Type 0} (Runs : Option Refusal → List Node → List Player → Type 0) (refusal : Option Refusal) (tells : Progress → L → L → Type 0) (every budget : ℕ) (before after : L)
     : Type 0 where
   pub nodes : List Node
   pub players : List Player
-  pub runs : (players ≡ []) ⊎ Runs nodes players
-  pub told : TellsRuns tells every nodes players budget before after
+  pub runs : IsUntried refusal players ⊎ Runs refusal nodes players
+  pub told : TellsRuns tells every nodes players budget refusal before after

@@ -1,6 +1,6 @@
 //! Solving within a budget that is dealt out in slices, so that it can be told how far a run has come.
 ghost use Rattle.std.specs.Prelude.{◌≡◌, ℕ, ◌<◌, ◌≤◌, IfOk, IfErr};
-ghost use Rattle.omega_watch.specs.Watching.{IsTold, TellsRun, lifts_between_reports, most_of};
+ghost use Rattle.omega_watch.specs.Watching.{IsTold, TellsRun, lifts_between_reports, most_of, refusal_in};
 ghost use Rattle.omega_watch.specs.Lifting.{HasLifted};
 ghost use Rattle.omega_solve.specs.Limits.{most_lifts};
 ghost use Rattle.omega_solve.specs.Solver.{start_of};
@@ -73,7 +73,8 @@ pub fn found_watched<T: MeasureTable, S: Schedule, L, W: Watch<L>>(
     requires budget { budget ≤ most_lifts }
     ensures found { IfOk result (IsFound game.now player budget) }
     ensures refused { IfErr result (IsBudgetRefusal game.now player budget) }
-    ensures told { TellsRun (W.tells watch.now) (W.pace watch.now) game.now player budget listener.old listener.new }
+    ensures told { TellsRun (W.tells watch.now) (W.pace watch.now) game.now player budget (refusal_in result) listener.old listener.new }
+    ensures counted { IfOk result (λ found. IsTold (W.tells watch.now) player (W.pace watch.now) (most_of game.now player budget) found.lifts listener.old listener.new) }
 {
     let most = most_lifts_of(game, player, budget);
     match run_watched(&mut solver, game, player, most, budget, watch, listener) {

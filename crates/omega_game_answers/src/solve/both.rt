@@ -6,7 +6,7 @@ ghost use Rattle.omega_game_answers.specs.solve.Solution.{IsRight, IsSolutionOf}
 ghost use Rattle.omega_game_answers.specs.steps.GameRefusal.{IsGameRefusal};
 ghost use Rattle.omega_game_answers.specs.steps.Winners.{winners_of};
 ghost use Rattle.omega_game_answers.specs.Watching.{LiftsGame};
-ghost use Rattle.omega_watch.specs.Watching.{IsWatched};
+ghost use Rattle.omega_watch.specs.Watching.{IsWatched, refusal_in};
 
 use omega_game::{Game, Player, Refusal, Seq, Strategy};
 use omega_pg::{Solution, write_solution};
@@ -26,7 +26,7 @@ pub fn solve_both<T: MeasureTable, S: Schedule, L, W: Watch<L>>(
     requires { budget ≤ most_lifts }
     ensures answer { IfOk result (λ output. IsSolutionOf game.now budget output.items) }
     ensures refused { IfErr result (IsGameRefusal game.now Both None budget) }
-    ensures told { IsWatched (LiftsGame game.now Both) (W.tells watch.now) (W.pace watch.now) budget listener.old listener.new }
+    ensures told { IsWatched (LiftsGame game.now Both) (refusal_in result) (W.tells watch.now) (W.pace watch.now) budget listener.old listener.new }
 {
     let solution = solution_of::<T, S, L, W>(alloc, game, budget, watch, listener)?;
     write_solution(alloc, game, &solution)
@@ -44,7 +44,7 @@ pub fn solution_of<T: MeasureTable, S: Schedule, L, W: Watch<L>>(
     requires { budget ≤ most_lifts }
     ensures right { IfOk result (IsRight game.now budget) }
     ensures refused { IfErr result (IsGameRefusal game.now Both None budget) }
-    ensures told { IsWatched (LiftsGame game.now Both) (W.tells watch.now) (W.pace watch.now) budget listener.old listener.new }
+    ensures told { IsWatched (LiftsGame game.now Both) (refusal_in result) (W.tells watch.now) (W.pace watch.now) budget listener.old listener.new }
 {
     regions_are_apart();
     regions_cover();

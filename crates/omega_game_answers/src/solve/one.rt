@@ -4,7 +4,7 @@ ghost use Rattle.omega_solve.specs.Limits.{most_lifts};
 ghost use Rattle.omega_game_answers.specs.solve.AnswerText.{IsAnswerOf};
 ghost use Rattle.omega_game_answers.specs.steps.GameRefusal.{IsGameRefusal};
 ghost use Rattle.omega_game_answers.specs.Watching.{LiftsGame};
-ghost use Rattle.omega_watch.specs.Watching.{IsWatched};
+ghost use Rattle.omega_watch.specs.Watching.{IsWatched, refusal_in};
 
 use super::answer_text::write_answer;
 use omega_game::{Game, Player, Refusal};
@@ -24,7 +24,7 @@ pub fn solve_one<T: MeasureTable, S: Schedule, L, W: Watch<L>>(
     requires { budget ≤ most_lifts }
     ensures answer { IfOk result (λ output. IsAnswerOf game.now player budget output.items) }
     ensures refused { IfErr result (IsGameRefusal game.now (way.Player player) None budget) }
-    ensures told { IsWatched (LiftsGame game.now (way.Player player)) (W.tells watch.now) (W.pace watch.now) budget listener.old listener.new }
+    ensures told { IsWatched (LiftsGame game.now (way.Player player)) (refusal_in result) (W.tells watch.now) (W.pace watch.now) budget listener.old listener.new }
 {
     let solver: Solver<'_, T, S> = Solver::prepare(alloc, game, player)?;
     let found = found_watched(alloc, solver, game, player, budget, watch, listener)?;

@@ -4,7 +4,7 @@ ghost use Rattle.omega_game_answers.specs.declared.solve.asked.Asked.TheVariants
 ghost use Rattle.omega_game_answers.specs.solve.Solution.{IsExact, IsExactSolutionOf};
 ghost use Rattle.omega_game_answers.specs.steps.GameRefusal.{IsGameRefusal};
 ghost use Rattle.omega_game_answers.specs.Watching.{LiftsGame};
-ghost use Rattle.omega_watch.specs.Watching.{IsWatched};
+ghost use Rattle.omega_watch.specs.Watching.{IsWatched, refusal_in};
 
 use super::both::solution_of;
 use omega_game::{Game, Refusal};
@@ -26,7 +26,7 @@ pub fn solve_by_judged_search<T: MeasureTable, S: Schedule, L, W: Watch<L>>(
     requires { budget ≤ most_lifts }
     ensures answer { IfOk result (λ output. IsExactSolutionOf game.now output.items) }
     ensures refused { IfErr result (IsGameRefusal game.now Search None budget) }
-    ensures told { IsWatched (LiftsGame game.now Search) (W.tells watch.now) (W.pace watch.now) budget listener.old listener.new }
+    ensures told { IsWatched (LiftsGame game.now Search) (refusal_in result) (W.tells watch.now) (W.pace watch.now) budget listener.old listener.new }
 {
     let solution = searched_solution::<T, S, L, W>(alloc, game, budget, watch, listener)?;
     write_solution(alloc, game, &solution)
@@ -43,7 +43,7 @@ fn searched_solution<T: MeasureTable, S: Schedule, L, W: Watch<L>>(
     requires { budget ≤ most_lifts }
     ensures exact { IfOk result (IsExact game.now) }
     ensures refused { IfErr result (IsGameRefusal game.now Search None budget) }
-    ensures told { IsWatched (LiftsGame game.now Search) (W.tells watch.now) (W.pace watch.now) budget listener.old listener.new }
+    ensures told { IsWatched (LiftsGame game.now Search) (refusal_in result) (W.tells watch.now) (W.pace watch.now) budget listener.old listener.new }
 {
     match solve_by_search(alloc, game)? {
         Some(regions) => Ok(Solution {

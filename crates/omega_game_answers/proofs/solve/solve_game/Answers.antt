@@ -1,22 +1,26 @@
 -- `solve_game`: the text for the whole game is refused as it is, and what is told is told of runs in the game of the text,
 -- or in its part.
 use Rattle.std.proofs.Common.{rules}
-use Rattle.omega_watch.proofs.Watched.{none_watched, watched_as}
+use Rattle.omega_pg.specs.game.Refusing.{IsReadRefusal}
+use Rattle.omega_game_answers.proofs.Watching.{read_spares}
+use Rattle.omega_watch.proofs.Watched.{none_watched, spares, watched_alike, watched_as}
 use Rattle.omega_game_answers.proofs.solve.solve_game.Goals as goal
 
 pub returns-in-None-clause-refused : goal.returns-in-None-clause-refused
 returns-in-None-clause-refused g c = search rules
 
 pub returns-in_err-game-clause-told : goal.returns-in_err-game-clause-told
-returns-in_err-game-clause-told g c = none_watched _ _ _ _ _
+returns-in_err-game-clause-told g c =
+    watched_alike _ _ _ _ c.from_residual.result _ c.in_err-game.field-0.0 _ _ c.from_residual.ensures.1 (λ e same. same)
+    (none_watched _ _ _ _ _ _ (spares (IsReadRefusal c.args.text.items) _ c.in_err-game.ensures.refused (read_spares c.args.text.items)))
 
 pub returns-in-None-clause-told : goal.returns-in-None-clause-told
 returns-in-None-clause-told g c =
     let read = c.in_ok-game.ensures.game in
-    rw c.in-None.is (watched_as _ _ _ _ _ _ _ (λ nodes players lifted. (rw lifted.0 read, lifted.1)) c.solve_whole.ensures.told)
+    rw c.in-None.is (watched_as _ _ _ _ _ _ _ _ (λ nodes players lifted. (rw lifted.0 read, lifted.1)) c.solve_whole.ensures.told)
 
 pub returns-in-Some-clause-told : goal.returns-in-Some-clause-told
 returns-in-Some-clause-told g c =
-    rw c.in-Some.is (watched_as _ _ _ _ _ _ _
+    rw c.in-Some.is (watched_as _ _ _ _ _ _ _ _
     (λ nodes players lifted. (record { game = c.in_ok-game.game; read = c.in_ok-game.ensures.game; part_of = lifted.0 }, lifted.1))
     c.solve_part.ensures.told)

@@ -3,7 +3,8 @@ use Rattle.std.proofs.Common.{Some, rules}
 use Rattle.std.proofs.lemmas.Result.{IfErr-weaker, IfOk-weaker}
 use Rattle.omega_game_answers.specs.steps.GameRefusal.{IsGameRefusal}
 use Rattle.omega_game_answers.proofs.Solving.{refused-part, refused-unknown}
-use Rattle.omega_watch.proofs.Watched.{none_watched, watched_as}
+use Rattle.omega_game_answers.specs.steps.PartRefusal.{IsPartRefusal}
+use Rattle.omega_watch.proofs.Watched.{none_watched, spares, watched_alike, watched_as}
 use Rattle.omega_game_answers.proofs.solve.solve_part.Goals as goal
 
 pub returns-in_err-part-clause-refused : goal.returns-in_err-part-clause-refused
@@ -36,9 +37,11 @@ returns-clause-refused g c =
     c.solve_whole.ensures.refused
 
 pub returns-in_err-part-clause-told : goal.returns-in_err-part-clause-told
-returns-in_err-part-clause-told g c = none_watched _ _ _ _ _
+returns-in_err-part-clause-told g c =
+    watched_alike _ _ _ _ c.from_residual.result _ c.in_err-part.field-0.0 _ _ c.from_residual.ensures.1 (λ e same. same)
+    (none_watched _ _ _ _ _ _ (spares (IsPartRefusal c.args.game c.args.identifier) _ c.in_err-part.ensures.refused (λ no. (let e = no.0 in cc))))
 
 pub returns-clause-told : goal.returns-clause-told
 returns-clause-told g c =
     let part_of = c.in_ok-part.ensures.part in
-    watched_as _ _ _ _ _ _ _ (λ nodes players lifted. (rw lifted.0 part_of, lifted.1)) c.solve_whole.ensures.told
+    watched_as _ _ _ _ _ _ _ _ (λ nodes players lifted. (rw lifted.0 part_of, lifted.1)) c.solve_whole.ensures.told

@@ -1,12 +1,15 @@
 -- `solution_of`: what was found for both players is a right solution, and what was refused is a fault of the game.
-use Rattle.std.proofs.Common.{None, refl, ap, ◌∙◌, rules}
+use Rattle.std.proofs.Common.{◌≡◌, None, refl, ap, ◌∙◌, rules}
 use Rattle.omega_game.specs.declared.player.Player.TheVariants.{One, Zero}
 use Rattle.omega_game_answers.specs.declared.solve.asked.Asked.TheVariants.{Both}
 use Rattle.omega_game_answers.specs.steps.GameRefusal.{IsGameRefusal}
 use Rattle.omega_game_answers.specs.steps.Winners.{winners_of}
 use Rattle.omega_game_answers.proofs.Solving.{refused-budget}
 use Rattle.omega_game_answers.proofs.Solutions.{by_player, right_solution}
-use Rattle.omega_watch.proofs.Watched.{none_watched, one_watched, two_watched}
+use Rattle.omega_game.specs.Game.{priorities}
+use Rattle.omega_measure.specs.Table.{IsPrepareRefusal}
+use Rattle.omega_text.specs.declared.refusal.Refusal.TheVariants.{Memory}
+use Rattle.omega_watch.proofs.Watched.{first_made, none_watched, one_watched, run_refused, spares, two_made, two_watched, watched_alike}
 use Rattle.omega_game_answers.proofs.solve.both.solution_of.Goals as goal
 
 pub returns-in_err-zero-clause-refused : goal.returns-in_err-zero-clause-refused
@@ -31,23 +34,40 @@ returns-clause-right g c =
     c.from_vec-3.ensures c.regions_are_apart.ensures c.regions_cover.ensures
 
 pub returns-in_err-for_zero-clause-told : goal.returns-in_err-for_zero-clause-told
-returns-in_err-for_zero-clause-told g c = none_watched _ _ _ _ _
+returns-in_err-for_zero-clause-told g c =
+    watched_alike _ _ _ _ c.from_residual.result _ c.in_err-for_zero.field-0.0 _ _ c.from_residual.ensures.1 (λ e same. same)
+    (none_watched _ _ _ _ _ _ (spares (IsPrepareRefusal Zero (priorities c.args.game.now)) _ c.in_err-for_zero.ensures.refused
+    (λ no. (let e = no.0 in cc))))
 
 pub returns-in_err-for_one-clause-told : goal.returns-in_err-for_one-clause-told
-returns-in_err-for_one-clause-told g c = none_watched _ _ _ _ _
+returns-in_err-for_one-clause-told g c =
+    watched_alike _ _ _ _ c.from_residual-in_err-for_one.result _ c.in_err-for_one.field-0.0 _ _ c.from_residual-in_err-for_one.ensures.1
+    (λ e same. same)
+    (none_watched _ _ _ _ _ _ (spares (IsPrepareRefusal One (priorities c.args.game.now)) _ c.in_err-for_one.ensures.refused
+    (λ no. (let e = no.0 in cc))))
 
 pub returns-in_err-zero-clause-told : goal.returns-in_err-zero-clause-told
 returns-in_err-zero-clause-told g c =
-    one_watched _ _ _ c.args.game.now Zero c.args.budget _ _ (refl, (1, refl)) c.found_watched.ensures.told
+    watched_alike _ _ _ _ c.from_residual-in_err-zero.result _ c.in_err-zero.field-0.0 _ _ c.from_residual-in_err-zero.ensures.1 (λ e same. same)
+    (one_watched _ _ _ c.args.game.now Zero c.args.budget _ _ _ (refl, first_made Zero One _)
+    (rw c.in_err-zero.was at c.found_watched.ensures.told))
 
 pub returns-in_err-one-clause-told : goal.returns-in_err-one-clause-told
 returns-in_err-one-clause-told g c =
-    two_watched _ _ _ c.args.game.now Zero One c.args.budget _ _ _ (refl, (2, refl)) c.found_watched.ensures.told c.found_watched-2.ensures.told
+    watched_alike _ _ _ _ c.from_residual-in_err-one.result _ c.in_err-one.field-0.0 _ _ c.from_residual-in_err-one.ensures.1 (λ e same. same)
+    (two_watched _ _ _ c.args.game.now Zero One c.args.budget _ _ _ _ (refl, two_made Zero One _)
+    (rw c.in_ok-zero.was at c.found_watched.ensures.told) (rw c.in_err-one.was at c.found_watched-2.ensures.told))
 
 pub returns-in_err-winners-clause-told : goal.returns-in_err-winners-clause-told
 returns-in_err-winners-clause-told g c =
-    two_watched _ _ _ c.args.game.now Zero One c.args.budget _ _ _ (refl, (2, refl)) c.found_watched.ensures.told c.found_watched-2.ensures.told
+    watched_alike _ _ _ _ c.from_residual-in_err-winners.result _ c.in_err-winners.field-0.0 _ _ c.from_residual-in_err-winners.ensures.1
+    (λ e same. same)
+    (two_watched _ _ _ c.args.game.now Zero One c.args.budget _ _ _ _ (refl, two_made Zero One _)
+    (rw c.in_ok-zero.was at c.found_watched.ensures.told)
+    (run_refused _ _ _ _ _ _ _ _ (spares (λ refusal. refusal ≡ Memory) _ c.in_err-winners.ensures.memory (λ e. cc))
+    (rw c.in_ok-one.was at c.found_watched-2.ensures.told)))
 
 pub returns-clause-told : goal.returns-clause-told
 returns-clause-told g c =
-    two_watched _ _ _ c.args.game.now Zero One c.args.budget _ _ _ (refl, (2, refl)) c.found_watched.ensures.told c.found_watched-2.ensures.told
+    two_watched _ _ _ c.args.game.now Zero One c.args.budget _ _ _ _ (refl, two_made Zero One None)
+    (rw c.in_ok-zero.was at c.found_watched.ensures.told) (rw c.in_ok-one.was at c.found_watched-2.ensures.told)
