@@ -30,7 +30,7 @@ pub fn tell_stream<T: ItemText, R: Input>(alloc: Global, input: &mut R) -> Resul
         if count == 0 {
             return end::<T>(telling);
         }
-        take_piece::<T>(alloc, &mut telling, &piece[..count])?;
+        take_piece::<T>(&mut telling, &piece[..count])?;
         total += count;
     }
     Err(Refusal::Text(TextFault::TooLong))

@@ -17,6 +17,8 @@ pub(crate) struct Telling {
     /// How many items were told of.
     pub(crate) count: usize,
     pub(crate) told: Vec<u8>,
+    /// Room for the items of a piece: those of the last one stand in it.
+    items: Vec<Item>,
 }
 
 /// Before the first byte.
@@ -27,26 +29,27 @@ pub(crate) fn begin<T: ItemText>(alloc: Global) -> Telling
         stream: Stream::new(alloc),
         count: 0,
         told: Vec::new(alloc),
+        items: Vec::new(alloc),
     }
 }
 
 /// Takes the next piece, and tells of the items of the segments that end in it. Of a piece that is refused, and of those
 /// behind it, nothing is told: the stream keeps its refusal. 60 alone.
-pub(crate) fn take_piece<T: ItemText>(
-    alloc: Global,
-    telling: &mut Telling,
-    piece: &[u8],
-) -> Result<(), Refusal>
+pub(crate) fn take_piece<T: ItemText>(telling: &mut Telling, piece: &[u8]) -> Result<(), Refusal>
     requires { FollowsSome T.text telling.old }
     ensures follows { OnOk result ((seen : List ℕ) → length seen + length piece.now ≤ most_text → Follows T.text seen telling.old → Follows T.text (seen ++ piece.now) telling.new) }
     ensures memory { IsOkUnless result Memory }
 {
     HoaKind::goes_on_one_way();
-    let mut items = Vec::new(alloc);
-    match telling.stream.feed(piece, &mut items) {
+    telling.items.clear();
+    match telling.stream.feed(piece, &mut telling.items) {
         Ok(()) => {
-            append_items::<T>(telling.count, items.as_slice(), &mut telling.told)?;
-            telling.count += items.len();
+            append_items::<T>(
+                telling.count,
+                telling.items.as_slice(),
+                &mut telling.told,
+            )?;
+            telling.count += telling.items.len();
             Ok(())
         }
         Err(refusal) => match refusal {
@@ -77,6 +80,7 @@ pub(crate) fn end<T: ItemText>(telling: Telling) -> Result<Vec<u8>, Refusal>
         stream,
         count: _,
         told,
+        items: _,
     } = telling;
     stream.finish()?;
     Ok(told)

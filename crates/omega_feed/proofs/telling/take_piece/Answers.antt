@@ -15,7 +15,7 @@ append_items-requires g c =
     let given = c.feed.new.out.items in
     let within : c.args.telling.now.count + length given ≤ most_text =
     count_within g.T.ItemText.text c.requires.0 kept c.args.telling.now.count c.args.telling.now.told.items c.requires.1 c.args.piece.now
-    c.new-items.result.items given c.feed.new.self c.new-items.ensures.items c.goes_on_one_way.ensures none said.ok
+    c.clear.new.self.items given c.feed.new.self c.clear.ensures.items c.goes_on_one_way.ensures none said.ok
     (λ items fed. said.taken none fits (ok_no_error c.in-Ok.field-0 Memory) c.requires.0 items fed) in
     omega (arith, within, ap length c.as_slice.ensures.value)
 
@@ -28,13 +28,13 @@ overflow_add-telling g c =
     let given = c.feed.new.out.items in
     let within : c.args.telling.now.count + length given ≤ most_text =
     count_within g.T.ItemText.text c.requires.0 kept c.args.telling.now.count c.args.telling.now.told.items c.requires.1 c.args.piece.now
-    c.new-items.result.items given c.feed.new.self c.new-items.ensures.items c.goes_on_one_way.ensures none said.ok
+    c.clear.new.self.items given c.feed.new.self c.clear.ensures.items c.goes_on_one_way.ensures none said.ok
     (λ items fed. said.taken none fits (ok_no_error c.in-Ok.field-0 Memory) c.requires.0 items fed) in
     let count : c.len.result ≡ length given = c.len.ensures ∙ c.feed.new.out.ok.0 in
     omega (arith, within, count)
 
-pub returns-in-Ok-clause-follows : goal.returns-in-Ok-clause-follows
-returns-in-Ok-clause-follows g c = λ seen short follows.
+pub returns-in_ok-append_items-in-Ok-clause-follows : goal.returns-in_ok-append_items-in-Ok-clause-follows
+returns-in_ok-append_items-in-Ok-clause-follows g c = λ seen short follows.
     let kept : Kept = c.args.telling.now.stream in
     let said = c.in-Ok.ensures in
     let none : kept.refused ≡ None = unrefused kept.refused c.in-Ok.field-0 _ (λ refusal says. says.0) said.refused_before in
@@ -44,17 +44,20 @@ returns-in-Ok-clause-follows g c = λ seen short follows.
     let more = c.in_ok-append_items-in-Ok.ensures.told in
     rw count
     (follows_taken g.T.ItemText.text seen kept c.args.telling.now.count c.args.telling.now.told.items follows c.args.piece.now
-    c.new-items.result.items given c.feed.new.self c.new-items.ensures.items c.append_items.new.out.items none said.ok
+    c.clear.new.self.items given c.feed.new.self c.clear.ensures.items c.append_items.new.out.items none said.ok
     (λ items fed. said.taken none fits (ok_no_error c.in-Ok.field-0 Memory) seen items fed)
     (rw (← c.as_slice.ensures.value) more))
 
-pub returns-clause-follows : goal.returns-clause-follows
-returns-clause-follows g c = λ seen short follows.
+pub returns-in_default : goal.returns-in_default
+returns-in_default g c = record {
+  follows = λ seen short follows.
     let kept : Kept = c.args.telling.now.stream in
     let said = c.in-Err.ensures in
     let refusal = c.in-Err.refusal in
     follows_refused g.T.ItemText.text seen kept c.args.telling.now.count c.args.telling.now.told.items follows c.args.piece.now
-    c.new-items.result.items c.feed.new.out.items c.feed.new.self c.new-items.ensures.items c.args.telling.now.count c.args.telling.now.told.items refusal
+    c.clear.new.self.items c.feed.new.out.items c.feed.new.self c.clear.ensures.items c.args.telling.now.count c.args.telling.now.told.items refusal
     (kept_refusal c.feed.new.self.refused refusal c.in_default.not-Memory said.kept) c.in_default.not-Memory
     (λ none items fed. said.refused none (piece_fits g.T.ItemText.text seen kept c.args.telling.now.count c.args.telling.now.told.items follows none (length c.args.piece.now) short) seen items fed)
-    (same_as_before kept.refused refusal _ (λ before says. says.0) said.refused_before)
+    (same_as_before kept.refused refusal _ (λ before says. says.0) said.refused_before);
+  memory = tt;
+}
