@@ -13,6 +13,7 @@ pub mod Powers
 pub mod Repeats
 pub mod RisingLemmas
 pub mod Said
+pub mod ShortLemmas
 pub mod SoundLemmas
 pub mod Uniqueness
 pub mod Zipped

@@ -1,6 +1,7 @@
 -- How automata lie in memory: cited by private contracts alone.
 pub mod Automaton
 pub mod Body
+pub mod Edges
 pub mod Findings
 pub mod Gathered
 pub mod Order

@@ -3,6 +3,8 @@
 
 mod automaton;
 mod edge;
+mod edge_ref;
+mod edges;
 mod header;
 mod judging;
 mod laws;
@@ -13,6 +15,8 @@ mod tool;
 
 pub use automaton::Automaton;
 pub use edge::Edge;
+pub use edge_ref::EdgeRef;
+pub use edges::Edges;
 pub use header::Header;
 pub use laws::{
     faults_are_least, meanings_are_automata, meanings_are_one, meanings_are_there,

@@ -1,4 +1,4 @@
-use crate::edge::Edge;
+use crate::edges::Edges;
 use omega_acc::Label;
 use omega_text::{Numbers, Seq};
 
@@ -14,5 +14,5 @@ pub struct State {
     /// The sets that each of its edges is in, rising, each once.
     pub marks: Numbers,
     /// The edges in the order written.
-    pub edges: Seq<Edge>,
+    pub edges: Edges,
 }

@@ -2,6 +2,7 @@
 
 ghost use Rattle.std.specs.Prelude.{◌≡◌, ◌+◌, ◌^◌, ◌≤◌, ◌<◌, ◌++◌, IfSome, IsOkUnless, OnOk, length};
 ghost use Rattle.std.specs.List.{flat_map};
+ghost use Rattle.std.specs.Option.{option_copied};
 ghost use Rattle.omega_automaton.specs.Automaton.{IsEdge, IsLabel, IsState, edge_count, edges_from, edges_of};
 ghost use Rattle.omega_automaton_drawing.specs.AutomatonDrawing.{arrow_line, attributes_part, body_edge, branch_arrow, branch_name, branch_point, branch_text, edge_label_line, edge_text, style_part, tail_part};
 ghost use Rattle.omega_dot.specs.Numbered.{numbered};
@@ -11,7 +12,7 @@ use crate::naming::write_named;
 use crate::role::{Role, role_at};
 use crate::states::write_marks;
 use omega_acc::Label;
-use omega_automaton::{Automaton, Edge, State};
+use omega_automaton::{Automaton, EdgeRef, State};
 use omega_text::{Refusal, write_number};
 
 /// Appends all edges, each with its role.
@@ -48,9 +49,10 @@ fn write_edges_of(
     ensures memory { IsOkUnless result Refusal.Memory }
 {
     let mut next = number;
-    for edge in state.edges.as_slice() {
+    for at in 0..state.edges.len() {
+        let edge = state.edges.edge(at);
         let role = role_at(roles, next);
-        write_edge(automaton, state.number, edge, next, role, out)?;
+        write_edge(automaton, state.number, &edge, next, role, out)?;
         next += 1;
     }
     Ok(())
@@ -60,7 +62,7 @@ fn write_edges_of(
 fn write_edge(
     automaton: &Automaton,
     state: u32,
-    edge: &Edge,
+    edge: &EdgeRef<'_>,
     number: usize,
     role: Role,
     out: &mut Vec<u8>,
@@ -69,7 +71,7 @@ fn write_edge(
     ensures ok { OnOk result (out.new.items ≡ out.old.items ++ edge_text automaton.now.propositions number role state edge.now) }
     ensures memory { IsOkUnless result Refusal.Memory }
 {
-    if edge.targets.len() == 1 {
+    if edge.targets().len() == 1 {
         write_arrow(automaton, state, edge, role, out)
     } else {
         write_branch(automaton, state, edge, number, role, out)
@@ -80,7 +82,7 @@ fn write_edge(
 fn write_arrow(
     automaton: &Automaton,
     state: u32,
-    edge: &Edge,
+    edge: &EdgeRef<'_>,
     role: Role,
     out: &mut Vec<u8>,
 ) -> Result<(), Refusal>
@@ -90,7 +92,7 @@ fn write_arrow(
     ensures memory { IsOkUnless result Refusal.Memory }
 {
     write_tail(state, out)?;
-    write_number(u128::from(edge.targets.as_slice()[0]), out)?;
+    write_number(u128::from(edge.targets()[0]), out)?;
     write_attributes(automaton, edge, role, out)?;
     out.extend_from_slice(b"];\n")?;
     Ok(())
@@ -100,7 +102,7 @@ fn write_arrow(
 fn write_branch(
     automaton: &Automaton,
     state: u32,
-    edge: &Edge,
+    edge: &EdgeRef<'_>,
     number: usize,
     role: Role,
     out: &mut Vec<u8>,
@@ -114,7 +116,7 @@ fn write_branch(
     write_attributes(automaton, edge, role, out)?;
     out.extend_from_slice(b", arrowhead=none];\n")?;
     write_branch_point(number, out)?;
-    write_branch_arrows(number, role, edge.targets.as_slice(), out)?;
+    write_branch_arrows(number, role, edge.targets(), out)?;
     Ok(())
 }
 
@@ -132,7 +134,7 @@ fn write_tail(state: u32, out: &mut Vec<u8>) -> Result<(), Refusal>
 /// Appends the label of an edge and its style.
 fn write_attributes(
     automaton: &Automaton,
-    edge: &Edge,
+    edge: &EdgeRef<'_>,
     role: Role,
     out: &mut Vec<u8>,
 ) -> Result<(), Refusal>
@@ -141,8 +143,8 @@ fn write_attributes(
     ensures memory { IsOkUnless result Refusal.Memory }
 {
     out.extend_from_slice(b" [label=\"")?;
-    write_edge_label(automaton, &edge.label, out)?;
-    write_marks(edge.marks.as_slice(), out)?;
+    write_edge_label(automaton, edge.label(), out)?;
+    write_marks(edge.marks(), out)?;
     out.push(b'"')?;
     write_style(role, out)
 }
@@ -150,11 +152,11 @@ fn write_attributes(
 /// Appends the line of an edge's label, if it has one.
 fn write_edge_label(
     automaton: &Automaton,
-    label: &Option<Label>,
+    label: Option<&Label>,
     out: &mut Vec<u8>,
 ) -> Result<(), Refusal>
-    requires { IfSome label.now (IsLabel automaton.now) }
-    ensures ok { OnOk result (out.new.items ≡ out.old.items ++ edge_label_line automaton.now.propositions label.now) }
+    requires { IfSome (option_copied label) (IsLabel automaton.now) }
+    ensures ok { OnOk result (out.new.items ≡ out.old.items ++ edge_label_line automaton.now.propositions (option_copied label.entry)) }
     ensures memory { IsOkUnless result Refusal.Memory }
 {
     automaton.keeps_limits();

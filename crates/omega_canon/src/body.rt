@@ -5,7 +5,7 @@ ghost use Rattle.std.specs.List.{flat_map};
 ghost use Rattle.omega_canon.specs.BodyText.{body_text, edge_line, state_line, state_text};
 
 use crate::parts::{write_label_part, write_marks, write_numbers, write_string_part};
-use omega_automaton::{Edge, State};
+use omega_automaton::{EdgeRef, Edges, State};
 use omega_text::{Refusal, Seq, write_number};
 
 /// Appends `--BODY--`, the states that are defined, and `--END--`.
@@ -26,7 +26,7 @@ fn write_states(states: &[State], out: &mut Vec<u8>) -> Result<(), Refusal>
 {
     for state in states {
         write_state(state, out)?;
-        write_edges(state.edges.as_slice(), out)?;
+        write_edges(&state.edges, out)?;
     }
     Ok(())
 }
@@ -37,7 +37,7 @@ fn write_state(state: &State, out: &mut Vec<u8>) -> Result<(), Refusal>
     ensures memory { IsOkUnless result Refusal.Memory }
 {
     out.extend_from_slice(b"State: ")?;
-    write_label_part(&state.label, out)?;
+    write_label_part(state.label.as_ref(), out)?;
     write_number(u128::from(state.number), out)?;
     write_string_part(state.name.as_ref().map(Seq::as_slice), out)?;
     write_marks(state.marks.as_slice(), out)?;
@@ -46,24 +46,24 @@ fn write_state(state: &State, out: &mut Vec<u8>) -> Result<(), Refusal>
 }
 
 /// Appends edges, each a line.
-fn write_edges(edges: &[Edge], out: &mut Vec<u8>) -> Result<(), Refusal>
+fn write_edges(edges: &Edges, out: &mut Vec<u8>) -> Result<(), Refusal>
     ensures ok { OnOk result (out.new.items ≡ out.old.items ++ flat_map edge_line edges.now) }
     ensures memory { IsOkUnless result Refusal.Memory }
 {
-    for edge in edges {
-        write_edge(edge, out)?;
+    for at in 0..edges.len() {
+        write_edge(&edges.edge(at), out)?;
     }
     Ok(())
 }
 
 /// Appends the line of an edge.
-fn write_edge(edge: &Edge, out: &mut Vec<u8>) -> Result<(), Refusal>
+fn write_edge(edge: &EdgeRef<'_>, out: &mut Vec<u8>) -> Result<(), Refusal>
     ensures ok { OnOk result (out.new.items ≡ out.old.items ++ edge_line edge.now) }
     ensures memory { IsOkUnless result Refusal.Memory }
 {
-    write_label_part(&edge.label, out)?;
-    write_numbers(b'&', edge.targets.as_slice(), out)?;
-    write_marks(edge.marks.as_slice(), out)?;
+    write_label_part(edge.label(), out)?;
+    write_numbers(b'&', edge.targets(), out)?;
+    write_marks(edge.marks(), out)?;
     out.push(b'\n')?;
     Ok(())
 }

@@ -1,6 +1,7 @@
 //! The parts of lines.
 
 ghost use Rattle.std.specs.Prelude.{◌≡◌, [], ◌∷◌, ◌++◌, IsOkUnless, OnOk, option_map};
+ghost use Rattle.std.specs.Option.{option_copied};
 ghost use Rattle.omega_canon.specs.Parts.{conjunction, label_part, marks_part, numbers_behind, numbers_joined, quoted, spaced, string_part, strings, words};
 
 use omega_acc::{Label, write_label};
@@ -87,8 +88,8 @@ pub(crate) fn write_marks(marks: &[u32], out: &mut Vec<u8>) -> Result<(), Refusa
 }
 
 /// Appends a label in brackets and a space, if there is one.
-pub(crate) fn write_label_part(label: &Option<Label>, out: &mut Vec<u8>) -> Result<(), Refusal>
-    ensures ok { OnOk result (out.new.items ≡ out.old.items ++ label_part label.now) }
+pub(crate) fn write_label_part(label: Option<&Label>, out: &mut Vec<u8>) -> Result<(), Refusal>
+    ensures ok { OnOk result (out.new.items ≡ out.old.items ++ label_part (option_copied label.entry)) }
     ensures memory { IsOkUnless result Refusal.Memory }
 {
     if let Some(label) = label {

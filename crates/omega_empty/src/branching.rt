@@ -34,9 +34,10 @@ fn body_branches(automaton: &Automaton) -> bool
 fn state_branches(state: &State) -> bool
     ensures { result ≡ state_branches state.now }
 {
-    state
-        .edges
-        .as_slice()
-        .iter()
-        .any(|edge| edge.targets.len() > 1)
+    for at in 0..state.edges.len() {
+        if state.edges.edge(at).targets().len() > 1 {
+            return true;
+        }
+    }
+    false
 }

@@ -7,10 +7,10 @@ ghost use Rattle.omega_empty.specs.Counters.{counter_after, counters, priority_a
 ghost use Rattle.omega_empty.specs.layout.Marks.{AreMarksOf, IsSmall};
 
 use omega_acc::{AccKind, ParityKind, priority};
-use omega_automaton::{Edge, State};
+use omega_automaton::{EdgeRef, State};
 
 /// The priority of an edge at a counter.
-pub(crate) fn edge_priority(kind: AccKind, counter: u32, state: &State, edge: &Edge) -> u32
+pub(crate) fn edge_priority(kind: AccKind, counter: u32, state: &State, edge: &EdgeRef<'_>) -> u32
     requires counter { counter < counters kind }
     requires small { IsSmall kind }
     requires own { AreMarksOf kind state.now.marks }
@@ -31,7 +31,7 @@ pub(crate) fn edge_priority(kind: AccKind, counter: u32, state: &State, edge: &E
 }
 
 /// The counter behind an edge at a counter.
-pub(crate) fn counter_after(kind: AccKind, counter: u32, state: &State, edge: &Edge) -> u32
+pub(crate) fn counter_after(kind: AccKind, counter: u32, state: &State, edge: &EdgeRef<'_>) -> u32
     requires { counter < counters kind }
     ensures value { result ≡ counter_after kind counter (state.now.marks ++ edge.now.marks) }
     ensures below { result < counters kind }
@@ -52,11 +52,11 @@ pub(crate) fn counter_after(kind: AccKind, counter: u32, state: &State, edge: &E
 
 /// Whether a set is among the marks of an edge of a state.
 #[tactic(auto, using(crate::proofs::making::MarkLists::holds_on))]
-fn is_held(set: u32, state: &State, edge: &Edge) -> bool
+fn is_held(set: u32, state: &State, edge: &EdgeRef<'_>) -> bool
     ensures { result ≡ holds set (state.now.marks ++ edge.now.marks) }
 {
     let own = holds(set, state.marks.as_slice());
-    let other = holds(set, edge.marks.as_slice());
+    let other = holds(set, edge.marks());
     own || other
 }
 
@@ -69,7 +69,7 @@ fn holds(set: u32, marks: &[u32]) -> bool
 
 /// The priority of an edge of a state for a parity kind: the greater one of those of its marks and the state's.
 #[tactic(auto, using(crate::proofs::making::MarkLists::priority_on, crate::proofs::making::MarkLists::priority_low))]
-fn parity_priority(kind: ParityKind, state: &State, edge: &Edge) -> u32
+fn parity_priority(kind: ParityKind, state: &State, edge: &EdgeRef<'_>) -> u32
     requires small { kind.count ≤ most_depth }
     requires own { All (λ mark. mark < kind.count) state.now.marks }
     requires marks { All (λ mark. mark < kind.count) edge.now.marks }
@@ -77,6 +77,6 @@ fn parity_priority(kind: ParityKind, state: &State, edge: &Edge) -> u32
     ensures writable { result ≤ most_number }
 {
     let own = priority(kind, state.marks.as_slice());
-    let other = priority(kind, edge.marks.as_slice());
+    let other = priority(kind, edge.marks());
     own.max(other)
 }

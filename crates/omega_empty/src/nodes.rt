@@ -13,7 +13,7 @@ ghost use Rattle.omega_empty.specs.layout.Ready.{IsPlainEdge, IsPlainState, IsRe
 use crate::edge_ranges::EdgeRange;
 use crate::judged::Judged;
 use crate::marks::{counter_after, edge_priority};
-use omega_automaton::{Edge, Refusal, State};
+use omega_automaton::{EdgeRef, Refusal, State};
 use omega_game::{GameBuilder, Player};
 
 /// Adds the nodes of a counter.
@@ -153,8 +153,9 @@ fn add_edges_of(
     ensures memory { IsOkUnless result Refusal.Memory }
 {
     let mut next = number;
-    for edge in state.edges.as_slice() {
-        add_if_usable(builder, judged, counter, state, edge, next)?;
+    for at in 0..state.edges.len() {
+        let edge = state.edges.edge(at);
+        add_if_usable(builder, judged, counter, state, &edge, next)?;
         next += 1;
     }
     Ok(())
@@ -166,7 +167,7 @@ fn add_if_usable(
     judged: &Judged<'_>,
     counter: u32,
     state: &State,
-    edge: &Edge,
+    edge: &EdgeRef<'_>,
     number: usize,
 ) -> Result<(), Refusal>
     requires ready { IsReady judged.now.automaton.now judged.now.kind judged.now.usable.items judged.now.ranges.items }
@@ -189,7 +190,7 @@ fn add_edge(
     judged: &Judged<'_>,
     counter: u32,
     state: &State,
-    edge: &Edge,
+    edge: &EdgeRef<'_>,
     number: u32,
 ) -> Result<(), Refusal>
     requires ready { IsReady judged.now.automaton.now judged.now.kind judged.now.usable.items judged.now.ranges.items }
@@ -218,7 +219,7 @@ fn edge_id(judged: &Judged<'_>, counter: u32, number: u32) -> u32
 }
 
 /// The identifier of the state that an edge enters, at the counter that its marks bring.
-fn target_id(judged: &Judged<'_>, counter: u32, state: &State, edge: &Edge) -> u32
+fn target_id(judged: &Judged<'_>, counter: u32, state: &State, edge: &EdgeRef<'_>) -> u32
     requires ready { IsReady judged.now.automaton.now judged.now.kind judged.now.usable.items judged.now.ranges.items }
     requires counter { counter < counters judged.now.kind }
     requires plain { IsPlainEdge judged.now.automaton.now judged.now.kind edge.now }
@@ -226,5 +227,5 @@ fn target_id(judged: &Judged<'_>, counter: u32, state: &State, edge: &Edge) -> u
     ensures writable { result ≤ most_number }
 {
     let behind = counter_after(judged.kind, counter, state, edge);
-    behind * judged.span() + edge.targets.as_slice()[0]
+    behind * judged.span() + edge.targets()[0]
 }

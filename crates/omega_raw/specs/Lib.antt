@@ -2,4 +2,5 @@
 pub mod Grammar
 pub mod Laws
 pub mod Symbols
+pub mod layout
 pub mod steps

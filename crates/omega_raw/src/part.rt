@@ -80,13 +80,34 @@ pub(crate) fn read_each<'a, P: Part<'a, S>, S: TokenSource<'a, HoaKind>>(
     ensures finds { Finds (AllByRecursion P.valid) (each P.written) (FirstIs (EndsList P.first P.next)) (S.left source.old) (S.left source.new) result }
     ensures err { IfErr result IsRefusal }
 {
+    let values = read_growing::<P, S>(alloc, source)?;
+    Ok(shrunk(values))
+}
+
+/// Reads as many parts as stand there, into up to twice as much memory as they need.
+pub(crate) fn read_growing<'a, P: Part<'a, S>, S: TokenSource<'a, HoaKind>>(
+    alloc: Global,
+    source: &mut S,
+) -> Result<Seq<P::Value>, Refusal>
+    ensures gives { Gives (AllByRecursion P.valid) (each P.written) (S.left source.old) (S.left source.new) result }
+    ensures finds { Finds (AllByRecursion P.valid) (each P.written) (FirstIs (EndsList P.first P.next)) (S.left source.old) (S.left source.new) result }
+    ensures err { IfErr result IsRefusal }
+{
     let mut values = Vec::new(alloc);
     while is_next::<P, S>(source) {
         let value = P::read(alloc, source)?;
         values.push(value)?;
     }
-    values.shrink_to_fit();
     Ok(Seq::from_vec(values))
+}
+
+/// The same values in as much memory as they need.
+fn shrunk<T>(values: Seq<T>) -> Seq<T>
+    ensures { result ≡ values }
+{
+    let mut values = values.into_vec();
+    values.shrink_to_fit();
+    Seq::from_vec(values)
 }
 
 /// Reads as many numbers as stand there.

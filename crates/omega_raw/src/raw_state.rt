@@ -1,4 +1,4 @@
-use crate::raw_edge::RawEdge;
+use crate::raw_edges::RawEdges;
 use omega_acc::RawLabel;
 use omega_text::{Marks, Seq};
 
@@ -14,5 +14,5 @@ pub struct RawState {
     /// The sets between braces in the order written, repeats kept, or none where no braces stand. `{}` differs from none.
     pub marks: Marks,
     /// The edges in the order written.
-    pub edges: Seq<RawEdge>,
+    pub edges: RawEdges,
 }

@@ -49,12 +49,12 @@ pub(crate) fn found_of_states(states: &[RawState], counts: Counts) -> BodyFound
 fn found_of_state(state: &RawState, counts: Counts) -> BodyFound
     ensures { IsFoundOfState counts state.now result }
 {
-    let edges = found_of_edges(state.edges.as_slice(), counts);
+    let edges = found_of_edges(&state.edges, counts);
     let labelled = state.label.is_some();
     BodyFound {
         state: counts.states <= state.number || edges.target,
-        mark: marks_beyond(&state.marks, counts.sets) || edges.mark,
-        proposition: label_beyond(&state.label, counts.propositions) || edges.proposition,
+        mark: marks_beyond(state.marks.as_slice(), counts.sets) || edges.mark,
+        proposition: label_beyond(state.label.as_ref(), counts.propositions) || edges.proposition,
         mixed: edges.labelled && (labelled || edges.unlabelled),
         miscounted: !labelled
             && !edges.labelled

@@ -4,7 +4,7 @@ use crate::judging::counts::Counts;
 use crate::judging::propositions::label_beyond;
 use crate::judging::sets::marks_beyond;
 use crate::judging::states::are_out_of_range;
-use omega_raw::RawEdge;
+use omega_raw::RawEdges;
 
 /// What is found of the edges of a state.
 #[derive(Clone, Copy)]
@@ -22,7 +22,7 @@ pub(crate) struct EdgesFound {
 }
 
 /// What is found of edges, each of which is looked at once.
-pub(crate) fn found_of_edges(edges: &[RawEdge], counts: Counts) -> EdgesFound
+pub(crate) fn found_of_edges(edges: &RawEdges, counts: Counts) -> EdgesFound
     ensures { IsFoundOfEdges counts edges.now result }
 {
     let mut found = EdgesFound {
@@ -32,11 +32,12 @@ pub(crate) fn found_of_edges(edges: &[RawEdge], counts: Counts) -> EdgesFound
         labelled: false,
         unlabelled: false,
     };
-    for edge in edges {
-        let labelled = edge.label.is_some();
-        found.target = found.target || are_out_of_range(edge.targets.as_slice(), counts.states);
-        found.mark = found.mark || marks_beyond(&edge.marks, counts.sets);
-        found.proposition = found.proposition || label_beyond(&edge.label, counts.propositions);
+    for at in 0..edges.len() {
+        let edge = edges.edge(at);
+        let labelled = edge.label().is_some();
+        found.target = found.target || are_out_of_range(edge.targets(), counts.states);
+        found.mark = found.mark || marks_beyond(edge.marks(), counts.sets);
+        found.proposition = found.proposition || label_beyond(edge.label(), counts.propositions);
         found.labelled = found.labelled || labelled;
         found.unlabelled = found.unlabelled || !labelled;
     }

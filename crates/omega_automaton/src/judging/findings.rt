@@ -1,5 +1,6 @@
 ghost use Rattle.std.specs.Prelude.{◌≡◌, ◌≤◌, ◌+◌, Some, false, sum_by, IfErr, IfOk};
 ghost use Rattle.std.specs.List.{list_any};
+ghost use Rattle.std.specs.Option.{option_copied};
 ghost use Rattle.omega_acc.specs.Depth.{IsMemory};
 ghost use Rattle.omega_acc.specs.Expanding.{expansion};
 ghost use Rattle.omega_automaton.specs.Faults.{is_labelled, label_total, passes, size_under};
@@ -8,7 +9,7 @@ ghost use Rattle.omega_automaton.specs.layout.Findings.{AreFound, AreJoined, lab
 
 use crate::limits::MOST_TOTAL_SIZE;
 use omega_acc::{Aliases, RawLabel, expanded_size};
-use omega_raw::{RawEdge, RawState};
+use omega_raw::{RawEdges, RawState};
 use omega_text::{AutomatonFault, Refusal};
 use std::alloc::Global;
 
@@ -79,23 +80,24 @@ fn findings_of_state(
     ensures ok { IfOk result (AreFound (λ test. is_labelled (λ label. test (expansion aliases.now label)) state.now) (label_total aliases.now state.now)) }
     ensures err { IfErr result IsMemory }
 {
-    let own = findings_of_label(alloc, &state.label, aliases)?;
-    let edges = findings_of_edges(alloc, state.edges.as_slice(), aliases)?;
+    let own = findings_of_label(alloc, state.label.as_ref(), aliases)?;
+    let edges = findings_of_edges(alloc, &state.edges, aliases)?;
     Ok(own.with(edges))
 }
 
 /// What is found of the labels of edges.
 fn findings_of_edges(
     alloc: Global,
-    edges: &[RawEdge],
+    edges: &RawEdges,
     aliases: &Aliases,
 ) -> Result<Findings, Refusal>
     ensures ok { IfOk result (AreFound (λ test. list_any (λ edge. passes (λ label. test (expansion aliases.now label)) edge.label) edges.now) (sum_by (λ edge. size_under aliases.now edge.label) edges.now)) }
     ensures err { IfErr result IsMemory }
 {
     let mut found = Findings::none();
-    for edge in edges {
-        let more = findings_of_label(alloc, &edge.label, aliases)?;
+    for at in 0..edges.len() {
+        let edge = edges.edge(at);
+        let more = findings_of_label(alloc, edge.label(), aliases)?;
         found = found.with(more);
     }
     Ok(found)
@@ -104,10 +106,10 @@ fn findings_of_edges(
 /// What is found of a label that may be there.
 fn findings_of_label(
     alloc: Global,
-    label: &Option<RawLabel>,
+    label: Option<&RawLabel>,
     aliases: &Aliases,
 ) -> Result<Findings, Refusal>
-    ensures ok { IfOk result (AreFound (λ test. passes (λ label. test (expansion aliases.now label)) label.now) (size_under aliases.now label.now)) }
+    ensures ok { IfOk result (AreFound (λ test. passes (λ label. test (expansion aliases.now label)) (option_copied label.entry)) (size_under aliases.now (option_copied label.entry))) }
     ensures err { IfErr result IsMemory }
 {
     match label {

@@ -1,5 +1,6 @@
 ghost use Rattle.std.specs.Prelude.{◌≡◌, option_map, unwrap_or, IfErr, IfOk};
 ghost use Rattle.std.specs.List.{list_any};
+ghost use Rattle.std.specs.Option.{option_copied};
 ghost use Rattle.omega_acc.specs.Depth.{IsMemory};
 ghost use Rattle.omega_automaton.specs.Faults.{has_wrong_proposition as wrong_proposition, is_beyond as beyond, is_misnamed as misnamed, passes, proposition_count as count_of_propositions};
 ghost use Rattle.omega_automaton.specs.Items.{alias_in, first_said, propositions_in};
@@ -110,8 +111,8 @@ fn alias_beyond(item: &RawItem, count: u32) -> bool
 }
 
 /// Whether there is a label that mentions a proposition that is not below a count.
-pub(crate) fn label_beyond(label: &Option<RawLabel>, count: u32) -> bool
-    ensures { result ≡ passes (beyond count) label.now }
+pub(crate) fn label_beyond(label: Option<&RawLabel>, count: u32) -> bool
+    ensures { result ≡ passes (beyond count) (option_copied label.entry) }
 {
     match label {
         Some(label) => is_beyond(label, count),

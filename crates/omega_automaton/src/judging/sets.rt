@@ -8,7 +8,6 @@ use crate::judging::body::BodyFound;
 use crate::judging::counts::Counts;
 use crate::judging::states::any_beyond;
 use omega_raw::{RawAutomaton, RawItem};
-use omega_text::Marks;
 
 /// Whether a mark of a state or an edge, or a set of an acceptance, is not below the count of sets (refusal 25).
 #[tactic(auto, unfolding(crate::specs::Faults::has_set_out_of_range))]
@@ -62,10 +61,10 @@ fn accepted_beyond(item: &RawItem, count: u32) -> bool
 }
 
 /// Whether there are marks and one of them is not below a count.
-pub(crate) fn marks_beyond(marks: &Marks, count: u32) -> bool
-    ensures { result ≡ passes (list_any (nat_le count)) marks.now }
+pub(crate) fn marks_beyond(marks: Option<&[u32]>, count: u32) -> bool
+    ensures { result ≡ passes (list_any (nat_le count)) (option_map (λ sets. sets.now) marks.entry) }
 {
-    match marks.as_slice() {
+    match marks {
         Some(sets) => any_beyond(sets, count),
         None => false,
     }

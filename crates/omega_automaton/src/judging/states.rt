@@ -6,7 +6,7 @@ ghost use Rattle.omega_automaton.specs.layout.Body.{AreCountsOf, IsFoundOfStates
 
 use crate::judging::body::BodyFound;
 use crate::judging::counts::Counts;
-use omega_raw::{RawAutomaton, RawEdge, RawItem, RawState};
+use omega_raw::{RawAutomaton, RawEdges, RawItem, RawState};
 use omega_text::MOST_NUMBER;
 
 /// Whether a state that is mentioned is not below the count of states, or a start or an edge lists none (refusal 24).
@@ -143,19 +143,19 @@ fn state_bound(state: &RawState) -> u64
     ensures value { result ≡ bound_of_state state.now }
     ensures range { result ≤ 2 ^ 32 }
 {
-    let targets = edges_bound(state.edges.as_slice());
+    let targets = edges_bound(&state.edges);
     targets.max(u64::from(state.number) + 1)
 }
 
 /// One more than the greatest state that edges lead to.
 #[tactic(auto, using(crate::proofs::Greatest::greatest_more))]
-fn edges_bound(edges: &[RawEdge]) -> u64
+fn edges_bound(edges: &RawEdges) -> u64
     ensures value { result ≡ greatest_of (λ edge. bound_in edge.targets) edges.now }
     ensures range { result ≤ 2 ^ 32 }
 {
     let mut bound = 0u64;
-    for edge in edges {
-        bound = bound.max(bound_of(edge.targets.as_slice()));
+    for at in 0..edges.len() {
+        bound = bound.max(bound_of(edges.edge(at).targets()));
     }
     bound
 }

@@ -7,10 +7,11 @@ ghost use Rattle.omega_automaton.specs.Meaning.{IsEdgeOf, IsLabelOf, IsStateOf};
 ghost use Rattle.omega_automaton.specs.layout.Findings.{is_faulty, labels_pass};
 
 use crate::edge::Edge;
+use crate::edges::Edges;
 use crate::making::marks::marks_of;
 use crate::state::State;
 use omega_acc::{Aliases, Label, RawLabel, expand_in_place};
-use omega_raw::{RawEdge, RawState};
+use omega_raw::{HeldEdges, RawEdge, RawEdges, RawState};
 use omega_text::{Refusal, Seq};
 use std::alloc::Global;
 
@@ -57,8 +58,27 @@ fn state_of(alloc: Global, aliases: &Aliases, state: RawState) -> Result<State, 
     })
 }
 
-/// The edges of a state with their aliases replaced.
-fn edges_of(alloc: Global, aliases: &Aliases, edges: Seq<RawEdge>) -> Result<Seq<Edge>, Refusal>
+/// The edges of a state with their aliases replaced. Those that are written in short are moved.
+fn edges_of(alloc: Global, aliases: &Aliases, edges: RawEdges) -> Result<Edges, Refusal>
+    requires { list_any (λ edge. passes (λ label. is_faulty (expansion aliases.now label)) edge.label) edges ≡ false }
+    ensures ok { IfOk result (λ made. AllZip (IsEdgeOf aliases.now) edges made) }
+    ensures err { IfErr result IsMemory }
+{
+    match edges.into_held() {
+        HeldEdges::Short(edges) => Ok(Edges::from_short(edges)),
+        HeldEdges::Full(edges) => {
+            let edges = full_edges_of(alloc, aliases, edges)?;
+            Ok(Edges::from_seq(edges))
+        }
+    }
+}
+
+/// Edges with their aliases replaced.
+fn full_edges_of(
+    alloc: Global,
+    aliases: &Aliases,
+    edges: Seq<RawEdge>,
+) -> Result<Seq<Edge>, Refusal>
     requires { list_any (λ edge. passes (λ label. is_faulty (expansion aliases.now label)) edge.label) edges ≡ false }
     ensures ok { IfOk result (λ made. AllZip (IsEdgeOf aliases.now) edges made) }
     ensures err { IfErr result IsMemory }

@@ -1,17 +1,22 @@
+ghost use Rattle.std.specs.Prelude.{IfErr};
+ghost use Rattle.std.specs.List.{AllByRecursion};
+ghost use Rattle.omega_raw.specs.Symbols.{FirstIs};
+ghost use Rattle.omega_raw.specs.steps.Reading.{EndsList, Finds, Gives, IsRefusal};
 ghost use Rattle.omega_raw.specs.steps.Beginnings.{edge_begun, edge_follows};
-ghost use Rattle.omega_raw.specs.Grammar.{IsEdge, edge_row};
+ghost use Rattle.omega_raw.specs.Grammar.{IsEdge, each, edge_row};
 ghost use Rattle.omega_raw.specs.steps.Parts.{EndsEdge, is_edge};
 
 use crate::body::guard::Guard;
 use crate::body::sig::read_marks;
 use crate::conj::conj;
-use crate::part::{Part, read_if};
+use crate::part::{Part, read_growing, read_if};
 use crate::raw_edge::RawEdge;
+use crate::raw_edges::RawEdges;
 use omega_text::{HoaKind, Refusal, TokenSource};
 use std::alloc::Global;
 
 /// An edge.
-pub(crate) struct Edge;
+struct Edge;
 
 impl<'a, S: TokenSource<'a, HoaKind>> Part<'a, S> for Edge {
     type Value = RawEdge;
@@ -42,4 +47,18 @@ impl<'a, S: TokenSource<'a, HoaKind>> Part<'a, S> for Edge {
     ghost begun = { edge_begun };
 
     ghost follows = { edge_follows };
+}
+
+/// Reads as many edges as stand there.
+pub(crate) fn read_edges<'a, S: TokenSource<'a, HoaKind>>(
+    alloc: Global,
+    source: &mut S,
+) -> Result<RawEdges, Refusal>
+    ensures gives { Gives (AllByRecursion IsEdge) (each edge_row) (S.left source.old) (S.left source.new) result }
+    ensures finds { Finds (AllByRecursion IsEdge) (each edge_row) (FirstIs (EndsList is_edge EndsEdge)) (S.left source.old) (S.left source.new) result }
+    ensures err { IfErr result IsRefusal }
+{
+    let edges = read_growing::<Edge, S>(alloc, source)?;
+    let edges = RawEdges::from_seq(alloc, edges)?;
+    Ok(edges)
 }

@@ -2,10 +2,10 @@ ghost use Rattle.omega_raw.specs.steps.Beginnings.{state_begun, state_follows};
 ghost use Rattle.omega_raw.specs.Grammar.{IsState, state_row};
 ghost use Rattle.omega_raw.specs.steps.Parts.{EndsState, is_header};
 
-use crate::body::edge::Edge;
+use crate::body::edge::read_edges;
 use crate::body::guard::Guard;
 use crate::body::sig::read_marks;
-use crate::part::{Part, read_each, read_if};
+use crate::part::{Part, read_if};
 use crate::raw_state::RawState;
 use crate::single::Quoted;
 use crate::taking::{take_header, take_int};
@@ -36,7 +36,7 @@ impl<'a, S: TokenSource<'a, HoaKind>> Part<'a, S> for State {
         let number = take_int(source)?;
         let name = read_if::<Quoted, S>(alloc, source)?;
         let marks = read_marks(alloc, source)?;
-        let edges = read_each::<Edge, S>(alloc, source)?;
+        let edges = read_edges(alloc, source)?;
         Ok(RawState {
             label,
             number,

@@ -14,4 +14,4 @@ returns-clause-ok c =
     (behind c.extend_from_slice.new.self.items (branch_point c.args.number) (flat_map (branch_arrow c.args.number c.args.role) c.args.edge.now.targets)
     c.in_ok-write_branch_point.ensures.ok
     (c.in_ok-write_branch_arrows.ensures.ok
-    ∙ ap (λ list. c.write_branch_point.new.out.items ++ flat_map (branch_arrow c.args.number c.args.role) list) c.as_slice.ensures)))))
+    ∙ ap (λ list. c.write_branch_point.new.out.items ++ flat_map (branch_arrow c.args.number c.args.role) list) c.targets.ensures)))))

@@ -6,18 +6,18 @@ use Rattle.omega_automaton_drawing.specs.layout.Marking.{role_at}
 use Rattle.omega_automaton_drawing.proofs.Bodies.{edge_more}
 use Rattle.omega_automaton_drawing.proofs.edges.write_edges_of.Goals as goal
 
-pub loop-edge-preserved : goal.loop-edge-preserved
-loop-edge-preserved c =
-    let index : ℕ = c.loop-edge.edge-index in
-    let edge : Edge = c.edge-item.result in
-    let here : c.edge-item.result ≡ get_or c.args.state.now.edges index c.edge-item.result = cc in
-    let below : index < length c.args.state.now.edges = omega (arith, ap length c.as_slice-edge-items.ensures) in
+pub loop-at-preserved : goal.loop-at-preserved
+loop-at-preserved c =
+    let index : ℕ = c.loop-at.at in
+    let edge : Edge = c.edge-edge.result in
+    let here : c.edge-edge.result ≡ get_or c.args.state.now.edges index c.edge-edge.result = c.edge-edge.ensures in
+    let below : index < length c.args.state.now.edges = omega (arith, c.len-at-end.ensures, c.loop-at-test.true) in
     record {
-      number = omega (arith, c.loop-edge.invariant.number);
+      number = omega (arith, c.loop-at.invariant.number);
       drawn =
-          edge_more (body_edge c.args.automaton.now (role_at c.args.roles.now)) c.args.number index c.args.state.now edge c.args.out.now.items c.loop-edge.out.items _
-          below here c.loop-edge.invariant.drawn
+          edge_more (body_edge c.args.automaton.now (role_at c.args.roles.now)) c.args.number index c.args.state.now edge c.args.out.now.items c.loop-at.out.items _
+          below here c.loop-at.invariant.drawn
           (c.in_ok-write_edge.ensures.ok
-          ∙ ap (λ role. c.loop-edge.out.items ++ edge_text c.args.automaton.now.propositions c.loop-edge.next role c.args.state.now.number edge) c.role_at-role.ensures
-          ∙ ap (λ n. c.loop-edge.out.items ++ body_edge c.args.automaton.now (role_at c.args.roles.now) n (record { source = c.args.state.now; edge = edge })) c.loop-edge.invariant.number);
+          ∙ ap (λ role. c.loop-at.out.items ++ edge_text c.args.automaton.now.propositions c.loop-at.next role c.args.state.now.number edge) c.role_at-role.ensures
+          ∙ ap (λ n. c.loop-at.out.items ++ body_edge c.args.automaton.now (role_at c.args.roles.now) n (record { source = c.args.state.now; edge = edge })) c.loop-at.invariant.number);
     }

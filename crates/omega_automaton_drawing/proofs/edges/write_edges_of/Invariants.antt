@@ -6,8 +6,8 @@ use Rattle.omega_dot.specs.Numbered.{numbered}
 use Rattle.omega_automaton_drawing.specs.layout.Marking.{role_at}
 use Rattle.omega_automaton_drawing.proofs.edges.write_edges_of.Given as goal
 
-abbrev pub invariant-loop-edge : goal.invariant-loop-edge
-invariant-loop-edge l = record {
-  number : l.next ≡ l.number + l.edge-index;
-  drawn : l.out.items ≡ l.fn.out.items ++ numbered (body_edge l.automaton (role_at l.roles)) l.number (take l.edge-index (edges_from l.state));
+abbrev pub invariant-loop-at : goal.invariant-loop-at
+invariant-loop-at l = record {
+  number : l.next ≡ l.number + l.at;
+  drawn : l.out.items ≡ l.fn.out.items ++ numbered (body_edge l.automaton (role_at l.roles)) l.number (take l.at (edges_from l.state));
 }

@@ -3,7 +3,7 @@ use Rattle.omega_automaton.specs.Automaton.{edges_from}
 use Rattle.omega_empty.specs.EmptinessGame.{edge_nodes}
 use Rattle.omega_empty.proofs.nodes.add_edges_of.Given as goal
 
-abbrev pub invariant-loop-edge : goal.invariant-loop-edge
-invariant-loop-edge l =
-    (l.next ≡ l.number + l.edge-index)
-    × (l.builder ≡ l.initial.builder ++ edge_nodes l.judged.kind l.judged.automaton.now l.judged.usable.items l.counter l.number (take l.edge-index (edges_from l.state)))
+abbrev pub invariant-loop-at : goal.invariant-loop-at
+invariant-loop-at l =
+    (l.next ≡ l.number + l.at)
+    × (l.builder ≡ l.initial.builder ++ edge_nodes l.judged.kind l.judged.automaton.now l.judged.usable.items l.counter l.number (take l.at (edges_from l.state)))

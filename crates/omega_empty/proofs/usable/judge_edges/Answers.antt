@@ -13,18 +13,18 @@ use Rattle.omega_empty.proofs.usable.judge_edges.Goals as goal
 
 pub returns-in_err-judged-clause-refused : goal.returns-in_err-judged-clause-refused
 returns-in_err-judged-clause-refused c =
-    let here : c.edge-item.result ≡ get_or c.args.state.now.edges c.loop-edge.edge-index c.edge-item.result = cc in
-    let below : c.loop-edge.edge-index < length c.args.state.now.edges = omega (arith, ap length c.as_slice-edge-items.ensures) in
+    let here : c.edge-edge.result ≡ get_or c.args.state.now.edges c.loop-at.at c.edge-edge.result = c.edge-edge.ensures in
+    let below : c.loop-at.at < length c.args.state.now.edges = omega (arith, c.len-at-end.ensures, c.loop-at-test.true) in
     let p = err_from_is_err_and c.from_residual-in_err-judged.result c.from_residual-in_err-judged.ensures.1 in
-    rw (p.1, p.2) (wide_edge_refused c.args.state.now c.loop-edge.edge-index c.edge-item.result below here _ c.in_err-judged.ensures.refused)
+    rw (p.1, p.2) (wide_edge_refused c.args.state.now c.loop-at.at c.edge-edge.result below here _ c.in_err-judged.ensures.refused)
 
-pub loop-edge-preserved : goal.loop-edge-preserved
-loop-edge-preserved c =
-    let index : ℕ = c.loop-edge.edge-index in
-    let edge : Edge = c.edge-item.result in
-    let here : c.edge-item.result ≡ get_or c.args.state.now.edges index c.edge-item.result = cc in
-    let below : index < length c.args.state.now.edges = omega (arith, ap length c.as_slice-edge-items.ensures) in
-    let so_far = c.loop-edge.invariant.0 in
+pub loop-at-preserved : goal.loop-at-preserved
+loop-at-preserved c =
+    let index : ℕ = c.loop-at.at in
+    let edge : Edge = c.edge-edge.result in
+    let here : c.edge-edge.result ≡ get_or c.args.state.now.edges index c.edge-edge.result = c.edge-edge.ensures in
+    let below : index < length c.args.state.now.edges = omega (arith, c.len-at-end.ensures, c.loop-at-test.true) in
+    let so_far = c.loop-at.invariant.0 in
     let one : BodyEdge = record { source = c.args.state.now; edge = edge } in
     let P : List BodyEdge → Type 0 = λ edges. AreJudged edges (so_far.0 ++ c.in_ok-judged.judged ∷ []) in (
       (
@@ -35,6 +35,6 @@ loop-edge-preserved c =
             (judged_on (take index (edges_from c.args.state.now)) so_far.0 (one ∷ []) (c.in_ok-judged.judged ∷ []) so_far.2
             (judged_one one c.in_ok-judged.judged c.in_ok-judged.ensures.judged)),
       ),
-      below_more (λ k. (d : Edge) → IsNarrow (get_or c.args.state.now.edges k d).label) index c.loop-edge.invariant.1
+      below_more (λ k. (d : Edge) → IsNarrow (get_or c.args.state.now.edges k d).label) index c.loop-at.invariant.1
           (at_read c.args.state.now.edges (λ (e : Edge). IsNarrow e.label) index edge below here c.in_ok-judged.ensures.narrow),
     )

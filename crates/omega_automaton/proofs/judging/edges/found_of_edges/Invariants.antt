@@ -3,5 +3,5 @@ use Rattle.std.proofs.Common.{take}
 use Rattle.omega_automaton.specs.layout.Body.{IsFoundOfEdges}
 use Rattle.omega_automaton.proofs.judging.edges.found_of_edges.Given as goal
 
-abbrev pub invariant-loop-edge : goal.invariant-loop-edge
-invariant-loop-edge l = IsFoundOfEdges l.counts (take l.edge-index l.edges) l.found
+abbrev pub invariant-loop-at : goal.invariant-loop-at
+invariant-loop-at l = IsFoundOfEdges l.counts (take l.at l.edges) l.found

@@ -7,7 +7,7 @@ use Rattle.omega_automaton.specs.Faults.{passes, size_under}
 use Rattle.omega_automaton.specs.layout.Findings.{AreFound}
 use Rattle.omega_automaton.proofs.judging.findings.findings_of_edges.Given as goal
 
-abbrev pub invariant-loop-edge : goal.invariant-loop-edge
-invariant-loop-edge l =
-    AreFound (λ test. list_any (λ (edge : RawEdge). passes (λ label. test (expansion l.aliases label)) edge.label) (take l.edge-index l.edges))
-    (sum_by (λ (edge : RawEdge). size_under l.aliases edge.label) (take l.edge-index l.edges)) l.found
+abbrev pub invariant-loop-at : goal.invariant-loop-at
+invariant-loop-at l =
+    AreFound (λ test. list_any (λ (edge : RawEdge). passes (λ label. test (expansion l.aliases label)) edge.label) (take l.at l.edges))
+    (sum_by (λ (edge : RawEdge). size_under l.aliases edge.label) (take l.at l.edges)) l.found

@@ -3,5 +3,5 @@ use Rattle.std.proofs.Common.{◌≡◌, ◌^◌, ◌≤◌, take}
 use Rattle.omega_automaton.specs.Faults.{bound_of, greatest_of}
 use Rattle.omega_automaton.proofs.judging.states.edges_bound.Given as goal
 
-abbrev pub invariant-loop-edge : goal.invariant-loop-edge
-invariant-loop-edge l = (l.bound ≡ greatest_of (λ edge. bound_of edge.targets) (take l.edge-index l.edges)) × (l.bound ≤ 2 ^ 32)
+abbrev pub invariant-loop-at : goal.invariant-loop-at
+invariant-loop-at l = (l.bound ≡ greatest_of (λ edge. bound_of edge.targets) (take l.at l.edges)) × (l.bound ≤ 2 ^ 32)

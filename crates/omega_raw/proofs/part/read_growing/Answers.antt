@@ -7,7 +7,7 @@ use Rattle.omega_raw.proofs.PartLemmas.{IsPart, IsReadTo, read_all, read_failed,
 use Rattle.omega_raw.proofs.SpellingLemmas.{error_found, shorter}
 use Rattle.omega_raw.specs.Grammar.{each}
 use Rattle.omega_raw.specs.steps.Reading.{EndsList, Given}
-use Rattle.omega_raw.proofs.part.read_each.Goals as goal
+use Rattle.omega_raw.proofs.part.read_growing.Goals as goal
 
 pub loop-alloc-init : goal.loop-alloc-init
 loop-alloc-init g c =
@@ -35,10 +35,10 @@ loop-alloc-preserved g c =
     c.in_ok-value.ensures.gives c.in_ok-value.ensures.finds)
 
 pub returns-clause-gives : goal.returns-clause-gives
-returns-clause-gives g c = subst (λ all. Given (AllByRecursion g.P.Part.valid) (each g.P.Part.written) (g.S.TokenSource.left c.args.source.now) (g.S.TokenSource.left c.loop-alloc.source) all) (sym (c.from_vec.ensures ∙ c.shrink_to_fit.ensures.items)) c.loop-alloc.invariant.given
+returns-clause-gives g c = subst (λ all. Given (AllByRecursion g.P.Part.valid) (each g.P.Part.written) (g.S.TokenSource.left c.args.source.now) (g.S.TokenSource.left c.loop-alloc.source) all) (sym c.from_vec.ensures) c.loop-alloc.invariant.given
 
 pub returns-clause-finds : goal.returns-clause-finds
 returns-clause-finds g c it others rest are last spells =
     let part : IsPart g.P.Part.valid g.P.Part.written g.P.Part.first g.P.Part.next = let met = g.met.P.Part c.lifetimes (search rules) in record { begun = met.begun; follows = met.follows } in
     let read = read_all g.P.Part.valid g.P.Part.written g.P.Part.first g.P.Part.next part (g.S.TokenSource.left c.args.source.now) (g.S.TokenSource.left c.loop-alloc.source) c.loop-alloc.values.items c.loop-alloc.invariant c.loop-alloc-test.ensures it others rest are last spells in
-    (c.from_vec.ensures ∙ (c.shrink_to_fit.ensures.items ∙ read.0), read.1)
+    (c.from_vec.ensures ∙ read.0, read.1)

@@ -2,7 +2,7 @@
 use Rattle.std.proofs.Common.{length}
 use Rattle.omega_raw.proofs.PartLemmas.{IsReadTo}
 use Rattle.omega_raw.specs.steps.Reading.{EndsList}
-use Rattle.omega_raw.proofs.part.read_each.Given as goal
+use Rattle.omega_raw.proofs.part.read_growing.Given as goal
 
 abbrev pub invariant-loop-alloc : goal.invariant-loop-alloc
 invariant-loop-alloc g l = IsReadTo g.P.Part.valid g.P.Part.written (EndsList g.P.Part.first g.P.Part.next) (g.S.TokenSource.left l.fn.source) l.values.items (g.S.TokenSource.left l.source)

@@ -1,0 +1,108 @@
+ghost use Rattle.std.specs.Prelude.{◌≡◌, ◌<◌, length, map, slice_index_or};
+ghost use Rattle.omega_automaton.specs.layout.Edges.{expanded};
+
+use crate::edge::Edge;
+use crate::edge_ref::EdgeRef;
+use omega_raw::ShortEdge;
+use omega_text::Seq;
+use std::marker::Model;
+
+/// The edges of a state in the order written. Contracts see the list of edges.
+///
+/// Edges without labels that lead to one state and are in one set at most take 12 bytes each, where all edges of the state are
+/// such, else 64.
+#[derive(Debug, Drop)]
+pub struct Edges {
+    held: Held,
+}
+
+/// How the edges lie in memory.
+#[derive(Debug, Drop)]
+enum Held {
+    /// In short.
+    Short(Seq<ShortEdge>),
+    /// As they are.
+    Full(Seq<Edge>),
+}
+
+impl Model for Edges {
+    ghost use Rattle.std.specs.Prelude.{List};
+    ghost use Rattle.std.specs.Coded.{codes};
+    ghost use Rattle.omega_acc.specs.contracts.label.Label as expanded_label;
+    ghost use Rattle.omega_automaton.specs.declared.edge.Edge.{Edge};
+
+    ghost Value = { List Edge };
+
+    ghost coded = { Prim.hlevel (codes, expanded_label.the_row.coded) };
+
+    ghost use Rattle.omega_automaton.specs.layout.Edges.{edges_in};
+
+    ghost view = { λ e. edges_in e.held };
+}
+
+impl Edges {
+    /// These edges.
+    pub fn from_seq(edges: Seq<Edge>) -> Edges
+        ensures { result ≡ edges }
+    {
+        Edges {
+            held: Held::Full(edges),
+        }
+    }
+
+    /// The edges that are written in short.
+    pub(crate) fn from_short(edges: Seq<ShortEdge>) -> Edges
+        ensures { result ≡ map expanded edges }
+    {
+        Edges {
+            held: Held::Short(edges),
+        }
+    }
+
+    /// How many edges there are.
+    pub fn len(&self) -> usize
+        ensures { result ≡ length self.now }
+    {
+        match &self.held {
+            Held::Short(edges) => edges.len(),
+            Held::Full(edges) => edges.len(),
+        }
+    }
+
+    /// The edge at a place, from 0 on.
+    pub fn edge(&self, at: usize) -> EdgeRef<'_>
+        requires { at < length self.now }
+        ensures { result ≡ slice_index_or self.now at result }
+    {
+        match &self.held {
+            Held::Short(edges) => short_edge(&edges.as_slice()[at]),
+            Held::Full(edges) => full_edge(&edges.as_slice()[at]),
+        }
+    }
+}
+
+/// The edge that is kept in short.
+fn short_edge(edge: &ShortEdge) -> EdgeRef<'_>
+    ensures { result ≡ expanded edge.now }
+{
+    let marks = match &edge.mark {
+        Some(mark) => std::slice::from_ref(mark),
+        None => &[],
+    };
+    EdgeRef {
+        label: None,
+        targets: std::slice::from_ref(&edge.target),
+        marks,
+    }
+}
+
+/// The edge that is kept as it is.
+fn full_edge(edge: &Edge) -> EdgeRef<'_>
+    ensures { result ≡ edge.now }
+{
+    EdgeRef {
+        label: edge.label.as_ref(),
+        targets: edge.targets.as_slice(),
+        marks: edge.marks.as_slice(),
+    }
+}
