@@ -9,6 +9,7 @@ impl TokenKind for HoaKind {
 
     ghost format = { hoa_format };
 
+    #[inline(always)]
     fn next_token(source: &[u8], at: usize) -> Result<Option<Token<'_, HoaKind>>, TextFault> {
         next_hoa_token(source, at)
     }
