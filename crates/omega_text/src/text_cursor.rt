@@ -1,4 +1,4 @@
-ghost use Rattle.std.specs.Prelude.{◌≡◌, ◌≤◌, List, drop, length, option_map};
+ghost use Rattle.std.specs.Prelude.{◌≡◌, ◌≤◌, List, Some, drop, length, option_map, IfSome};
 ghost use Rattle.omega_text.specs.Cursor.{next_place};
 ghost use Rattle.omega_text.specs.Cut.{IsCut};
 ghost use Rattle.omega_text.specs.Left.{IsAllLeft, IsRest, Left, Left-prop, next_of};
@@ -61,6 +61,26 @@ impl<'a, K: TokenKind> TextCursor<'a, K> {
     /// Passes the next token, if there is one.
     #[inline(never)]
     pub fn skip(&mut self)
+        ensures left { self.new.0 ≡ drop 1 self.old.0 }
+        ensures length { self.new.1 ≡ self.old.1 }
+    {
+        let Some(_) = self.kind else {
+            return;
+        };
+        match plain_left::<K>(self.source, self.span.end) {
+            Some(token) => {
+                self.text = token.text;
+                self.span = token.span;
+                self.value = token.value;
+                self.kind = Some(token.kind);
+            }
+            None => self.skip_to_any(),
+        }
+    }
+
+    /// The same, whatever the token is that is next then.
+    #[inline(never)]
+    fn skip_to_any(&mut self)
         ensures left { self.new.0 ≡ drop 1 self.old.0 }
         ensures length { self.new.1 ≡ self.old.1 }
     {
@@ -133,4 +153,14 @@ fn next_left<K: TokenKind>(source: &[u8], at: usize) -> Option<Token<'_, K>>
         Ok(next) => next,
         Err(_) => unreachable!(),
     }
+}
+
+/// The same, if it can be told at once.
+#[inline(always)]
+fn plain_left<K: TokenKind>(source: &[u8], at: usize) -> Option<Token<'_, K>>
+    requires { at ≤ length source.now }
+    ensures { IfSome result (λ token. (lexemes : List (Lexeme K)) → IsRest K.format source.now at lexemes → IsAllLeft K.format source.now (Some (lexeme_of token)) lexemes) }
+{
+    K::goes_on_one_way();
+    K::plain_token(source, at)
 }

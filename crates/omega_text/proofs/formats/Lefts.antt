@@ -50,6 +50,12 @@ module _ {Kind : Type 0} (format : Format Kind) (source : List ℕ) where
     rest_none at [] ends rest = record { are_left = refl; only = λ others again. sym again }
     rest_none at (lexeme ∷ others) ends rest = absurd (exact.no_token_at_end source at lexeme rest.cuts.0 ends)
 
+    -- the same of a token that may have been told
+    pub told_first : (at : ℕ) (next : Option (Token Kind)) → IfSome next (λ token. format.follows source at (lexeme_of token)) → IfSome next (λ token. IsPartBehind source at token.span)
+        → IfSome next (λ token. (lexemes : List (Lexeme Kind)) → IsRest format source at lexemes → IsAllLeft format source (Some (lexeme_of token)) lexemes)
+    told_first at None follows part = tt
+    told_first at (Some token) follows part = λ lexemes rest. rest_first at (lexeme_of token) lexemes follows part.within rest
+
     -- what comes next is all that is left
     pub rest_next : (at : ℕ) (next : Option (Token Kind)) → IfSome next (λ token. format.follows source at (lexeme_of token)) → IfSome next (λ token. IsPartBehind source at token.span)
         → IfNone next (format.ends source at) → (lexemes : List (Lexeme Kind)) → IsRest format source at lexemes → IsAllLeft format source (option_map lexeme_of next) lexemes
