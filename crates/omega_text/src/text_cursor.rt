@@ -1,9 +1,10 @@
-ghost use Rattle.std.specs.Prelude.{◌≡◌, ◌≤◌, List, length};
+ghost use Rattle.std.specs.Prelude.{◌≡◌, ◌≤◌, List, Some, drop, length, option_map, IfSome};
+ghost use Rattle.omega_text.specs.Cursor.{next_place};
 ghost use Rattle.omega_text.specs.Cut.{IsCut};
-ghost use Rattle.omega_text.specs.Left.{IsAllLeft, IsRest, Left, Left-prop};
-ghost use Rattle.omega_text.specs.Lexeme.{Lexeme};
+ghost use Rattle.omega_text.specs.Left.{IsAllLeft, IsRest, Left, Left-prop, next_of};
+ghost use Rattle.omega_text.specs.Lexeme.{Lexeme, lexeme_of};
 
-use crate::token::Token;
+use crate::token::{Span, Token};
 use crate::token_kind::TokenKind;
 use crate::token_source::TokenSource;
 use std::marker::Model;
@@ -14,8 +15,13 @@ use std::marker::Model;
 #[derive(Drop)]
 pub struct TextCursor<'a, K: TokenKind> {
     source: &'a [u8],
-    next: Option<Token<'a, K>>,
-    ghost left: { Left K.format source.now next } by { Left-prop K.code K.format source.now next },
+    // The next token stands here part by part, so that a call reads and writes those that it needs and no padding.
+    text: &'a [u8],
+    span: Span,
+    value: u32,
+    kind: Option<K>,
+    ghost left: { Left K.format source.now (next_of kind text.now value span) } by { Left-prop K.code K.format source.now (next_of kind text.now value span) },
+    ghost place: { span.start ≡ next_place left.lexemes (length source.now) },
 }
 
 impl<'a, K: TokenKind> Model for TextCursor<'a, K> {
@@ -34,8 +40,65 @@ impl<'a, K: TokenKind> TextCursor<'a, K> {
         ensures cut { IsCut K.format source.entry.now result.0 }
         ensures length { result.1 ≡ length source.entry.now }
     {
-        let next = next_left(source, 0);
-        TextCursor { source, next }
+        match next_left::<K>(source, 0) {
+            Some(token) => TextCursor {
+                source,
+                text: token.text,
+                span: token.span,
+                value: token.value,
+                kind: Some(token.kind),
+            },
+            None => TextCursor {
+                source,
+                text: source,
+                span: end_of(source),
+                value: 0,
+                kind: None,
+            },
+        }
+    }
+
+    /// Passes the next token, if there is one.
+    #[inline(never)]
+    pub fn skip(&mut self)
+        ensures left { self.new.0 ≡ drop 1 self.old.0 }
+        ensures length { self.new.1 ≡ self.old.1 }
+    {
+        let Some(_) = self.kind else {
+            return;
+        };
+        match plain_left::<K>(self.source, self.span.end) {
+            Some(token) => {
+                self.text = token.text;
+                self.span = token.span;
+                self.value = token.value;
+                self.kind = Some(token.kind);
+            }
+            None => self.skip_to_any(),
+        }
+    }
+
+    /// The same, whatever the token is that is next then.
+    #[inline(never)]
+    fn skip_to_any(&mut self)
+        ensures left { self.new.0 ≡ drop 1 self.old.0 }
+        ensures length { self.new.1 ≡ self.old.1 }
+    {
+        let Some(_) = self.kind else {
+            return;
+        };
+        match next_left::<K>(self.source, self.span.end) {
+            Some(token) => {
+                self.text = token.text;
+                self.span = token.span;
+                self.value = token.value;
+                self.kind = Some(token.kind);
+            }
+            None => {
+                self.span = end_of(self.source);
+                self.kind = None;
+            }
+        }
     }
 }
 
@@ -44,33 +107,60 @@ impl<'a, K: TokenKind> TokenSource<'a, K> for TextCursor<'a, K> {
 
     ghost length = { λ cursor. cursor.1 };
 
+    #[inline(always)]
     fn look(&self) -> Option<Token<'a, K>> {
-        self.next.as_ref().copied()
+        let kind = self.kind?;
+        Some(Token {
+            text: self.text,
+            span: self.span,
+            value: self.value,
+            kind,
+        })
     }
 
+    #[inline(always)]
     fn take(&mut self) -> Option<Token<'a, K>> {
-        let token = self.next.as_ref().copied()?;
-        self.next = next_left(self.source, token.span.end);
-        Some(token)
+        let token = self.look();
+        self.skip();
+        token
     }
 
+    #[inline(always)]
     fn place(&self) -> usize {
-        match &self.next {
-            Some(token) => token.span.start,
-            None => self.source.len(),
-        }
+        self.span.start
+    }
+}
+
+/// The end of a text, which is empty.
+fn end_of(source: &[u8]) -> Span
+    ensures start { result.start ≡ length source.now }
+{
+    Span {
+        start: source.len(),
+        end: source.len(),
     }
 }
 
 /// The next token of a text that can be cut from a place on, or none at its end.
+#[inline(always)]
 fn next_left<K: TokenKind>(source: &[u8], at: usize) -> Option<Token<'_, K>>
     requires within { at ≤ length source.now }
     requires cut { ∥ ((lexemes : List (Lexeme K)) × IsRest K.format source.now at lexemes) ∥₁ }
-    ensures { (lexemes : List (Lexeme K)) → IsRest K.format source.now at lexemes → IsAllLeft K.format source.now result lexemes }
+    ensures { (lexemes : List (Lexeme K)) → IsRest K.format source.now at lexemes → IsAllLeft K.format source.now (option_map lexeme_of result) lexemes }
 {
     K::goes_on_one_way();
     match K::next_token(source, at) {
         Ok(next) => next,
         Err(_) => unreachable!(),
     }
+}
+
+/// The same, if it can be told at once.
+#[inline(always)]
+fn plain_left<K: TokenKind>(source: &[u8], at: usize) -> Option<Token<'_, K>>
+    requires { at ≤ length source.now }
+    ensures { IfSome result (λ token. (lexemes : List (Lexeme K)) → IsRest K.format source.now at lexemes → IsAllLeft K.format source.now (Some (lexeme_of token)) lexemes) }
+{
+    K::goes_on_one_way();
+    K::plain_token(source, at)
 }

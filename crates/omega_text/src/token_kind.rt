@@ -19,6 +19,12 @@ pub trait TokenKind: Copy {
         ensures lexical { IfErr result IsLexical }
         ensures progress { IfOk result (λ found. IfSome found (λ token. IsPartBehind source.now at token.span)) };
 
+    /// The next token from a place on, if it can be told at once. None says nothing: `next_token` tells then.
+    fn plain_token(source: &[u8], at: usize) -> Option<Token<'_, Self>>
+        requires { at ≤ length source.now }
+        ensures token { IfSome result (λ token. format.follows source.now at (lexeme_of token)) }
+        ensures progress { IfSome result (λ token. IsPartBehind source.now at token.span) };
+
     /// From each place a text goes on in one way: a law, which its proof states.
     fn goes_on_one_way()
         ensures { GoesOneWay format };

@@ -6,9 +6,10 @@ use Rattle.omega_text.specs.Cursor.{next_place}
 use Rattle.std.proofs.Math.Logic.{∥∥₁_elim, ∥∥₁_map}
 use Rattle.omega_text.specs.Cut.{Cuts, IsCut}
 use Rattle.omega_text.specs.Format.{Format, GoesOneWay, IsPartBehind}
-use Rattle.omega_text.specs.Left.{IsAllLeft, IsLeft, IsNext, IsRest, Left, lexeme_code}
+use Rattle.omega_text.specs.Left.{IsAllLeft, IsLeft, IsNext, IsRest, Left, lexeme_code, next_of}
 use Rattle.omega_text.specs.Lexeme.{Lexeme, lexeme_of}
 use Rattle.omega_text.specs.declared.refusal.text.TextFault.{TextFault}
+use Rattle.omega_text.specs.declared.token.Span.{Span}
 use Rattle.omega_text.specs.declared.token.Token.{Token}
 use Rattle.omega_text.proofs.formats.Stops.{one_stop}
 
@@ -23,19 +24,19 @@ module _ {Kind : Type 0} (format : Format Kind) (source : List ℕ) where
 
   module _ (exact : GoesOneWay format) where
     -- what is left is left once
-    left_once : (next : Option (Token Kind)) (one other : List (Lexeme Kind)) → IsLeft format source next one → IsLeft format source next other → one ≡ other
+    left_once : (next : Option (Lexeme Kind)) (one other : List (Lexeme Kind)) → IsLeft format source next one → IsLeft format source next other → one ≡ other
     left_once None one other first second = first ∙ sym second
     left_once (Some token) one other first second =
         let same = (one_stop format exact source token.span.end first.others second.others first.behind.end second.behind.end None None
         first.behind.cuts first.behind.rest second.behind.cuts second.behind.rest).0 in
-        first.split ∙ ap (λ others. lexeme_of token ∷ others) same ∙ sym second.split
+        first.split ∙ ap (λ others. token ∷ others) same ∙ sym second.split
 
     -- where a token follows, it is the first of the rest
-    rest_first : (at : ℕ) (token : Token Kind) (lexemes : List (Lexeme Kind)) → format.follows source at (lexeme_of token) → token.span.end ≤ length source
+    rest_first : (at : ℕ) (token : Lexeme Kind) (lexemes : List (Lexeme Kind)) → format.follows source at token → token.span.end ≤ length source
         → IsRest format source at lexemes → IsAllLeft format source (Some token) lexemes
-    rest_first at token [] follows within rest = absurd (exact.no_token_at_end source at (lexeme_of token) follows (subst (format.ends source) (sym rest.cuts) rest.rest))
+    rest_first at token [] follows within rest = absurd (exact.no_token_at_end source at token follows (subst (format.ends source) (sym rest.cuts) rest.rest))
     rest_first at token (lexeme ∷ others) follows within rest =
-        let same : lexeme ≡ lexeme_of token = exact.one_token source at lexeme (lexeme_of token) rest.cuts.0 follows in
+        let same : lexeme ≡ token = exact.one_token source at lexeme token rest.cuts.0 follows in
         let left : IsLeft format source (Some token) (lexeme ∷ others) = record {
           others = others;
           split = ap (λ first. first ∷ others) same;
@@ -49,11 +50,17 @@ module _ {Kind : Type 0} (format : Format Kind) (source : List ℕ) where
     rest_none at [] ends rest = record { are_left = refl; only = λ others again. sym again }
     rest_none at (lexeme ∷ others) ends rest = absurd (exact.no_token_at_end source at lexeme rest.cuts.0 ends)
 
+    -- the same of a token that may have been told
+    pub told_first : (at : ℕ) (next : Option (Token Kind)) → IfSome next (λ token. format.follows source at (lexeme_of token)) → IfSome next (λ token. IsPartBehind source at token.span)
+        → IfSome next (λ token. (lexemes : List (Lexeme Kind)) → IsRest format source at lexemes → IsAllLeft format source (Some (lexeme_of token)) lexemes)
+    told_first at None follows part = tt
+    told_first at (Some token) follows part = λ lexemes rest. rest_first at (lexeme_of token) lexemes follows part.within rest
+
     -- what comes next is all that is left
     pub rest_next : (at : ℕ) (next : Option (Token Kind)) → IfSome next (λ token. format.follows source at (lexeme_of token)) → IfSome next (λ token. IsPartBehind source at token.span)
-        → IfNone next (format.ends source at) → (lexemes : List (Lexeme Kind)) → IsRest format source at lexemes → IsAllLeft format source next lexemes
+        → IfNone next (format.ends source at) → (lexemes : List (Lexeme Kind)) → IsRest format source at lexemes → IsAllLeft format source (option_map lexeme_of next) lexemes
     rest_next at None follows part ends lexemes rest = rest_none at lexemes ends rest
-    rest_next at (Some token) follows part ends lexemes rest = rest_first at token lexemes follows part.within rest
+    rest_next at (Some token) follows part ends lexemes rest = rest_first at (lexeme_of token) lexemes follows part.within rest
 
     -- where the rest can be cut, there is no fault
     no_fault : (at : ℕ) (lexemes : List (Lexeme Kind)) (fault : TextFault) → format.faults source at fault → IsRest format source at lexemes → ⊥
@@ -64,7 +71,7 @@ module _ {Kind : Type 0} (format : Format Kind) (source : List ℕ) where
     pub rest_faultless : (at : ℕ) (fault : TextFault) → format.faults source at fault → ∥ ((lexemes : List (Lexeme Kind)) × IsRest format source at lexemes) ∥₁ → ⊥
     rest_faultless at fault faults some = ∥∥₁_elim some (λ one other. absurd one) (λ rest. no_fault at rest.0 fault faults rest.1)
 
-  module _ (kind : Coded Kind) (next : Option (Token Kind)) (left : Left format source next) where
+  module _ (kind : Coded Kind) (next : Option (Lexeme Kind)) (left : Left format source next) where
     -- lists of tokens are equal in one way
     lists_set : (one other : List (Lexeme Kind)) → IsProp (one ≡ other)
     lists_set one other = Coded-set (coded_list (lexeme_code kind)) one other
@@ -82,32 +89,47 @@ module _ {Kind : Type 0} (format : Format Kind) (source : List ℕ) where
     left_none is = ∥∥₁_elim left.all_left (lists_set left.lexemes []) (λ all. subst (λ n. IsLeft format source n left.lexemes) is all.are_left)
 
     -- the next token is the first
-    pub left_some : (token : Token Kind) → next ≡ Some token → left.lexemes ≡ lexeme_of token ∷ drop 1 left.lexemes
-    left_some token is = ∥∥₁_elim left.all_left (lists_set left.lexemes (lexeme_of token ∷ drop 1 left.lexemes))
+    pub left_some : (token : Lexeme Kind) → next ≡ Some token → left.lexemes ≡ token ∷ drop 1 left.lexemes
+    left_some token is = ∥∥₁_elim left.all_left (lists_set left.lexemes (token ∷ drop 1 left.lexemes))
         (λ all. let first : IsNext format source token left.lexemes = subst (λ n. IsLeft format source n left.lexemes) is all.are_left in
-        first.split ∙ ap (λ others. lexeme_of token ∷ others) (sym (ap (drop 1) first.split)))
+        first.split ∙ ap (λ others. token ∷ others) (sym (ap (drop 1) first.split)))
 
     -- and stands within the text
-    pub left_within : (token : Token Kind) → next ≡ Some token → token.span.end ≤ length source
+    pub left_within : (token : Lexeme Kind) → next ≡ Some token → token.span.end ≤ length source
     left_within token is = ∥∥₁_elim left.all_left le_prop
         (λ all. let first : IsNext format source token left.lexemes = subst (λ n. IsLeft format source n left.lexemes) is all.are_left in first.within)
 
     -- behind it the others are the rest
-    pub left_behind : (token : Token Kind) → next ≡ Some token → ∥ IsRest format source token.span.end (drop 1 left.lexemes) ∥₁
+    pub left_behind : (token : Lexeme Kind) → next ≡ Some token → ∥ IsRest format source token.span.end (drop 1 left.lexemes) ∥₁
     left_behind token is = ∥∥₁_map left.all_left
         (λ (all : IsAllLeft format source next left.lexemes).
         let first : IsNext format source token left.lexemes = subst (λ n. IsLeft format source n left.lexemes) is all.are_left in
         subst (IsRest format source token.span.end) (sym (ap (drop 1) first.split)) first.behind)
 
     -- the place of the next token is its own
-    pub place_some : (token : Token Kind) (size : ℕ) → next ≡ Some token → token.span.start ≡ next_place left.lexemes size
+    pub place_some : (token : Lexeme Kind) (size : ℕ) → next ≡ Some token → token.span.start ≡ next_place left.lexemes size
     place_some token size is = sym (ap (λ lexemes. next_place lexemes size) (left_some token is))
 
     -- and where none is next, the length of the text
     pub place_none : (size : ℕ) → next ≡ None → size ≡ next_place left.lexemes size
     place_none size is = sym (ap (λ lexemes. next_place lexemes size) (left_none is))
 
-  -- the next token is the first of those that are left
-  pub look_first : Coded Kind → (next : Option (Token Kind)) (left : Left format source next) → option_map lexeme_of next ≡ slice_get left.lexemes 0
-  look_first kind None left = sym (ap (λ lexemes. slice_get lexemes 0) (left_none kind None left refl))
-  look_first kind (Some token) left = sym (ap (λ lexemes. slice_get lexemes 0) (left_some kind (Some token) left token refl))
+  -- the same where the next token is known by its parts
+  module _ (coded : Coded Kind) (kind : Option Kind) (text : List ℕ) (value : ℕ) (span : Span) (left : Left format source (next_of kind text value span)) where
+    next_is : (some : Kind) → kind ≡ Some some → next_of kind text value span ≡ Some (record { kind = some; text = text; value = value; span = span })
+    next_is some is = ap (λ (one : Option Kind). next_of one text value span) is
+
+    next_none : kind ≡ None → next_of kind text value span ≡ None
+    next_none is = ap (λ (one : Option Kind). next_of one text value span) is
+
+    pub parts_within : (some : Kind) → kind ≡ Some some → span.end ≤ length source
+    parts_within some is = left_within coded _ left _ (next_is some is)
+
+    pub parts_behind : (some : Kind) → kind ≡ Some some → ∥ IsRest format source span.end (drop 1 left.lexemes) ∥₁
+    parts_behind some is = left_behind coded _ left _ (next_is some is)
+
+    pub parts_none : kind ≡ None → left.lexemes ≡ []
+    parts_none is = left_none coded _ left (next_none is)
+
+    pub parts_first : (some : Kind) → kind ≡ Some some → Some (record { kind = some; text = text; value = value; span = span }) ≡ slice_get left.lexemes 0
+    parts_first some is = sym (ap (λ lexemes. slice_get lexemes 0) (left_some coded _ left _ (next_is some is)))

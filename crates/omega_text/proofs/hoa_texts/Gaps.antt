@@ -1,10 +1,11 @@
 -- Gaps, and what follows them.
-use Rattle.std.proofs.Common.{◌≡◌, ℕ, ◌+◌, ◌≤◌, Some, None, List, [], ◌++◌, length, take, drop, refl, sym, ap, ◌∙◌, subst, arith, append_assoc, append-nil, length-append, length-take-le}
-use Rattle.std.proofs.lemmas.List.{drop-drop, drop_all, take-append-drop}
+use Rattle.std.proofs.Common.{◌≡◌, ℕ, ◌+◌, ◌<◌, ◌≤◌, true, inl, Some, None, List, [], ◌∷◌, ◌++◌, length, get_or, take, drop, refl, sym, ap, ◌∙◌, subst, arith, add-zero, append_assoc, append-nil, length-append, length-drop, length-take-le}
+use Rattle.std.proofs.lemmas.List.{drop-drop, drop_all, get_or-drop, take-append-drop, take_more}
+use Rattle.omega_text.specs.Bytes.{is_white}
 use Rattle.omega_text.specs.Lexeme.{lexeme_at}
 use Rattle.omega_text.specs.declared.hoa.kind.HoaKind.{HoaKind}
 use Rattle.omega_text.specs.declared.refusal.text.TextFault.{TextFault}
-use Rattle.omega_text.specs.hoa.Cut.{Ends, Follows, IsGap}
+use Rattle.omega_text.specs.hoa.Cut.{Ends, Follows, IsGap, IsGapTo}
 use Rattle.omega_text.specs.hoa.Cut.IsGap.{blank, nothing}
 use Rattle.omega_text.specs.hoa.Fault.{Faults, IsFaultOf}
 use Rattle.omega_text.specs.hoa.Forms.{IsBlank}
@@ -49,3 +50,22 @@ module _ (source gap : List ℕ) (at start : ℕ) (split : drop at source ≡ ga
   -- no token follows
   pub gap_faults : (fault : TextFault) → IsFaultOf (drop start source) start fault → Faults source at fault
   gap_faults fault there = record { gap = gap; bytes = drop start source; split = split; passed = passed; fault_there = subst (λ n. IsFaultOf (drop start source) n fault) place there }
+
+-- a gap with one white byte more
+pub white_more : (source : List ℕ) (at to : ℕ) → IsGapTo source at to → to < length source → is_white (get_or source to 0) ≡ true → IsGapTo source at (to + 1)
+white_more source at to before inside white =
+    let bytes = drop to source in
+    let size = length-drop to source in
+    let some : 0 < length bytes = omega (arith, size, inside) in
+    let one : take 1 bytes ≡ get_or source to 0 ∷ [] = take_more bytes 0 0 some ∙ ap (λ byte. byte ∷ []) (get_or-drop to source 0 0 ∙ ap (λ k. get_or source k 0) (add-zero to)) in
+    record {
+      gap = before.gap ++ take 1 bytes;
+      split = blank_split source before.gap at to before.split before.passed before.place 1;
+      passed = gap_more before.gap (take 1 bytes) before.passed (inl (get_or source to 0, one, white));
+      place = blank_place source before.gap at to before.split before.passed before.place 1 (omega (arith, some));
+      within = omega (arith, inside);
+    }
+
+-- no bytes are a gap
+pub gap_here : (source : List ℕ) (at : ℕ) → at ≤ length source → IsGapTo source at at
+gap_here source at within = record { gap = []; split = refl; passed = nothing; place = omega arith; within = within }

@@ -1,20 +1,18 @@
 -- Units that a first byte and a run of bytes behind it tell.
-use Rattle.std.proofs.Common.{◌≡◌, ℕ, suc, ◌+◌, ◌-◌, ◌<◌, ◌≤◌, Bool, true, false, Some, List, [], ◌∷◌, ◌++◌, length, get_or, take, drop, refl, sym, ap, ◌∙◌, subst, arith, length-drop, length-take-le}
-use Rattle.std.proofs.lemmas.List.{drop-drop, get_or-drop, get_or-take, take-append-drop, take_more}
+use Rattle.std.proofs.Common.{◌≡◌, ℕ, suc, ◌+◌, ◌-◌, ◌<◌, ◌≤◌, Bool, true, false, Some, List, [], ◌∷◌, length, get_or, take, drop, refl, sym, ap, ◌∙◌, subst, arith, length-drop, length-take-le}
+use Rattle.std.proofs.lemmas.List.{get_or-drop, get_or-take, take_more}
 use Rattle.std.proofs.lemmas.List.Sums.{prefix_len-le-length, prefix_len_is, prefix_len_passes, prefix_len_stops}
 use Rattle.std.specs.List.{AllPass, prefix_len}
-use Rattle.omega_text.specs.Bytes.{is_digit, is_white, is_word_byte}
+use Rattle.omega_text.specs.Bytes.{is_digit, is_word_byte}
 use Rattle.omega_text.specs.declared.hoa.kind.HoaKind.TheVariants.{AliasName, Int, String, Body, End, Abort}
 use Rattle.omega_text.specs.declared.hoa.kind.HoaKind.{HoaKind}
 use Rattle.omega_text.specs.declared.hoa.mode.Mode.TheVariants.{Start, Alias, Digits, Quoted, Whole}
 use Rattle.omega_text.specs.Limits.{most_number}
-use Rattle.omega_text.specs.hoa.Cut.{IsGapTo}
 use Rattle.omega_text.specs.hoa.Forms.{Spells, spelling}
 use Rattle.omega_text.specs.hoa.scanning.Modes.{BeginsAs, IsFirstUnit, IsScanned, first_mode, next_mode, run}
 use Rattle.omega_text.specs.hoa.scanning.Passing.{is_mark, is_quoted}
 use Rattle.omega_text.proofs.pg_texts.Longest.{head, head-take}
 use Rattle.omega_text.proofs.pg_texts.Numbers.{worth_small}
-use Rattle.omega_text.proofs.hoa_texts.Laws.{white_gap}
 use Rattle.omega_text.proofs.hoa_texts.Passing.{quoted_front}
 use Rattle.omega_text.proofs.hoa_texts.Runs.{run_append}
 use Rattle.omega_text.proofs.hoa_texts.Tests.{pass}
@@ -27,21 +25,6 @@ run_passes : (test : ℕ → Bool) (bytes : List ℕ) → AllPass test (take (pr
 run_passes test bytes k d inside =
     let size = length-take-le (prefix_len test bytes) bytes (prefix_len-le-length test bytes) in
     ap test (get_or-take (prefix_len test bytes) bytes k d (omega arith)) ∙ prefix_len_passes test bytes k d (omega arith)
-
--- white bytes are a gap
-pub white_gap_to : (source rest : List ℕ) (at count : ℕ) → at ≤ length source → rest ≡ drop at source → count ≡ prefix_len is_white rest → IsGapTo source at (at + count)
-white_gap_to source rest at count within is prefix =
-    let gap = take count rest in
-    let short = prefix_len-le-length is_white rest in
-    let size = length-drop at source in
-    let same : length rest ≡ length (drop at source) = ap length is in
-    record {
-      gap = gap;
-      split = sym is ∙ sym (take-append-drop count rest) ∙ ap (λ bytes. gap ++ drop count bytes) is ∙ ap (λ bytes. gap ++ bytes) (drop-drop count at source);
-      passed = white_gap gap (subst (λ n. AllPass is_white (take n rest)) (sym prefix) (run_passes is_white rest));
-      place = let long = length-take-le count rest (omega (arith, prefix, short)) in omega arith;
-      within = omega (arith, prefix, short, same, size);
-    }
 
 -- a quote, and bytes of a string
 quote_front : (bytes : List ℕ) → head bytes ≡ 34 → run (Some Start) (take (1 + prefix_len is_quoted (drop 1 bytes)) bytes) ≡ Some Quoted

@@ -6,7 +6,7 @@ ghost use Rattle.omega_text.specs.hoa.Fault.{Faults};
 
 use super::kind::HoaKind;
 use super::unit::{first_unit, plain_unit};
-use crate::bytes::{tail, white_count};
+use crate::bytes::{is_white, tail};
 use crate::refusal::TextFault;
 use crate::token::{Span, Token};
 
@@ -24,18 +24,28 @@ pub fn next_hoa_token(source: &[u8], at: usize) -> Result<Option<Token<'_, HoaKi
     ensures lexical { IfErr result IsLexical }
     ensures progress { IfOk result (λ found. IfSome found (λ token. IsPartBehind source.now at token.span)) }
 {
+    match plain_hoa_token(source, at) {
+        Some(token) => Ok(Some(token)),
+        None => next_later(source, at),
+    }
+}
+
+/// The next token from a place on, if white bytes alone stand before it and its first byte and a run of bytes behind it tell
+/// it.
+#[inline(always)]
+pub(super) fn plain_hoa_token(source: &[u8], at: usize) -> Option<Token<'_, HoaKind>>
+    requires { at ≤ length source.now }
+    ensures token { IfSome result (λ token. Follows source.now at (lexeme_of token)) }
+    ensures progress { IfSome result (λ token. IsPartBehind source.now at token.span) }
+{
     let start = white_end(source, at);
     if start == source.len() {
-        return Ok(None);
+        return None;
     }
     let bytes = tail(source, start);
-    if let Some(unit) = plain_unit(bytes) {
-        if let Some(kind) = unit.kind {
-            let token = front_token(bytes, start, kind, unit.value, unit.count);
-            return Ok(Some(token));
-        }
-    }
-    next_later(source, at, start)
+    let unit = plain_unit(bytes)?;
+    let kind = unit.kind?;
+    Some(front_token(bytes, start, kind, unit.value, unit.count))
 }
 
 /// Where the white bytes end that stand at a place.
@@ -44,44 +54,40 @@ fn white_end(source: &[u8], at: usize) -> usize
     requires { at ≤ length source.now }
     ensures { IsGapTo source.now at result }
 {
-    at + white_count(tail(source, at))
+    let mut end = at;
+    while end < source.len() && is_white(source[end]) {
+        end += 1;
+    }
+    end
 }
 
 /// What `next_behind` gives. Its result stands in memory of its own, so that a token that is read before it need not.
 #[inline(always)]
-fn next_later(
-    source: &[u8],
-    at: usize,
-    passed: usize,
-) -> Result<Option<Token<'_, HoaKind>>, TextFault>
-    requires { IsGapTo source.now at passed }
+fn next_later(source: &[u8], at: usize) -> Result<Option<Token<'_, HoaKind>>, TextFault>
+    requires { at ≤ length source.now }
     ensures token { IfOk result (λ found. IfSome found (λ token. Follows source.now at (lexeme_of token))) }
     ensures end { IfOk result (λ found. IfNone found (Ends source.now at)) }
     ensures fault { IfErr result (Faults source.now at) }
     ensures lexical { IfErr result IsLexical }
     ensures progress { IfOk result (λ found. IfSome found (λ token. IsPartBehind source.now at token.span)) }
 {
-    match next_behind(source, at, passed) {
+    match next_behind(source, at) {
         Ok(found) => Ok(found),
         Err(fault) => Err(fault),
     }
 }
 
-/// The next token from a place on, behind a gap there that has been passed. Whatever follows, it is read.
+/// The next token from a place on, whatever follows there.
 #[inline(never)]
-fn next_behind(
-    source: &[u8],
-    at: usize,
-    passed: usize,
-) -> Result<Option<Token<'_, HoaKind>>, TextFault>
-    requires { IsGapTo source.now at passed }
+fn next_behind(source: &[u8], at: usize) -> Result<Option<Token<'_, HoaKind>>, TextFault>
+    requires { at ≤ length source.now }
     ensures token { IfOk result (λ found. IfSome found (λ token. Follows source.now at (lexeme_of token))) }
     ensures end { IfOk result (λ found. IfNone found (Ends source.now at)) }
     ensures fault { IfErr result (Faults source.now at) }
     ensures lexical { IfErr result IsLexical }
     ensures progress { IfOk result (λ found. IfSome found (λ token. IsPartBehind source.now at token.span)) }
 {
-    let mut start = passed;
+    let mut start = at;
     while start < source.len() {
         let bytes = tail(source, start);
         let unit = first_unit(bytes, start)?;

@@ -14,5 +14,13 @@ impl TokenKind for PgKind {
         next_pg_token(source, at)
     }
 
+    #[inline(always)]
+    fn plain_token(source: &[u8], at: usize) -> Option<Token<'_, PgKind>> {
+        match next_pg_token(source, at) {
+            Ok(found) => found,
+            Err(_) => None,
+        }
+    }
+
     fn goes_on_one_way() {}
 }

@@ -3,8 +3,11 @@ use Rattle.std.proofs.Common.{◌++◌, drop, take, sym, subst, arith, length-dr
 use Rattle.omega_text.specs.Lexeme.{lexeme_at}
 use Rattle.omega_text.specs.hoa.Cut.{Follows}
 use Rattle.omega_text.specs.hoa.scanning.Modes.{IsFirstUnit}
-use Rattle.omega_text.proofs.hoa_texts.Gaps.{blank_passed, blank_place, blank_split, unit_follows}
+use Rattle.omega_text.proofs.hoa_texts.Gaps.{blank_passed, blank_place, blank_split, gap_here, unit_follows}
 use Rattle.omega_text.proofs.hoa.token.next_behind.Goals as goal
+
+pub loop-start-init : goal.loop-start-init
+loop-start-init c = gap_here c.args.source.now c.args.at c.requires
 
 pub returns-in-Some-clause-token : goal.returns-in-Some-clause-token
 returns-in-Some-clause-token c =

@@ -1,10 +1,11 @@
--- The white bytes that are counted are a gap.
-use Rattle.std.proofs.Common.{arith}
-use Rattle.omega_text.proofs.hoa_texts.Plain.{white_gap_to}
+-- Each white byte makes the gap longer.
+use Rattle.std.proofs.Common.{sym, ◌∙◌}
+use Rattle.omega_text.proofs.hoa_texts.Gaps.{gap_here, white_more}
 use Rattle.omega_text.proofs.hoa.token.white_end.Goals as goal
 
-pub overflow_add-result : goal.overflow_add-result
-overflow_add-result c = omega (arith, (white_gap_to c.args.source.now c.tail.result.now c.args.at c.white_count.result c.requires c.tail.ensures c.white_count.ensures).within)
+pub loop-end-init : goal.loop-end-init
+loop-end-init c = gap_here c.args.source.now c.args.at c.requires
 
-pub returns : goal.returns
-returns c = white_gap_to c.args.source.now c.tail.result.now c.args.at c.white_count.result c.requires c.tail.ensures c.white_count.ensures
+pub loop-end-preserved : goal.loop-end-preserved
+loop-end-preserved c =
+    white_more c.args.source.now c.args.at c.loop-end.end c.loop-end.invariant c.loop-end-test.true (sym c.is_white.ensures ∙ c.if-is_white.true)
