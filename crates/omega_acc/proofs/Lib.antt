@@ -25,7 +25,6 @@ pub mod RawLabelLemmas
 pub mod ReplacedAtLemmas
 pub mod ReadingLemmas
 pub mod ReadingUniqueness
-pub mod StackedTexts
 pub mod TextLemmas
 pub mod TokenLemmas
 pub mod Valuations

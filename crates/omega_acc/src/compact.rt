@@ -1,4 +1,4 @@
-ghost use Rattle.std.specs.Prelude.{◌≡◌, ◌≤◌, ◌++◌, [], ◌∷◌, count_by, false, filter, length, map, take, IfErr, IfOk, IfSome};
+ghost use Rattle.std.specs.Prelude.{◌≡◌, ◌<◌, ◌≤◌, ◌++◌, [], ◌∷◌, Some, count_by, false, filter, length, map, slice_get, take, IfErr, IfOk, IfSome};
 ghost use Rattle.std.specs.List.{list_all, list_any};
 ghost use Rattle.std.specs.Option.{SomeIff};
 ghost use Rattle.omega_acc.specs.Depth.{IsMemory};
@@ -106,6 +106,17 @@ impl Compact {
                 &room[..count]
             }
             Held::Long(notation) => notation.nodes.as_slice(),
+        }
+    }
+
+    /// The node at a place.
+    pub(crate) fn node(&self, at: usize) -> LabelNode
+        requires { at < length self.now.nodes }
+        ensures { slice_get self.now.nodes at ≡ Some result }
+    {
+        match &self.held {
+            Held::Short { count, codes, .. } => decoded(codes[..*count as usize][at]),
+            Held::Long(notation) => notation.nodes.as_slice()[at],
         }
     }
 

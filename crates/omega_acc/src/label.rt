@@ -1,4 +1,4 @@
-ghost use Rattle.std.specs.Prelude.{◌≡◌, ◌≤◌, IfErr, IfOk};
+ghost use Rattle.std.specs.Prelude.{◌≡◌, ◌<◌, ◌≤◌, Some, length, slice_get, IfErr, IfOk};
 ghost use Rattle.omega_acc.specs.Depth.{IsMemory};
 
 use crate::codes::ROOM;
@@ -79,6 +79,14 @@ impl Label {
         ensures { result ≡ tree_of written.nodes }
     {
         Label { written }
+    }
+
+    /// Its node at a place, parts before their operators.
+    pub(crate) fn node(&self, at: usize) -> LabelNode
+        requires { at < length (postfix self.now) }
+        ensures { slice_get (postfix self.now) at ≡ Some result }
+    {
+        self.written.node(at)
     }
 
     /// Its nodes, parts before their operators, in the room where they stand in place.

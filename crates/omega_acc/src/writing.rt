@@ -1,14 +1,14 @@
 //! Labels and acceptance formulas in their canonical text.
 
-ghost use Rattle.std.specs.Prelude.{◌≡◌, ◌++◌, IfErr, OnErr, OnOk};
+ghost use Rattle.std.specs.Prelude.{◌≡◌, ◌++◌, [], IfErr, OnErr, OnOk};
 ghost use Rattle.omega_acc.specs.Depth.{IsMemory};
 ghost use Rattle.omega_acc.specs.Writing.{acc_text, label_text};
-ghost use Rattle.omega_acc.specs.layout.Texts.{acc_texts_behind, texts_behind};
+ghost use Rattle.omega_acc.specs.layout.Label.{postfix};
+ghost use Rattle.omega_acc.specs.layout.Texts.{acc_texts_behind, texts_behind, whole_text};
 
 use crate::acc::{Acc, AccNode};
-use crate::codes::ROOM;
+use crate::backward::Backward;
 use crate::label::{Label, LabelNode};
-use crate::texts::Texts;
 use omega_text::Refusal;
 
 /// Appends the canonical text of a label: no spaces, and parentheses only where an operator needs them. After refusal 60
@@ -19,10 +19,9 @@ pub fn write_label(label: &Label, out: &mut Vec<u8>) -> Result<(), Refusal>
     ensures err { IfErr result IsMemory }
 {
     let alloc = *out.allocator();
-    let mut texts = Texts::new(alloc);
-    let mut room = ROOM;
-    put_label(&mut texts, label.nodes(&mut room))?;
-    out.extend_from_slice(texts.top())?;
+    let mut text = Backward::new(alloc);
+    put_label(&mut text, label)?;
+    text.append_to(out)?;
     Ok(())
 }
 
@@ -34,42 +33,47 @@ pub fn write_acc(formula: &Acc, out: &mut Vec<u8>) -> Result<(), Refusal>
     ensures err { IfErr result IsMemory }
 {
     let alloc = *out.allocator();
-    let mut texts = Texts::new(alloc);
-    put_formula(&mut texts, formula.nodes())?;
-    out.extend_from_slice(texts.top())?;
+    let mut text = Backward::new(alloc);
+    put_formula(&mut text, formula.nodes())?;
+    text.append_to(out)?;
     Ok(())
 }
 
-/// Puts the texts that the nodes of a label make of those before them.
-fn put_label(texts: &mut Texts, nodes: &[LabelNode]) -> Result<(), Refusal>
-    ensures ok { OnOk result (texts.new ≡ texts_behind texts.old nodes.now) }
+/// Writes the nodes of a label before what is written.
+fn put_label(text: &mut Backward, label: &Label) -> Result<(), Refusal>
+    ensures ok { OnOk result (whole_text text.new [] ≡ whole_text text.old (texts_behind [] (postfix label.now))) }
     ensures err { IfErr result IsMemory }
 {
-    for node in nodes {
-        match node {
-            LabelNode::Constant(value) => texts.truth(*value)?,
-            LabelNode::Proposition(number) => texts.number(*number)?,
-            LabelNode::Not => texts.negate()?,
-            LabelNode::And => texts.join(2, b'&')?,
-            LabelNode::Or => texts.join(1, b'|')?,
-            LabelNode::Alias(_) | LabelNode::Group => {}
+    let mut left = label.size();
+    while left > 0 {
+        left -= 1;
+        match label.node(left) {
+            LabelNode::Constant(value) => text.truth(value)?,
+            LabelNode::Proposition(number) => text.number(number)?,
+            LabelNode::Not => text.negate()?,
+            LabelNode::And => text.and()?,
+            LabelNode::Or => text.or()?,
+            LabelNode::Alias(_) => {}
+            LabelNode::Group => {}
         }
     }
     Ok(())
 }
 
-/// Puts the texts that the nodes of a formula make of those before them.
-fn put_formula(texts: &mut Texts, nodes: &[AccNode]) -> Result<(), Refusal>
-    ensures ok { OnOk result (texts.new ≡ acc_texts_behind texts.old nodes.now) }
+/// Writes the nodes of a formula before what is written.
+fn put_formula(text: &mut Backward, nodes: &[AccNode]) -> Result<(), Refusal>
+    ensures ok { OnOk result (whole_text text.new [] ≡ whole_text text.old (acc_texts_behind [] nodes.now)) }
     ensures err { IfErr result IsMemory }
 {
-    for node in nodes {
+    let mut left = nodes;
+    while let Some((node, before)) = left.split_last() {
+        left = before;
         match node {
-            AccNode::Constant(value) => texts.truth(*value)?,
-            AccNode::Inf(negated, set) => texts.set(b"Inf".as_slice(), *negated, *set)?,
-            AccNode::Fin(negated, set) => texts.set(b"Fin".as_slice(), *negated, *set)?,
-            AccNode::And => texts.join(2, b'&')?,
-            AccNode::Or => texts.join(1, b'|')?,
+            AccNode::Constant(value) => text.truth(*value)?,
+            AccNode::Inf(negated, set) => text.set(b"Inf".as_slice(), *negated, *set)?,
+            AccNode::Fin(negated, set) => text.set(b"Fin".as_slice(), *negated, *set)?,
+            AccNode::And => text.and()?,
+            AccNode::Or => text.or()?,
         }
     }
     Ok(())

@@ -1,26 +1,14 @@
--- The texts that nodes in postfix order leave, and how they lie in one buffer.
-use Rattle.std.specs.Prelude.{◌≡◌, ℕ, Bool, List, [], ◌∷◌, ◌++◌, codes, decimal, drop, min, take}
+-- The texts that nodes in postfix order leave, and how they are made from the end.
+use Rattle.std.specs.Prelude.{ℕ, List, [], ◌∷◌, ◌++◌, Option, Some, None, codes, decimal, min, nat_lt}
 use Rattle.omega_acc.specs.Writing.{Text, atom_text, bracketed, joined_text, negated_text, set_text, truth_text}
-use Rattle.omega_acc.specs.declared.texts.Part.{Part}
 use Rattle.omega_acc.specs.declared.acc.AccNode.{AccNode}
 use Rattle.omega_acc.specs.declared.acc.AccNode.TheVariants as acc
+use Rattle.omega_acc.specs.declared.backward.Backward.{Backward}
 use Rattle.omega_acc.specs.declared.label.LabelNode.{LabelNode}
 use Rattle.omega_acc.specs.declared.label.LabelNode.TheVariants.{Alias, And, Constant, Group, Not, Or, Proposition}
-
--- the texts of parts, the last first, in the bytes of all
-abbrev pub texts_in : List ℕ → List Part → List Text
-texts_in bytes [] = []
-texts_in bytes (part ∷ parts) = record { rank = part.rank; bytes = drop part.start bytes } ∷ texts_in (take part.start bytes) parts
-
--- the part on top was taken, begun no later than a place; where there was none, an empty one there
-abbrev pub IsPartBefore : List Part → ℕ → Part → List Part → Type 0
-IsPartBefore [] stop part new = (new ≡ []) × (part.start ≡ stop) × (part.rank ≡ 3)
-IsPartBefore (top ∷ below) stop part new = (new ≡ below) × (part.start ≡ min top.start stop) × (part.rank ≡ top.rank)
-
--- bytes with an operator before those from `right` on, and those from `left` up to there in parentheses or not
-abbrev pub joined_bytes : Bool → ℕ → ℕ → ℕ → List ℕ → List ℕ
-joined_bytes within left right sign bytes =
-    take left (take right bytes) ++ (bracketed within (drop left (take right bytes)) ++ sign ∷ drop right bytes)
+use Rattle.omega_acc.specs.declared.signs.Sign.{Sign}
+use Rattle.omega_acc.specs.declared.signs.Sign.TheVariants.{Open}
+use Rattle.omega_acc.specs.declared.signs.Sign.TheVariants as sign
 
 -- the text on top, empty where there is none
 abbrev pub top_text : List Text → Text
@@ -31,6 +19,34 @@ top_text (text ∷ texts) = text
 abbrev pub texts_below : List Text → List Text
 texts_below [] = []
 texts_below (text ∷ texts) = texts
+
+-- how a sign is written
+abbrev pub sign_byte : Sign → ℕ
+sign_byte Open = 40
+sign_byte sign.Not = 33
+sign_byte sign.And = 38
+sign_byte sign.Or = 124
+
+-- the bytes of the text on top, in parentheses if it binds less tightly than is wanted, which is never more tightly than an atom
+abbrev pub top_bytes : ℕ → List Text → List ℕ
+top_bytes rank texts = bracketed (nat_lt (top_text texts).rank (min rank 3)) (top_text texts).bytes
+
+-- what stands before a part that is written, where these signs wait and these texts are the parts before it
+abbrev pub before_text : List Sign → List Text → List ℕ
+before_text [] texts = []
+before_text (Open ∷ signs) texts = before_text signs texts ++ 40 ∷ []
+before_text (sign.Not ∷ signs) texts = before_text signs texts ++ 33 ∷ []
+before_text (sign.And ∷ signs) texts = before_text signs (texts_below texts) ++ (top_bytes 2 texts ++ 38 ∷ [])
+before_text (sign.Or ∷ signs) texts = before_text signs (texts_below texts) ++ (top_bytes 1 texts ++ 124 ∷ [])
+
+-- what is still to be written, where a part that binds so tightly is wanted, or none
+abbrev pub left_text : Option ℕ → List Sign → List Text → List ℕ
+left_text None signs texts = before_text signs []
+left_text (Some rank) signs texts = before_text signs (texts_below texts) ++ top_bytes rank texts
+
+-- the whole text, where these texts are the parts that come
+abbrev pub whole_text : Backward → List Text → List ℕ
+whole_text backward texts = left_text backward.wanted backward.waiting texts ++ backward.bytes
 
 -- the texts that a label's nodes leave of those before them
 abbrev pub texts_behind : List Text → List LabelNode → List Text

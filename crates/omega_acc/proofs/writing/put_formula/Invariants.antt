@@ -1,7 +1,10 @@
--- The texts so far and the nodes that are left make the texts.
-use Rattle.std.proofs.Common.{◌≡◌, drop}
-use Rattle.omega_acc.specs.layout.Texts.{acc_texts_behind}
+-- The nodes that are left make the rest of the text.
+use Rattle.std.proofs.Common.{◌≡◌, [], length}
+use Rattle.omega_acc.specs.layout.Texts.{acc_texts_behind, whole_text}
 use Rattle.omega_acc.proofs.writing.put_formula.Given as goal
 
 abbrev pub invariant-loop-node : goal.invariant-loop-node
-invariant-loop-node l = acc_texts_behind l.texts (drop l.node-index l.nodes) ≡ acc_texts_behind l.fn.texts l.nodes
+invariant-loop-node l = whole_text l.text (acc_texts_behind [] l.left) ≡ whole_text l.fn.text (acc_texts_behind [] l.fn.nodes)
+
+abbrev pub decreases-loop-node : goal.decreases-loop-node
+decreases-loop-node l = length l.left

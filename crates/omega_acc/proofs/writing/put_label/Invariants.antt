@@ -1,7 +1,11 @@
--- The texts so far and the nodes that are left make the texts.
-use Rattle.std.proofs.Common.{◌≡◌, drop}
-use Rattle.omega_acc.specs.layout.Texts.{texts_behind}
+-- The nodes that are left make the rest of the text.
+use Rattle.std.proofs.Common.{◌≡◌, ◌≤◌, [], length, take}
+use Rattle.omega_acc.specs.layout.Label.{postfix}
+use Rattle.omega_acc.specs.layout.Texts.{texts_behind, whole_text}
 use Rattle.omega_acc.proofs.writing.put_label.Given as goal
 
-abbrev pub invariant-loop-node : goal.invariant-loop-node
-invariant-loop-node l = texts_behind l.texts (drop l.node-index l.nodes) ≡ texts_behind l.fn.texts l.nodes
+abbrev pub invariant-loop-left : goal.invariant-loop-left
+invariant-loop-left l = (l.left ≤ length (postfix l.label)) × (whole_text l.text (texts_behind [] (take l.left (postfix l.label))) ≡ whole_text l.fn.text (texts_behind [] (postfix l.label)))
+
+abbrev pub decreases-loop-left : goal.decreases-loop-left
+decreases-loop-left l = l.left

@@ -1,13 +1,14 @@
--- The text on top is put behind.
-use Rattle.std.proofs.Common.{◌++◌, ap, ◌∙◌}
+-- The whole text is put behind.
+use Rattle.std.proofs.Common.{[], ◌++◌, ap, ◌∙◌}
 use Rattle.omega_acc.specs.Writing.{Text}
+use Rattle.omega_acc.specs.layout.Texts.{acc_texts_behind}
 use Rattle.omega_acc.proofs.TextLemmas.{top_of-formula}
 use Rattle.omega_acc.proofs.writing.write_acc.Goals as goal
 
 pub returns-clause-ok : goal.returns-clause-ok
 returns-clause-ok c =
-    c.in_ok-extend_from_slice.ensures.items
+    c.in_ok-append_to.ensures.ok
     ∙ ap (λ bytes. c.args.out.now.items ++ bytes)
-    (c.top.ensures
-    ∙ ap (λ (text : Text). text.bytes)
-    (top_of-formula c.args.formula.now c.new-texts.result c.put_formula.new.texts _ c.new-texts.ensures c.nodes.ensures c.in_ok-put_formula.ensures.ok))
+    (c.in_ok-put_formula.ensures.ok
+    ∙ (c.new-text.ensures (acc_texts_behind [] c.nodes.result.now)
+    ∙ ap (λ (text : Text). text.bytes) (top_of-formula c.args.formula.now _ c.nodes.ensures)))

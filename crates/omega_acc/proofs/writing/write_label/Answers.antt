@@ -1,13 +1,14 @@
--- The text on top is put behind.
-use Rattle.std.proofs.Common.{◌++◌, ap, ◌∙◌}
-use Rattle.omega_acc.specs.Writing.{Text}
-use Rattle.omega_acc.proofs.TextLemmas.{top_of-label}
+-- The whole text is put behind.
+use Rattle.std.proofs.Common.{[], ◌++◌, ap, ◌∙◌}
+use Rattle.omega_acc.specs.layout.Label.{postfix}
+use Rattle.omega_acc.specs.layout.Texts.{texts_behind, top_text}
+use Rattle.omega_acc.proofs.TextLemmas.{texts_behind-label}
 use Rattle.omega_acc.proofs.writing.write_label.Goals as goal
 
 pub returns-clause-ok : goal.returns-clause-ok
 returns-clause-ok c =
-    c.in_ok-extend_from_slice.ensures.items
+    c.in_ok-append_to.ensures.ok
     ∙ ap (λ bytes. c.args.out.now.items ++ bytes)
-    (c.top.ensures
-    ∙ ap (λ (text : Text). text.bytes)
-    (top_of-label c.args.label.now c.new-texts.result c.put_label.new.texts _ c.new-texts.ensures c.nodes.ensures.nodes c.in_ok-put_label.ensures.ok))
+    (c.in_ok-put_label.ensures.ok
+    ∙ (c.new-text.ensures (texts_behind [] (postfix c.args.label.now))
+    ∙ ap (λ texts. (top_text texts).bytes) (texts_behind-label c.args.label.now)))

@@ -1,0 +1,226 @@
+ghost use Rattle.std.specs.Prelude.{◌≡◌, ◌∷◌, ◌++◌, [], Some, decimal, IfErr, List, OnErr, OnOk};
+ghost use Rattle.omega_acc.specs.Depth.{IsMemory};
+ghost use Rattle.omega_acc.specs.Writing.{Text, atom_text, joined_text, negated_text, set_text, truth_text};
+ghost use Rattle.omega_acc.specs.declared.signs.Sign.TheVariants.{Open};
+ghost use Rattle.omega_acc.specs.layout.Texts.{before_text, sign_byte, texts_below, top_text, whole_text};
+
+use crate::leftward::Leftward;
+use crate::signs::{Sign, Signs};
+use itoa::Buffer;
+use omega_text::Refusal;
+use std::alloc::Global;
+
+/// The text of an expression, made from its last node to its first and from its last byte to its first: whether a part stands
+/// in parentheses is known where its operator is met, which is before any of its bytes, and so no byte moves.
+///
+/// Up to 64 bytes and 24 signs take no memory.
+#[derive(Drop)]
+pub(crate) struct Backward {
+    /// The bytes so far, which are the end of the text.
+    bytes: Leftward,
+    waiting: Signs,
+    /// How tightly the part has to bind that comes next, to stand without parentheses: 1 for `|`, 2 for `&`, 3 for the rest.
+    /// None where the text is whole.
+    wanted: Option<u32>,
+}
+
+impl Backward {
+    /// No part has been written.
+    pub(crate) fn new(alloc: Global) -> Self
+        ensures { (texts : List Text) → whole_text result texts ≡ (top_text texts).bytes }
+    {
+        Backward {
+            bytes: Leftward::new(alloc),
+            waiting: Signs::new(alloc),
+            wanted: Some(0),
+        }
+    }
+
+    /// Writes `t` or `f`.
+    pub(crate) fn truth(&mut self, value: bool) -> Result<(), Refusal>
+        ensures ok { OnOk result ((texts : List Text) → whole_text self.new texts ≡ whole_text self.old (atom_text (truth_text value) ∷ texts)) }
+        ensures err { IfErr result IsMemory }
+    {
+        if self.wanted.is_none() {
+            return Ok(());
+        }
+        self.bytes.push(if value { b't' } else { b'f' })?;
+        self.turn()
+    }
+
+    /// Writes a number in decimal.
+    pub(crate) fn number(&mut self, number: u32) -> Result<(), Refusal>
+        ensures ok { OnOk result ((texts : List Text) → whole_text self.new texts ≡ whole_text self.old (atom_text (decimal number) ∷ texts)) }
+        ensures err { IfErr result IsMemory }
+    {
+        if self.wanted.is_none() {
+            return Ok(());
+        }
+        put_number(&mut self.bytes, number)?;
+        self.turn()
+    }
+
+    /// Writes a word and a set in parentheses, with `!` before the set or without.
+    pub(crate) fn set(&mut self, word: &[u8], negated: bool, set: u32) -> Result<(), Refusal>
+        ensures ok { OnOk result ((texts : List Text) → whole_text self.new texts ≡ whole_text self.old (atom_text (word.now ++ set_text negated set) ∷ texts)) }
+        ensures err { IfErr result IsMemory }
+    {
+        if self.wanted.is_none() {
+            return Ok(());
+        }
+        put_set(&mut self.bytes, word, negated, set)?;
+        self.turn()
+    }
+
+    /// `!` and its part come next.
+    pub(crate) fn negate(&mut self) -> Result<(), Refusal>
+        ensures ok { OnOk result ((texts : List Text) → whole_text self.new texts ≡ whole_text self.old (negated_text (top_text texts) ∷ texts_below texts)) }
+        ensures err { IfErr result IsMemory }
+    {
+        if self.wanted.is_some() {
+            self.begin(Sign::Not, 3)?;
+        }
+        Ok(())
+    }
+
+    /// Two parts joined by `&` come next, the right one first.
+    pub(crate) fn and(&mut self) -> Result<(), Refusal>
+        ensures ok { OnOk result ((texts : List Text) → whole_text self.new texts ≡ whole_text self.old (joined_text 2 38 (top_text (texts_below texts)) (top_text texts) ∷ texts_below (texts_below texts))) }
+        ensures err { IfErr result IsMemory }
+    {
+        if let Some(rank) = self.wanted {
+            if rank > 2 {
+                self.parenthesize()?;
+            }
+            self.begin(Sign::And, 3)?;
+        }
+        Ok(())
+    }
+
+    /// Two parts joined by `|` come next, the right one first.
+    pub(crate) fn or(&mut self) -> Result<(), Refusal>
+        ensures ok { OnOk result ((texts : List Text) → whole_text self.new texts ≡ whole_text self.old (joined_text 1 124 (top_text (texts_below texts)) (top_text texts) ∷ texts_below (texts_below texts))) }
+        ensures err { IfErr result IsMemory }
+    {
+        if let Some(rank) = self.wanted {
+            if rank > 1 {
+                self.parenthesize()?;
+            }
+            self.begin(Sign::Or, 2)?;
+        }
+        Ok(())
+    }
+
+    /// Appends the text to others, once no part comes any more. A part that is missing, as none is in a label, is empty. After
+    /// a refusal those are as before.
+    pub(crate) fn append_to(&mut self, out: &mut Vec<u8>) -> Result<(), Refusal>
+        ensures ok { OnOk result (out.new.items ≡ out.old.items ++ whole_text self.old []) }
+        ensures same { OnErr result (out.new.items ≡ out.old.items) }
+        ensures err { IfErr result IsMemory }
+    {
+        while let Some(sign) = self.waiting.pop() {
+            self.bytes.push(byte(sign))?;
+        }
+        self.bytes.append_to(out)
+    }
+
+    /// The part that comes next stands behind a sign, and has to bind so tightly to stand without parentheses.
+    fn begin(&mut self, sign: Sign, rank: u32) -> Result<(), Refusal>
+        ensures waiting { OnOk result (self.new.waiting ≡ sign ∷ self.old.waiting) }
+        ensures wanted { OnOk result (self.new.wanted ≡ Some rank) }
+        ensures bytes { OnOk result (self.new.bytes ≡ self.old.bytes) }
+        ensures err { IfErr result IsMemory }
+    {
+        self.waiting.push(sign)?;
+        self.wanted = Some(rank);
+        Ok(())
+    }
+
+    /// The part that comes next stands in parentheses.
+    fn parenthesize(&mut self) -> Result<(), Refusal>
+        ensures bytes { OnOk result (self.new.bytes ≡ 41 ∷ self.old.bytes) }
+        ensures waiting { OnOk result (self.new.waiting ≡ Open ∷ self.old.waiting) }
+        ensures wanted { self.new.wanted ≡ self.old.wanted }
+        ensures err { IfErr result IsMemory }
+    {
+        self.bytes.push(b')')?;
+        self.waiting.push(Sign::Open)
+    }
+
+    /// Writes the signs that stand before the part that was written, up to an operator, whose left part comes next.
+    fn turn(&mut self) -> Result<(), Refusal>
+        ensures ok { OnOk result ((texts : List Text) → whole_text self.new texts ≡ before_text self.old.waiting texts ++ self.old.bytes) }
+        ensures err { IfErr result IsMemory }
+    {
+        while let Some(sign) = self.waiting.pop() {
+            self.bytes.push(byte(sign))?;
+            match sign {
+                Sign::And => {
+                    self.wanted = Some(2);
+                    return Ok(());
+                }
+                Sign::Or => {
+                    self.wanted = Some(1);
+                    return Ok(());
+                }
+                Sign::Open | Sign::Not => {}
+            }
+        }
+        self.wanted = None;
+        Ok(())
+    }
+}
+
+/// How a sign is written.
+fn byte(sign: Sign) -> u8
+    ensures { result ≡ sign_byte sign }
+{
+    match sign {
+        Sign::Open => b'(',
+        Sign::Not => b'!',
+        Sign::And => b'&',
+        Sign::Or => b'|',
+    }
+}
+
+/// Puts a word and a set in parentheses first, with `!` before the set or without.
+fn put_set(
+    bytes: &mut Leftward,
+    word: &[u8],
+    negated: bool,
+    set: u32,
+) -> Result<(), Refusal>
+    ensures ok { OnOk result (bytes.new ≡ (word.now ++ set_text negated set) ++ bytes.old) }
+    ensures err { IfErr result IsMemory }
+{
+    bytes.push(b')')?;
+    put_number(bytes, set)?;
+    if negated {
+        bytes.push(b'!')?;
+    }
+    bytes.push(b'(')?;
+    bytes.put(word)
+}
+
+/// Puts a number in decimal first.
+fn put_number(bytes: &mut Leftward, number: u32) -> Result<(), Refusal>
+    ensures ok { OnOk result (bytes.new ≡ decimal number ++ bytes.old) }
+    ensures err { IfErr result IsMemory }
+{
+    // One digit, as most propositions have, needs no buffer.
+    if number < 10 {
+        bytes.push(b'0' + number as u8)?;
+        Ok(())
+    } else {
+        put_digits(bytes, number)
+    }
+}
+
+/// The same by a buffer.
+fn put_digits(bytes: &mut Leftward, number: u32) -> Result<(), Refusal>
+    ensures ok { OnOk result (bytes.new ≡ decimal number ++ bytes.old) }
+    ensures err { IfErr result IsMemory }
+{
+    let mut buffer = Buffer::new();
+    bytes.put(buffer.format(number).as_bytes())
+}

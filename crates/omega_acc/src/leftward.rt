@@ -1,0 +1,101 @@
+ghost use Rattle.std.specs.Prelude.{◌≡◌, ◌++◌, ◌∷◌, [], reverse, IfErr, OnErr, OnOk};
+ghost use Rattle.omega_acc.specs.Depth.{IsMemory};
+
+use omega_text::Refusal;
+use std::alloc::Global;
+use std::marker::Model;
+
+/// How many bytes take no memory.
+const ROOM: usize = 64;
+
+/// Bytes that grow to the left. Up to 64 of them take no memory and are never moved.
+#[derive(Drop)]
+pub(crate) struct Leftward {
+    /// The first bytes, from `start` on.
+    room: [u8; 64],
+    start: usize,
+    /// The bytes behind those, the last one first.
+    behind: Vec<u8>,
+}
+
+impl Model for Leftward {
+    ghost use Rattle.std.specs.Prelude.{List, ◌++◌, ◌≤◌, drop, reverse, ℕ};
+
+    ghost Value = { List ℕ };
+
+    ghost view = { λ l. drop l.start l.room ++ reverse l.behind.items };
+
+    ghost invariant = { λ l. l.start ≤ 64 };
+}
+
+impl Leftward {
+    /// No bytes.
+    pub(crate) fn new(alloc: Global) -> Self
+        ensures { result ≡ [] }
+    {
+        Leftward {
+            room: [0; 64],
+            start: ROOM,
+            behind: Vec::new(alloc),
+        }
+    }
+
+    /// Puts a byte first.
+    pub(crate) fn push(&mut self, byte: u8) -> Result<(), Refusal>
+        ensures ok { OnOk result (self.new ≡ byte ∷ self.old) }
+        ensures err { IfErr result IsMemory }
+    {
+        if self.start == 0 {
+            append_reversed(&mut self.behind, &self.room)?;
+            self.start = ROOM;
+        }
+        self.start -= 1;
+        self.room[self.start] = byte;
+        Ok(())
+    }
+
+    /// Puts a text first.
+    pub(crate) fn put(&mut self, text: &[u8]) -> Result<(), Refusal>
+        ensures ok { OnOk result (self.new ≡ text.now ++ self.old) }
+        ensures err { IfErr result IsMemory }
+    {
+        let mut left = text;
+        while let Some((byte, before)) = left.split_last() {
+            self.push(*byte)?;
+            left = before;
+        }
+        Ok(())
+    }
+
+    /// Appends all bytes to others. After a refusal those are as before, and these are lost.
+    pub(crate) fn append_to(&mut self, out: &mut Vec<u8>) -> Result<(), Refusal>
+        ensures ok { OnOk result (out.new.items ≡ out.old.items ++ self.old) }
+        ensures same { OnErr result (out.new.items ≡ out.old.items) }
+        ensures err { IfErr result IsMemory }
+    {
+        if self.behind.is_empty() {
+            let room = self.room.as_slice();
+            out.extend_from_slice(&room[self.start..])?;
+            return Ok(());
+        }
+        let room = self.room.as_slice();
+        append_reversed(&mut self.behind, &room[self.start..])?;
+        self.start = ROOM;
+        self.behind.as_mut_slice().reverse();
+        out.extend_from_slice(self.behind.as_slice())?;
+        Ok(())
+    }
+}
+
+/// Appends bytes, the last one first.
+fn append_reversed(behind: &mut Vec<u8>, bytes: &[u8]) -> Result<(), Refusal>
+    ensures ok { OnOk result (behind.new.items ≡ behind.old.items ++ reverse bytes.now) }
+    ensures err { IfErr result IsMemory }
+{
+    let mut left = bytes;
+    while let Some((byte, before)) = left.split_last() {
+        behind.push(*byte)?;
+        left = before;
+    }
+    Ok(())
+}
