@@ -1,9 +1,9 @@
-use omega_text::Seq;
+use omega_text::{Bytes, Seq};
 
 /// The name of an acceptance condition as a header gives it (HOA v1, `acc-name:`): an identifier and its parameters.
 #[derive(Debug, PartialEq, Eq, Drop)]
 pub struct AccName {
-    pub name: Seq<u8>,
+    pub name: Bytes,
     pub parameters: Seq<Parameter>,
 }
 
@@ -13,5 +13,5 @@ pub enum Parameter {
     Boolean(bool),
     Number(u32),
     /// An identifier.
-    Word(Seq<u8>),
+    Word(Bytes),
 }

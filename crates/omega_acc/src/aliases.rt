@@ -10,7 +10,7 @@ use crate::extents::{Extent, Extents, atom, bare, both, in_parentheses, negated}
 use crate::label::LabelNode;
 use crate::raw_label::RawLabel;
 use indexmap::IndexSet;
-use omega_text::{AutomatonFault, Refusal, Seq};
+use omega_text::{AutomatonFault, Bytes, Refusal};
 use std::alloc::Global;
 use std::marker::Model;
 
@@ -18,7 +18,7 @@ use std::marker::Model;
 /// reaches an undefined alias.
 #[derive(Drop)]
 pub(crate) struct Definition {
-    name: Seq<u8>,
+    name: Bytes,
     body: RawLabel,
     extent: Option<Extent>,
 }
@@ -169,9 +169,9 @@ fn put_last(
 {
     let alloc = *definitions.allocator();
     let key = copied(alloc, name)?;
-    let copy = copied(alloc, name)?;
+    let copy = Bytes::from_slice(alloc, name)?;
     definitions.push(Definition {
-        name: Seq::from_vec(copy),
+        name: copy,
         body,
         extent,
     })?;

@@ -1,9 +1,9 @@
-use omega_text::Seq;
+use omega_text::Bytes;
 
 /// The tool that wrote an automaton (HOA v1, `tool:`): the bytes of one or two strings between their quotes, as they are.
 #[derive(Debug, Drop)]
 pub struct Tool {
-    pub name: Seq<u8>,
+    pub name: Bytes,
     /// The second string, as a rule the version.
-    pub version: Option<Seq<u8>>,
+    pub version: Option<Bytes>,
 }

@@ -1,4 +1,4 @@
-use omega_text::Seq;
+use omega_text::Bytes;
 
 /// A value of a header that the format leaves open (HOA v1, *Header*).
 #[derive(Debug, Drop)]
@@ -8,7 +8,7 @@ pub enum HeaderValue {
     /// A number, at most 2,147,483,647.
     Number(u32),
     /// The bytes of a string between its quotes, as they are.
-    Text(Seq<u8>),
+    Text(Bytes),
     /// An identifier.
-    Word(Seq<u8>),
+    Word(Bytes),
 }

@@ -1,6 +1,6 @@
 use crate::header_value::HeaderValue;
 use omega_acc::{AccName, RawAcc, RawLabel};
-use omega_text::{Numbers, Seq};
+use omega_text::{Bytes, Numbers, Seq};
 
 /// An item of a header as it is written (HOA v1, *Header*). Numbers are at most 2,147,483,647; strings are the bytes between
 /// their quotes, as they are.
@@ -13,11 +13,11 @@ pub enum RawItem {
     /// `AP:`, the count and the names, which may be more or fewer.
     Propositions {
         count: u32,
-        names: Seq<Seq<u8>>,
+        names: Seq<Bytes>,
     },
     /// `Alias:`, the name with its `@` and what it stands for.
     Alias {
-        name: Seq<u8>,
+        name: Bytes,
         definition: RawLabel,
     },
     /// `Acceptance:`, the count of sets and the formula.
@@ -29,16 +29,16 @@ pub enum RawItem {
     AccName(AccName),
     /// `tool:` and one or two strings.
     Tool {
-        first: Seq<u8>,
-        second: Option<Seq<u8>>,
+        first: Bytes,
+        second: Option<Bytes>,
     },
     /// `name:` and a string.
-    Name(Seq<u8>),
+    Name(Bytes),
     /// `properties:` and identifiers.
-    Properties(Seq<Seq<u8>>),
+    Properties(Seq<Bytes>),
     /// Any other header, without its colon, and its values.
     Unknown {
-        name: Seq<u8>,
+        name: Bytes,
         values: Seq<HeaderValue>,
     },
 }
