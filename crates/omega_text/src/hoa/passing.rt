@@ -16,7 +16,7 @@ use super::placed::{PlacedToken, Settled};
 use super::quoted::quoted_count;
 use super::tokenizer::read_byte;
 use crate::bytes::{tail, word_count};
-use crate::digits::{front_digits, has_needless_zero};
+use crate::digits::{few_digits, front_digits, has_needless_zero};
 use crate::limits::MOST_NUMBER;
 
 /// The unit that is being read, with the bytes from a place on, up to one that settles a mark or a fault; and the place of
@@ -249,6 +249,23 @@ fn pass_digits(bytes: &[u8], place: usize, start: usize) -> Simple
         // Most numbers have one digit.
         return Simple::Ended { place: next + 1 };
     }
+    let rest = tail(bytes, place);
+    if let Some((count, _)) = few_digits(rest) {
+        let end = place + count;
+        if !has_needless_zero(rest, count) && is_single(bytes[end]) {
+            return Simple::Ended { place: end + 1 };
+        }
+    }
+    pass_any_digits(bytes, place, start)
+}
+
+/// The same, however many digits there are.
+#[inline(never)]
+fn pass_any_digits(bytes: &[u8], place: usize, start: usize) -> Simple
+    requires within { place < length bytes.now }
+    requires digit { is_digit (slice_index bytes.now place) ≡ true }
+    ensures { IsSimple start bytes.now place result }
+{
     let (count, value) = front_value(tail(bytes, place));
     let end = place + count;
     if end < bytes.len() && value <= MOST_NUMBER as u64 && is_single(bytes[end]) {

@@ -10,7 +10,7 @@ use super::lead::{Lead, lead_of};
 use super::mode::{Mode, letter_kind};
 use super::quoted::quoted_count;
 use crate::bytes::{is_white, tail, word_count};
-use crate::digits::{front_digits, has_needless_zero};
+use crate::digits::{few_digits, front_digits, has_needless_zero};
 use crate::limits::MOST_NUMBER;
 use crate::refusal::TextFault;
 
@@ -119,7 +119,7 @@ fn first_number(bytes: &[u8], place: usize) -> Result<Unit, TextFault>
     })
 }
 
-/// The same, where the digits are a number.
+/// The same, where few digits are a number.
 #[inline(always)]
 fn plain_number(bytes: &[u8]) -> Option<Unit>
     requires some { 0 < length bytes.now }
@@ -134,10 +134,15 @@ fn plain_number(bytes: &[u8]) -> Option<Unit>
             count: 1,
         });
     }
-    match first_number(bytes, 0) {
-        Ok(unit) => Some(unit),
-        Err(_) => None,
+    let (count, value) = few_digits(bytes)?;
+    if has_needless_zero(bytes, count) {
+        return None;
     }
+    Some(Unit {
+        kind: Some(HoaKind::Int),
+        value: value as u32,
+        count,
+    })
 }
 
 /// The string that bytes begin with, if it has no backslash.
