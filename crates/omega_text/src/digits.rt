@@ -1,4 +1,4 @@
-ghost use Rattle.std.specs.Prelude.{◌≡◌, ◌≤◌, ◌<◌, take, length, IfSome, MatchBool, slice_index};
+ghost use Rattle.std.specs.Prelude.{◌≡◌, ◌≤◌, ◌<◌, take, length, IfSome, MatchBool, slice_index, true};
 ghost use Rattle.std.specs.List.{prefix_len};
 ghost use Rattle.std.specs.Str.Parse.{digits_value};
 ghost use Rattle.omega_text.specs.Bytes.{is_digit};
@@ -16,37 +16,10 @@ pub(crate) fn front_digits(bytes: &[u8]) -> (usize, u64)
     ensures value { result.1 ≤ most_number → result.1 ≡ digits_value 10 (take result.0 bytes.now) }
     ensures great { most_number < result.1 → most_number < digits_value 10 (take result.0 bytes.now) }
 {
-    match few_digits(bytes) {
-        Some(found) => found,
-        None => many_digits(bytes),
+    if bytes.len() > 1 && bytes[0].is_ascii_digit() && !bytes[1].is_ascii_digit() {
+        // Most numbers have one digit.
+        return (1, u64::from(bytes[0] - b'0'));
     }
-}
-
-/// The same, if a byte that is no digit ends the digits, and they are so few that no value needs to be compared.
-#[inline(always)]
-pub(crate) fn few_digits(bytes: &[u8]) -> Option<(usize, u64)>
-    ensures count { IfSome result (λ found. found.0 ≡ prefix_len is_digit bytes.now) }
-    ensures ended { IfSome result (λ found. found.0 < length bytes.now) }
-    ensures value { IfSome result (λ found. found.1 ≡ digits_value 10 (take found.0 bytes.now)) }
-    ensures small { IfSome result (λ found. found.1 ≤ most_number) }
-{
-    let mut value = 0u64;
-    for count in 0..bytes.len().min(MANY_DIGITS) {
-        if !bytes[count].is_ascii_digit() {
-            return Some((count, value));
-        }
-        value = value * 10 + u64::from(bytes[count] - b'0');
-    }
-    None
-}
-
-/// The same as `front_digits` gives, however many there are.
-#[inline(never)]
-fn many_digits(bytes: &[u8]) -> (usize, u64)
-    ensures count { result.0 ≡ prefix_len is_digit bytes.now }
-    ensures value { result.1 ≤ most_number → result.1 ≡ digits_value 10 (take result.0 bytes.now) }
-    ensures great { most_number < result.1 → most_number < digits_value 10 (take result.0 bytes.now) }
-{
     let mut value = 0u64;
     for (count, byte) in bytes.iter().enumerate() {
         if !byte.is_ascii_digit() {
@@ -57,6 +30,26 @@ fn many_digits(bytes: &[u8]) -> (usize, u64)
         }
     }
     (bytes.len(), value)
+}
+
+/// The same, if a byte that is no digit ends the digits, and they are so few that no value needs to be compared.
+#[inline(always)]
+pub(crate) fn few_digits(bytes: &[u8]) -> Option<(usize, u64)>
+    requires some { 0 < length bytes.now }
+    requires digit { is_digit (slice_index bytes.now 0) ≡ true }
+    ensures count { IfSome result (λ found. found.0 ≡ prefix_len is_digit bytes.now) }
+    ensures ended { IfSome result (λ found. found.0 < length bytes.now) }
+    ensures value { IfSome result (λ found. found.1 ≡ digits_value 10 (take found.0 bytes.now)) }
+    ensures small { IfSome result (λ found. found.1 ≤ most_number) }
+{
+    let mut value = u64::from(bytes[0] - b'0');
+    for count in 1..bytes.len().min(MANY_DIGITS) {
+        if !bytes[count].is_ascii_digit() {
+            return Some((count, value));
+        }
+        value = value * 10 + u64::from(bytes[count] - b'0');
+    }
+    None
 }
 
 /// Whether the digits at the front begin with a zero and go on.

@@ -5,6 +5,7 @@ mod kept_mode;
 mod kind;
 pub mod laws;
 mod lead;
+mod mark;
 mod mode;
 mod passing;
 mod pending;

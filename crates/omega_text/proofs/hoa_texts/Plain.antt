@@ -23,7 +23,7 @@ use Rattle.omega_text.proofs.hoa_texts.Values.{one_digit}
 use Rattle.omega_text.proofs.hoa_texts.Written.{at_run}
 
 -- each byte of a run passes
-run_passes : (test : ℕ → Bool) (bytes : List ℕ) → AllPass test (take (prefix_len test bytes) bytes)
+pub run_passes : (test : ℕ → Bool) (bytes : List ℕ) → AllPass test (take (prefix_len test bytes) bytes)
 run_passes test bytes k d inside =
     let size = length-take-le (prefix_len test bytes) bytes (prefix_len-le-length test bytes) in
     ap test (get_or-take (prefix_len test bytes) bytes k d (omega arith)) ∙ prefix_len_passes test bytes k d (omega arith)

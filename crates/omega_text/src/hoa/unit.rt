@@ -1,12 +1,13 @@
-ghost use Rattle.std.specs.Prelude.{◌≡◌, ◌<◌, ◌≤◌, ◌^◌, length, slice_index, true, false, Some, IfErr, IfOk, IfSome, IsTrue};
+ghost use Rattle.std.specs.Prelude.{◌≡◌, ◌<◌, ◌≤◌, ◌^◌, length, slice_index, true, false, Some, IfErr, IfOk, IfSome};
 ghost use Rattle.omega_text.specs.hoa.Fault.{IsFaultOf};
-ghost use Rattle.omega_text.specs.hoa.scanning.Modes.{BeginsAs, IsFirstUnit, IsScanned};
+ghost use Rattle.omega_text.specs.hoa.scanning.Modes.{IsFirstUnit, IsScanned};
 ghost use Rattle.omega_text.specs.hoa.Forms.{spelling};
 ghost use Rattle.omega_text.specs.Bytes.{is_digit, is_letter};
 
 use super::kept_mode::KeptMode;
 use super::kind::{HoaKind, spelling};
 use super::lead::{Lead, lead_of};
+use super::mark::front_mark;
 use super::mode::{Mode, letter_kind};
 use super::quoted::quoted_count;
 use crate::bytes::{is_white, tail, word_count};
@@ -185,23 +186,8 @@ fn plain_alias(bytes: &[u8]) -> Option<Unit>
 fn first_mark(bytes: &[u8]) -> Option<Unit>
     ensures { IfSome result (λ unit. IsFirstUnit bytes.now unit.kind unit.value unit.count) }
 {
-    if is_marked(bytes, HoaKind::Body) {
-        Some(mark(HoaKind::Body))
-    } else if is_marked(bytes, HoaKind::End) {
-        Some(mark(HoaKind::End))
-    } else if is_marked(bytes, HoaKind::Abort) {
-        Some(mark(HoaKind::Abort))
-    } else {
-        None
-    }
-}
-
-/// Whether bytes begin as a mark is written.
-fn is_marked(bytes: &[u8], kind: HoaKind) -> bool
-    ensures { IsTrue result → BeginsAs bytes.now (spelling kind) }
-{
-    let text = spelling(kind);
-    bytes.len() >= text.len() && &bytes[..text.len()] == text
+    let kind = front_mark(bytes)?;
+    Some(mark(kind))
 }
 
 /// A mark as a unit.

@@ -3,7 +3,7 @@ use Rattle.std.proofs.Common.{◌≡◌, ◌+◌, ◌*◌, ◌≤◌, ◌<◌, �
 use Rattle.std.specs.Str.Parse.{digits_value}
 use Rattle.omega_text.specs.Bytes.{is_digit}
 use Rattle.omega_text.specs.Limits.{most_number}
-use Rattle.omega_text.proofs.digits.many_digits.Given as goal
+use Rattle.omega_text.proofs.digits.front_digits.Given as goal
 
 abbrev pub invariant-loop-count : goal.invariant-loop-count
 invariant-loop-count l = record {
