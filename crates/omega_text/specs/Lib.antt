@@ -1,4 +1,5 @@
 -- What contracts cite: refusals and limits, then tokens, texts and how they are read; of PGSolver's texts in `pg`.
+pub mod ByteString
 pub mod Bytes
 pub mod Cases
 pub mod Cursor

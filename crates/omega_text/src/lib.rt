@@ -3,6 +3,7 @@
 //! What belongs to one format stands in a module of its own, its laws in that module's `laws`.
 #![tactic(auto)]
 
+mod byte_string;
 mod bytes;
 mod checking;
 mod cursor;
@@ -25,6 +26,7 @@ mod token_reader;
 mod token_source;
 mod tokens;
 
+pub use byte_string::ByteString;
 pub use checking::check_tokens;
 pub use cursor::Cursor;
 pub use hoa::{HoaKind, HoaTokenizer, PlacedToken, Settled, hoa_tokens, next_hoa_token};
