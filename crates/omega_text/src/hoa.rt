@@ -10,6 +10,7 @@ mod mode;
 mod passing;
 mod pending;
 mod placed;
+mod plain;
 mod quoted;
 mod token;
 mod tokenizer;

@@ -1,7 +1,7 @@
 -- One digit, or what the digits are.
 use Rattle.std.proofs.Common.{sym, ◌∙◌}
 use Rattle.omega_text.proofs.hoa_texts.Plain.{few_digits_unit, first_digit_unit}
-use Rattle.omega_text.proofs.hoa.unit.plain_number.Goals as goal
+use Rattle.omega_text.proofs.hoa.plain.plain_number.Goals as goal
 
 pub returns-then-not-is_ascii_digit : goal.returns-then-not-is_ascii_digit
 returns-then-not-is_ascii_digit c =
