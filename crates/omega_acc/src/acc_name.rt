@@ -1,9 +1,9 @@
-use omega_text::{Bytes, Seq};
+use omega_text::{ByteString, Seq};
 
 /// The name of an acceptance condition as a header gives it (HOA v1, `acc-name:`): an identifier and its parameters.
 #[derive(Debug, PartialEq, Eq, Drop)]
 pub struct AccName {
-    pub name: Bytes,
+    pub name: ByteString,
     pub parameters: Seq<Parameter>,
 }
 
@@ -13,5 +13,5 @@ pub enum Parameter {
     Boolean(bool),
     Number(u32),
     /// An identifier.
-    Word(Bytes),
+    Word(ByteString),
 }

@@ -10,7 +10,7 @@ use crate::extents::{Extent, Extents, atom, bare, both, in_parentheses, negated}
 use crate::label::LabelNode;
 use crate::raw_label::RawLabel;
 use indexmap::IndexSet;
-use omega_text::{AutomatonFault, Bytes, Refusal};
+use omega_text::{AutomatonFault, ByteString, Refusal};
 use std::alloc::Global;
 use std::marker::Model;
 
@@ -18,7 +18,7 @@ use std::marker::Model;
 /// reaches an undefined alias.
 #[derive(Drop)]
 pub(crate) struct Definition {
-    name: Bytes,
+    name: ByteString,
     body: RawLabel,
     extent: Option<Extent>,
 }
@@ -169,7 +169,7 @@ fn put_last(
 {
     let alloc = *definitions.allocator();
     let key = copied(alloc, name)?;
-    let copy = Bytes::from_slice(alloc, name)?;
+    let copy = ByteString::from_slice(alloc, name)?;
     definitions.push(Definition {
         name: copy,
         body,

@@ -7,7 +7,7 @@ use crate::making::{Body, Gathered};
 use crate::state::State;
 use crate::tool::Tool;
 use omega_acc::{Acc, AccName};
-use omega_text::{Bytes, Numbers, Seq};
+use omega_text::{ByteString, Numbers, Seq};
 use std::alloc::Global;
 use std::marker::Model;
 
@@ -18,14 +18,14 @@ use std::marker::Model;
 #[derive(Drop)]
 pub struct Automaton {
     tool: Option<Tool>,
-    name: Option<Bytes>,
+    name: Option<ByteString>,
     state_count: u32,
     starts: Seq<Numbers>,
-    propositions: Seq<Bytes>,
+    propositions: Seq<ByteString>,
     acc_name: Option<AccName>,
     set_count: u32,
     acceptance: Acc,
-    properties: Seq<Bytes>,
+    properties: Seq<ByteString>,
     unknown: Seq<Header>,
     defined: Seq<State>,
     edge_count: u32,
@@ -131,7 +131,7 @@ impl Automaton {
     }
 
     /// The names of the propositions between their quotes, at most 1,024, no two alike.
-    pub fn propositions(&self) -> &[Bytes]
+    pub fn propositions(&self) -> &[ByteString]
         ensures { result.now ≡ self.now.propositions }
     {
         self.propositions.as_slice()
@@ -159,7 +159,7 @@ impl Automaton {
     }
 
     /// The properties of all items in the order written. They are not judged.
-    pub fn properties(&self) -> &[Bytes]
+    pub fn properties(&self) -> &[ByteString]
         ensures { result.now ≡ self.now.properties }
     {
         self.properties.as_slice()

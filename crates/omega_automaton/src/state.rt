@@ -1,6 +1,6 @@
 use crate::edges::Edges;
 use omega_acc::Label;
-use omega_text::{Bytes, Numbers};
+use omega_text::{ByteString, Numbers};
 
 /// A state that an automaton defines, with its edges (HOA v1, *Body*).
 #[derive(Debug, Drop)]
@@ -10,7 +10,7 @@ pub struct State {
     /// The number of the state, below the count of states.
     pub number: u32,
     /// The bytes of the name between its quotes, as they are, or none. An empty name differs from none.
-    pub name: Option<Bytes>,
+    pub name: Option<ByteString>,
     /// The sets that each of its edges is in, rising, each once.
     pub marks: Numbers,
     /// The edges in the order written.

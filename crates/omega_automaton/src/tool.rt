@@ -1,9 +1,9 @@
-use omega_text::Bytes;
+use omega_text::ByteString;
 
 /// The tool that wrote an automaton (HOA v1, `tool:`): the bytes of one or two strings between their quotes, as they are.
 #[derive(Debug, Drop)]
 pub struct Tool {
-    pub name: Bytes,
+    pub name: ByteString,
     /// The second string, as a rule the version.
-    pub version: Option<Bytes>,
+    pub version: Option<ByteString>,
 }

@@ -4,19 +4,19 @@ ghost use Rattle.std.specs.Prelude.{◌≡◌, ◌≤◌, true, ◌++◌, IfOk, 
 ghost use Rattle.omega_acc.specs.Label.{propositions};
 ghost use Rattle.omega_automaton.specs.Automaton.{AreBelow};
 ghost use Rattle.omega_automaton.specs.Limits.{most_propositions};
-ghost use Rattle.omega_text.specs.Bytes.{is_digit};
+ghost use Rattle.omega_text.specs.ByteString.{is_digit};
 ghost use Rattle.omega_automaton_drawing.specs.Expressions.{named_text};
 ghost use Rattle.omega_automaton_drawing.specs.layout.Naming.{AreOwed, pending_name, sign_text, with_digit, with_names};
 
 use omega_acc::{Label, write_label};
 use omega_automaton::MOST_PROPOSITIONS;
 use omega_dot::write_escaped;
-use omega_text::{Bytes, Refusal};
+use omega_text::{ByteString, Refusal};
 
 /// Appends the text of a label with the names of its propositions.
 pub(crate) fn write_named(
     label: &Label,
-    names: &[Bytes],
+    names: &[ByteString],
     out: &mut Vec<u8>,
 ) -> Result<(), Refusal>
     requires few { length names.now ≤ most_propositions }
@@ -31,7 +31,7 @@ pub(crate) fn write_named(
 }
 
 /// Appends the text of a label, in which each number is the name of its proposition.
-fn write_with_names(text: &[u8], names: &[Bytes], out: &mut Vec<u8>) -> Result<(), Refusal>
+fn write_with_names(text: &[u8], names: &[ByteString], out: &mut Vec<u8>) -> Result<(), Refusal>
     ensures ok { OnOk result (out.new.items ≡ out.old.items ++ with_names names.now None text.now) }
     ensures memory { IsOkUnless result Refusal.Memory }
 {
@@ -46,7 +46,7 @@ fn write_with_names(text: &[u8], names: &[Bytes], out: &mut Vec<u8>) -> Result<(
 fn pass(
     number: Option<u32>,
     byte: u8,
-    names: &[Bytes],
+    names: &[ByteString],
     out: &mut Vec<u8>,
 ) -> Result<Option<u32>, Refusal>
     requires { IfSome number (λ number. number ≤ most_propositions) }
@@ -73,7 +73,7 @@ fn with_digit(number: Option<u32>, byte: u8) -> u32
 }
 
 /// Appends the name of the proposition whose number has been passed, if there is one.
-fn write_pending(number: Option<u32>, names: &[Bytes], out: &mut Vec<u8>) -> Result<(), Refusal>
+fn write_pending(number: Option<u32>, names: &[ByteString], out: &mut Vec<u8>) -> Result<(), Refusal>
     ensures ok { OnOk result (out.new.items ≡ out.old.items ++ pending_name names.now number) }
     ensures memory { IsOkUnless result Refusal.Memory }
 {

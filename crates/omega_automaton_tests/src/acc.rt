@@ -9,7 +9,7 @@ use omega_acc::{
     acceptance_kind, expand, expanded_size, parity_of, priority, satisfiable, write_acc,
     write_label,
 };
-use omega_text::{Bytes, Refusal, Seq};
+use omega_text::{ByteString, Refusal, Seq};
 use std::alloc::Global;
 use std::process::Abort;
 use std::test::Fail;
@@ -294,8 +294,8 @@ fn priorities_are_those_of_the_table(rt: HostRuntime) {
     }
 }
 
-fn word(alloc: Global, text: &str) -> Result<Bytes, Refusal> {
-    Ok(Bytes::from_slice(alloc, text.as_bytes())?)
+fn word(alloc: Global, text: &str) -> Result<ByteString, Refusal> {
+    Ok(ByteString::from_slice(alloc, text.as_bytes())?)
 }
 
 // A name with a word for each letter but digits, which are numbers: `x` is max, `n` min, `e` even, `o` odd.

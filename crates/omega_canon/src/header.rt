@@ -11,7 +11,7 @@ use crate::parts::{
 };
 use omega_acc::{Acc, Parameter, write_acc};
 use omega_automaton::{Automaton, HeaderValue};
-use omega_text::{Bytes, Refusal, write_number};
+use omega_text::{ByteString, Refusal, write_number};
 
 /// Appends all lines before the body.
 pub(crate) fn write_header(automaton: &Automaton, out: &mut Vec<u8>) -> Result<(), Refusal>
@@ -39,7 +39,7 @@ fn write_tool(automaton: &Automaton, out: &mut Vec<u8>) -> Result<(), Refusal>
     if let Some(tool) = automaton.tool() {
         out.extend_from_slice(b"tool:")?;
         write_string(tool.name.as_slice(), out)?;
-        write_string_part(tool.version.as_ref().map(Bytes::as_slice), out)?;
+        write_string_part(tool.version.as_ref().map(ByteString::as_slice), out)?;
         out.push(b'\n')?;
     }
     Ok(())

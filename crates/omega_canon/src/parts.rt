@@ -5,7 +5,7 @@ ghost use Rattle.std.specs.Option.{option_copied};
 ghost use Rattle.omega_canon.specs.Parts.{conjunction, label_part, marks_part, numbers_behind, numbers_joined, quoted, spaced, string_part, strings, words};
 
 use omega_acc::{Label, write_label};
-use omega_text::{Bytes, Refusal, write_number};
+use omega_text::{ByteString, Refusal, write_number};
 
 /// Appends a space and bytes between quotes.
 pub(crate) fn write_string(bytes: &[u8], out: &mut Vec<u8>) -> Result<(), Refusal>
@@ -19,7 +19,7 @@ pub(crate) fn write_string(bytes: &[u8], out: &mut Vec<u8>) -> Result<(), Refusa
 }
 
 /// Appends strings, a space before each.
-pub(crate) fn write_strings(texts: &[Bytes], out: &mut Vec<u8>) -> Result<(), Refusal>
+pub(crate) fn write_strings(texts: &[ByteString], out: &mut Vec<u8>) -> Result<(), Refusal>
     ensures ok { OnOk result (out.new.items ≡ out.old.items ++ strings texts.now) }
     ensures memory { IsOkUnless result Refusal.Memory }
 {
@@ -40,7 +40,7 @@ pub(crate) fn write_word(bytes: &[u8], out: &mut Vec<u8>) -> Result<(), Refusal>
 }
 
 /// Appends words, a space before each.
-pub(crate) fn write_words(texts: &[Bytes], out: &mut Vec<u8>) -> Result<(), Refusal>
+pub(crate) fn write_words(texts: &[ByteString], out: &mut Vec<u8>) -> Result<(), Refusal>
     ensures ok { OnOk result (out.new.items ≡ out.old.items ++ words texts.now) }
     ensures memory { IsOkUnless result Refusal.Memory }
 {

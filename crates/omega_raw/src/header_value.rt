@@ -1,4 +1,4 @@
-use omega_text::Bytes;
+use omega_text::ByteString;
 
 /// A value of a header that the format leaves open (HOA v1, *Header*).
 #[derive(Debug, Drop)]
@@ -8,7 +8,7 @@ pub enum HeaderValue {
     /// A number, at most 2,147,483,647.
     Number(u32),
     /// The bytes of a string between its quotes, as they are.
-    Text(Bytes),
+    Text(ByteString),
     /// An identifier.
-    Word(Bytes),
+    Word(ByteString),
 }

@@ -1,6 +1,6 @@
 use crate::header_value::HeaderValue;
 use omega_acc::{AccName, RawAcc, RawLabel};
-use omega_text::{Bytes, Numbers, Seq};
+use omega_text::{ByteString, Numbers, Seq};
 
 /// An item of a header as it is written (HOA v1, *Header*). Numbers are at most 2,147,483,647; strings are the bytes between
 /// their quotes, as they are.
@@ -13,11 +13,11 @@ pub enum RawItem {
     /// `AP:`, the count and the names, which may be more or fewer.
     Propositions {
         count: u32,
-        names: Seq<Bytes>,
+        names: Seq<ByteString>,
     },
     /// `Alias:`, the name with its `@` and what it stands for.
     Alias {
-        name: Bytes,
+        name: ByteString,
         definition: RawLabel,
     },
     /// `Acceptance:`, the count of sets and the formula.
@@ -29,16 +29,16 @@ pub enum RawItem {
     AccName(AccName),
     /// `tool:` and one or two strings.
     Tool {
-        first: Bytes,
-        second: Option<Bytes>,
+        first: ByteString,
+        second: Option<ByteString>,
     },
     /// `name:` and a string.
-    Name(Bytes),
+    Name(ByteString),
     /// `properties:` and identifiers.
-    Properties(Seq<Bytes>),
+    Properties(Seq<ByteString>),
     /// Any other header, without its colon, and its values.
     Unknown {
-        name: Bytes,
+        name: ByteString,
         values: Seq<HeaderValue>,
     },
 }

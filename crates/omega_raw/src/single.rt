@@ -10,7 +10,7 @@ use crate::header_value::HeaderValue;
 use crate::part::Part;
 use crate::taking::{copied, string_of, take_int, take_string, take_word};
 use omega_acc::Parameter;
-use omega_text::{Bytes, HoaKind, Refusal, TextFault, TokenSource};
+use omega_text::{ByteString, HoaKind, Refusal, TextFault, TokenSource};
 use std::alloc::Global;
 
 /// An INT.
@@ -44,7 +44,7 @@ impl<'a, S: TokenSource<'a, HoaKind>> Part<'a, S> for Int {
 pub(crate) struct Word;
 
 impl<'a, S: TokenSource<'a, HoaKind>> Part<'a, S> for Word {
-    type Value = Bytes;
+    type Value = ByteString;
 
     ghost valid = { IsAny };
 
@@ -58,7 +58,7 @@ impl<'a, S: TokenSource<'a, HoaKind>> Part<'a, S> for Word {
         kind == HoaKind::Identifier
     }
 
-    fn read(alloc: Global, source: &mut S) -> Result<Bytes, Refusal> {
+    fn read(alloc: Global, source: &mut S) -> Result<ByteString, Refusal> {
         take_word(alloc, source)
     }
 
@@ -71,7 +71,7 @@ impl<'a, S: TokenSource<'a, HoaKind>> Part<'a, S> for Word {
 pub(crate) struct Quoted;
 
 impl<'a, S: TokenSource<'a, HoaKind>> Part<'a, S> for Quoted {
-    type Value = Bytes;
+    type Value = ByteString;
 
     ghost valid = { IsAny };
 
@@ -85,7 +85,7 @@ impl<'a, S: TokenSource<'a, HoaKind>> Part<'a, S> for Quoted {
         kind == HoaKind::String
     }
 
-    fn read(alloc: Global, source: &mut S) -> Result<Bytes, Refusal> {
+    fn read(alloc: Global, source: &mut S) -> Result<ByteString, Refusal> {
         take_string(alloc, source)
     }
 

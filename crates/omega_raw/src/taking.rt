@@ -8,7 +8,7 @@ ghost use Rattle.omega_raw.specs.steps.Reading.{Anything, Finds, FoundThere, Giv
 ghost use Rattle.omega_raw.specs.Symbols.{Spells, Symbol, Tokens, between_quotes, header, sign, without_last};
 ghost use Rattle.omega_text.specs.Lexeme.{lexeme_of};
 
-use omega_text::{Bytes, HoaKind, Refusal, TextFault, Token, TokenSource};
+use omega_text::{ByteString, HoaKind, Refusal, TextFault, Token, TokenSource};
 use std::alloc::Global;
 
 /// The next token, which is taken, if it is of a kind.
@@ -42,20 +42,20 @@ pub(crate) fn take_kind<'a, S: TokenSource<'a, HoaKind>>(
 }
 
 /// A copy of bytes.
-pub(crate) fn copied(alloc: Global, bytes: &[u8]) -> Result<Bytes, Refusal>
+pub(crate) fn copied(alloc: Global, bytes: &[u8]) -> Result<ByteString, Refusal>
     ensures ok { IfOk result (λ copy. copy ≡ bytes.now) }
     ensures err { IfErr result IsMemory }
 {
-    Ok(Bytes::from_slice(alloc, bytes)?)
+    Ok(ByteString::from_slice(alloc, bytes)?)
 }
 
 /// A copy of the bytes of a string between its quotes.
-pub(crate) fn string_of(alloc: Global, quoted: &[u8]) -> Result<Bytes, Refusal>
+pub(crate) fn string_of(alloc: Global, quoted: &[u8]) -> Result<ByteString, Refusal>
     ensures ok { IfOk result (λ copy. copy ≡ between_quotes quoted.now) }
     ensures err { IfErr result IsMemory }
 {
     if quoted.len() < 2 {
-        return Ok(Bytes::new());
+        return Ok(ByteString::new());
     }
     copied(alloc, &quoted[1..quoted.len() - 1])
 }
@@ -110,7 +110,7 @@ pub(crate) fn take_int<'a, S: TokenSource<'a, HoaKind>>(source: &mut S) -> Resul
 pub(crate) fn take_word<'a, S: TokenSource<'a, HoaKind>>(
     alloc: Global,
     source: &mut S,
-) -> Result<Bytes, Refusal>
+) -> Result<ByteString, Refusal>
     ensures gives { Gives IsAny word_row (S.left source.old) (S.left source.new) result }
     ensures finds { Finds IsAny word_row Anything (S.left source.old) (S.left source.new) result }
     ensures err { IfErr result IsRefusal }
@@ -123,7 +123,7 @@ pub(crate) fn take_word<'a, S: TokenSource<'a, HoaKind>>(
 pub(crate) fn take_string<'a, S: TokenSource<'a, HoaKind>>(
     alloc: Global,
     source: &mut S,
-) -> Result<Bytes, Refusal>
+) -> Result<ByteString, Refusal>
     ensures gives { Gives IsAny string_row (S.left source.old) (S.left source.new) result }
     ensures finds { Finds IsAny string_row Anything (S.left source.old) (S.left source.new) result }
     ensures err { IfErr result IsRefusal }

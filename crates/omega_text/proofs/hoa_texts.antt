@@ -1,4 +1,5 @@
 -- Lemmas on Hanoi texts.
+pub mod AtOnce
 pub mod Completion
 pub mod Exact
 pub mod Gaps

@@ -1,4 +1,4 @@
-ghost use Rattle.std.specs.Prelude.{◌≡◌, [], length, IfOk};
+ghost use Rattle.std.specs.Prelude.{◌≡◌, ◌≤◌, [], length, IfOk};
 ghost use Rattle.omega_text.specs.ByteString.{bytes_in, fits_in_place};
 
 use std::alloc::{AllocError, Global};
@@ -11,41 +11,41 @@ const MOST_IN_PLACE: usize = 14;
 ///
 /// Names and words of headers are nearly always so short: they take 16 bytes, where a vector takes 24 and an allocation.
 #[derive(Debug, Drop)]
-pub struct Bytes {
+pub struct ByteString {
     held: Held,
 }
 
 /// Where the bytes stand.
 #[derive(Debug, Drop)]
 enum Held {
-    /// In place: the first so many of the values.
-    Short { count: u8, values: [u8; 14] },
+    /// In place: the first so many.
+    Short { count: u8, bytes: [u8; 14] },
     /// In memory.
     Long(Box<Vec<u8>>),
 }
 
-const _: () = prove!(std::mem::size_of::<Bytes>() <= 16);
+const _: () = prove!(std::mem::size_of::<ByteString>() <= 16);
 
-impl Model for Bytes {
+impl Model for ByteString {
     ghost use Rattle.std.specs.Prelude.{List, ℕ};
     ghost use Rattle.omega_text.specs.ByteString.{bytes_in, fits_in_place};
 
     ghost Value = { List ℕ };
 
-    ghost view = { λ b. bytes_in b.held };
+    ghost view = { λ s. bytes_in s.held };
 
-    ghost invariant = { λ b. fits_in_place b.held };
+    ghost invariant = { λ s. fits_in_place s.held };
 }
 
-impl Bytes {
+impl ByteString {
     /// The empty string.
     pub fn new() -> Self
         ensures { result ≡ [] }
     {
-        Bytes {
+        ByteString {
             held: Held::Short {
                 count: 0,
-                values: [0; 14],
+                bytes: [0; 14],
             },
         }
     }
@@ -54,27 +54,19 @@ impl Bytes {
     pub fn from_slice(alloc: Global, bytes: &[u8]) -> Result<Self, AllocError>
         ensures { IfOk result (λ string. string ≡ bytes.now) }
     {
-        if bytes.len() > MOST_IN_PLACE {
-            let values = Vec::from_slice(alloc, bytes)?;
-            return Ok(Bytes {
-                held: Held::Long(Box::new(alloc, values)?),
-            });
-        }
-        let mut values = [0; 14];
-        values[..bytes.len()].copy_from_slice(bytes);
-        Ok(Bytes {
-            held: Held::Short {
-                count: bytes.len() as u8,
-                values,
-            },
-        })
+        let held = if bytes.len() <= MOST_IN_PLACE {
+            in_place(bytes)
+        } else {
+            in_memory(alloc, bytes)?
+        };
+        Ok(ByteString { held })
     }
 
     pub fn as_slice(&self) -> &[u8]
         ensures { result.now ≡ self.now }
     {
         match &self.held {
-            Held::Short { count, values } => &values[..*count as usize],
+            Held::Short { count, bytes } => &bytes[..*count as usize],
             Held::Long(bytes) => bytes.as_slice(),
         }
     }
@@ -86,7 +78,31 @@ impl Bytes {
     }
 }
 
-impl PartialEq for Bytes {
+/// A copy of a few bytes.
+fn in_place(bytes: &[u8]) -> Held
+    requires { length bytes.now ≤ 14 }
+    ensures held { bytes_in result ≡ bytes.now }
+    ensures fits { fits_in_place result }
+{
+    let mut copy = [0; 14];
+    copy[..bytes.len()].copy_from_slice(bytes);
+    Held::Short {
+        count: bytes.len() as u8,
+        bytes: copy,
+    }
+}
+
+/// A copy of bytes in memory.
+fn in_memory(alloc: Global, bytes: &[u8]) -> Result<Held, AllocError>
+    ensures held { IfOk result (λ held. bytes_in held ≡ bytes.now) }
+    ensures fits { IfOk result fits_in_place }
+{
+    let mut copy = Vec::with_capacity(alloc, bytes.len())?;
+    copy.extend_from_slice(bytes)?;
+    Ok(Held::Long(Box::new(alloc, copy)?))
+}
+
+impl PartialEq for ByteString {
     ghost use Rattle.std.specs.Prelude.{nat_eq};
     ghost use Rattle.std.specs.Cmp.Lexicographic.{pointwise};
     ghost use Rattle.std.proofs.Common.{rules};
@@ -96,12 +112,12 @@ impl PartialEq for Bytes {
 
     ghost laws = { Prim.search (comparing, rules) };
 
-    fn eq(&self, other: &Bytes) -> bool {
+    fn eq(&self, other: &ByteString) -> bool {
         self.as_slice() == other.as_slice()
     }
 }
 
-impl Eq for Bytes {
+impl Eq for ByteString {
     ghost use Rattle.std.proofs.Common.{rules};
     ghost use Rattle.std.specs.Cmp.Rules.{comparing};
 

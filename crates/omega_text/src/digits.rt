@@ -1,10 +1,13 @@
-ghost use Rattle.std.specs.Prelude.{◌≡◌, ◌≤◌, ◌<◌, take, length, MatchBool, slice_index};
+ghost use Rattle.std.specs.Prelude.{◌≡◌, ◌≤◌, ◌<◌, take, length, IfSome, MatchBool, slice_index, true};
 ghost use Rattle.std.specs.List.{prefix_len};
 ghost use Rattle.std.specs.Str.Parse.{digits_value};
 ghost use Rattle.omega_text.specs.Bytes.{is_digit};
 ghost use Rattle.omega_text.specs.Limits.{most_number};
 
 use crate::limits::MOST_NUMBER;
+
+/// Fewer digits than these have a value that is none above the greatest number's.
+const MANY_DIGITS: usize = 9;
 
 /// How many bytes at the front are digits, and their value, or some value above the greatest number's where theirs is.
 #[inline(always)]
@@ -27,6 +30,26 @@ pub(crate) fn front_digits(bytes: &[u8]) -> (usize, u64)
         }
     }
     (bytes.len(), value)
+}
+
+/// The same, if a byte that is no digit ends the digits, and they are so few that no value needs to be compared.
+#[inline(always)]
+pub(crate) fn few_digits(bytes: &[u8]) -> Option<(usize, u64)>
+    requires some { 0 < length bytes.now }
+    requires digit { is_digit (slice_index bytes.now 0) ≡ true }
+    ensures count { IfSome result (λ found. found.0 ≡ prefix_len is_digit bytes.now) }
+    ensures ended { IfSome result (λ found. found.0 < length bytes.now) }
+    ensures value { IfSome result (λ found. found.1 ≡ digits_value 10 (take found.0 bytes.now)) }
+    ensures small { IfSome result (λ found. found.1 ≤ most_number) }
+{
+    let mut value = u64::from(bytes[0] - b'0');
+    for count in 1..bytes.len().min(MANY_DIGITS) {
+        if !bytes[count].is_ascii_digit() {
+            return Some((count, value));
+        }
+        value = value * 10 + u64::from(bytes[count] - b'0');
+    }
+    None
 }
 
 /// Whether the digits at the front begin with a zero and go on.

@@ -26,7 +26,7 @@ mod token_reader;
 mod token_source;
 mod tokens;
 
-pub use byte_string::Bytes;
+pub use byte_string::ByteString;
 pub use checking::check_tokens;
 pub use cursor::Cursor;
 pub use hoa::{HoaKind, HoaTokenizer, PlacedToken, Settled, hoa_tokens, next_hoa_token};

@@ -8,7 +8,7 @@ use std::alloc::{AllocError, Global};
 pub(crate) type Part = (HoaKind, usize, usize);
 
 // Texts, the kinds and places of their tokens, and the number and the place of the fault behind them.
-pub(crate) static TEXTS: [(&[u8], &[Part], Option<(u32, usize)>); 50] = [
+pub(crate) static TEXTS: [(&[u8], &[Part], Option<(u32, usize)>); 53] = [
     (b"", &[], None),
     (b" \t\r\n", &[], None),
     (b"t", &[(HoaKind::True, 0, 1)], None),
@@ -114,6 +114,29 @@ pub(crate) static TEXTS: [(&[u8], &[Part], Option<(u32, usize)>); 50] = [
     (b"z\x7F", &[(HoaKind::Identifier, 0, 1)], Some((1, 1))),
     (b"_\x80", &[(HoaKind::Identifier, 0, 1)], Some((1, 1))),
     (b"0\xFF", &[(HoaKind::Int, 0, 1)], Some((1, 1))),
+    (
+        b"12345678 123456789]1234567890}",
+        &[
+            (HoaKind::Int, 0, 8),
+            (HoaKind::Int, 9, 18),
+            (HoaKind::CloseBracket, 18, 19),
+            (HoaKind::Int, 19, 29),
+            (HoaKind::CloseBrace, 29, 30),
+        ],
+        None,
+    ),
+    (b"10 02147483647", &[(HoaKind::Int, 0, 2)], Some((2, 3))),
+    (
+        b"@a&@b-1|@c:",
+        &[
+            (HoaKind::AliasName, 0, 2),
+            (HoaKind::And, 2, 3),
+            (HoaKind::AliasName, 3, 7),
+            (HoaKind::Or, 7, 8),
+            (HoaKind::AliasName, 8, 10),
+        ],
+        Some((1, 10)),
+    ),
 ];
 
 // Texts, and how many of their tokens are settled by each byte; 9 from the fault on.
@@ -133,7 +156,7 @@ static SETTLED: [(&str, &[usize]); 12] = [
 ];
 
 // Texts, the places of the bytes of theirs by which a mark or a fault is settled, and the number and the place of the fault.
-static STOPS: [(&str, &[usize], Option<(u32, usize)>); 8] = [
+static STOPS: [(&str, &[usize], Option<(u32, usize)>); 10] = [
     (
         "HOA: v1 \"a\" 12 --BODY-- State: 0 {1} --END--\n",
         &[22, 43],
@@ -146,6 +169,8 @@ static STOPS: [(&str, &[usize], Option<(u32, usize)>); 8] = [
     ("a \"x\\\"y\" 007 ", &[12], Some((2, 9))),
     ("2147483647 2147483648 ", &[21], Some((2, 11))),
     ("[!0&1] --ENDX", &[12], Some((1, 7))),
+    ("@a\t@b]--BODY--{12345678901}", &[13, 26], Some((2, 15))),
+    ("123456789--ABORT--0012 ", &[17, 22], Some((2, 18))),
 ];
 
 // What a tokenizer settles of a piece that begins at a place is put behind other tokens; the answer is its fault.

@@ -2,6 +2,8 @@
 #![tactic(auto)]
 
 #[cfg(test)]
+mod byte_string;
+#[cfg(test)]
 mod cursor;
 #[cfg(test)]
 mod hoa;

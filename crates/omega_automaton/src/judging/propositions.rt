@@ -12,7 +12,7 @@ use crate::judging::repeats::has_name_twice;
 use crate::limits::MOST_PROPOSITIONS;
 use omega_acc::RawLabel;
 use omega_raw::{RawAutomaton, RawItem};
-use omega_text::{Bytes, Refusal, Seq};
+use omega_text::{ByteString, Refusal, Seq};
 use std::alloc::Global;
 
 /// Whether propositions are miscounted, alike or too many, or a label or an alias mentions one out of range (refusal 26).
@@ -78,7 +78,7 @@ fn misnames(alloc: Global, item: &RawItem) -> Result<bool, Refusal>
 }
 
 /// Whether names are not as many as stated, or too many, or alike.
-fn is_misnamed(alloc: Global, count: u32, names: &Seq<Bytes>) -> Result<bool, Refusal>
+fn is_misnamed(alloc: Global, count: u32, names: &Seq<ByteString>) -> Result<bool, Refusal>
     ensures ok { IfOk result (λ wrong. wrong ≡ misnamed (record { count = count; names = names.now })) }
     ensures err { IfErr result IsMemory }
 {

@@ -7,7 +7,7 @@ ghost use Rattle.omega_automaton.specs.Faults.{has_state_twice as state_twice};
 
 use indexmap::IndexSet;
 use omega_raw::{RawAutomaton, RawState};
-use omega_text::{Bytes, Refusal};
+use omega_text::{ByteString, Refusal};
 use std::alloc::Global;
 
 /// So many names are compared two by two, which is quicker than to look each up.
@@ -66,7 +66,7 @@ fn sees_number_twice(seen: &mut IndexSet<u32>, states: &[RawState]) -> Result<bo
 }
 
 /// Whether two of the names have equal bytes. A few, as nearly all automata have, take no memory.
-pub(crate) fn has_name_twice(alloc: Global, names: &[Bytes]) -> Result<bool, Refusal>
+pub(crate) fn has_name_twice(alloc: Global, names: &[ByteString]) -> Result<bool, Refusal>
     ensures ok { IfOk result (λ twice. twice ≡ has_repeat bytes_eq names.now) }
     ensures err { IfErr result IsMemory }
 {
@@ -78,7 +78,7 @@ pub(crate) fn has_name_twice(alloc: Global, names: &[Bytes]) -> Result<bool, Ref
 }
 
 /// The same of names each of which is compared with all behind it.
-fn any_two_alike(names: &[Bytes]) -> bool
+fn any_two_alike(names: &[ByteString]) -> bool
     ensures { result ≡ has_repeat bytes_eq names.now }
 {
     let mut left = names;
@@ -92,7 +92,7 @@ fn any_two_alike(names: &[Bytes]) -> bool
 }
 
 /// Whether one of the names has these bytes.
-fn is_among(bytes: &[u8], names: &[Bytes]) -> bool
+fn is_among(bytes: &[u8], names: &[ByteString]) -> bool
     ensures { result ≡ list_any (λ name. bytes_eq name bytes.now) names.now }
 {
     for name in names {
@@ -104,7 +104,7 @@ fn is_among(bytes: &[u8], names: &[Bytes]) -> bool
 }
 
 /// The same where no name is seen yet.
-fn sees_name_twice<'a>(seen: &mut IndexSet<&'a [u8]>, names: &'a [Bytes]) -> Result<bool, Refusal>
+fn sees_name_twice<'a>(seen: &mut IndexSet<&'a [u8]>, names: &'a [ByteString]) -> Result<bool, Refusal>
     requires { seen.old.keys ≡ [] }
     ensures ok { IfOk result (λ twice. twice ≡ has_repeat bytes_eq names.now) }
     ensures err { IfErr result IsMemory }

@@ -7,7 +7,7 @@ use crate::header::Header;
 use crate::tool::Tool;
 use omega_acc::{AccName, RawAcc};
 use omega_raw::RawItem;
-use omega_text::{Bytes, Numbers, Refusal, Seq};
+use omega_text::{ByteString, Numbers, Refusal, Seq};
 use std::alloc::Global;
 
 /// What the items of a header say, but for the count of states and the aliases: of an item that may not repeat what the
@@ -15,12 +15,12 @@ use std::alloc::Global;
 #[derive(Drop)]
 pub(crate) struct Gathered {
     pub tool: Option<Tool>,
-    pub name: Option<Bytes>,
+    pub name: Option<ByteString>,
     pub starts: Vec<Numbers>,
-    pub propositions: Option<Seq<Bytes>>,
+    pub propositions: Option<Seq<ByteString>>,
     pub acc_name: Option<AccName>,
     pub acceptance: Option<RawAcc>,
-    pub properties: Vec<Bytes>,
+    pub properties: Vec<ByteString>,
     pub unknown: Vec<Header>,
 }
 
@@ -94,7 +94,7 @@ fn keep_first<T: Drop>(kept: &mut Option<T>, value: T)
 }
 
 /// Puts words behind others. Where there are no others, as at the first item, all are moved at once.
-fn put_all(words: &mut Vec<Bytes>, more: Seq<Bytes>) -> Result<(), Refusal>
+fn put_all(words: &mut Vec<ByteString>, more: Seq<ByteString>) -> Result<(), Refusal>
     ensures ok { OnOk result (words.new.items ≡ words.old.items ++ more) }
     ensures err { IfErr result IsMemory }
 {

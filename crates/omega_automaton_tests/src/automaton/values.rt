@@ -3,7 +3,7 @@ use crate::acc::{formula_text, written};
 use crate::outcomes::{assert_row, is_text};
 use crate::texts::{meaning, text_with};
 use omega_automaton::{
-    AccName, Automaton, Bytes, Edge, Header, HeaderValue, Label, Numbers, Parameter, Refusal,
+    AccName, Automaton, ByteString, Edge, Header, HeaderValue, Label, Numbers, Parameter, Refusal,
     State, Tool,
 };
 use std::alloc::Global;
@@ -118,7 +118,7 @@ fn is_edge(alloc: Global, edge: &Edge, label: &str, targets: &[u32], marks: &[u3
 }
 
 // Whether these are the bytes that are there, if any.
-fn are_bytes(found: Option<&Bytes>, want: Option<&[u8]>) -> bool {
+fn are_bytes(found: Option<&ByteString>, want: Option<&[u8]>) -> bool {
     match (found, want) {
         (Some(bytes), Some(want)) => bytes.as_slice() == want,
         (None, None) => true,
@@ -251,7 +251,7 @@ fn are_starts(starts: &[Numbers]) -> bool {
 }
 
 // Whether these are the words, in this order.
-fn are_words(found: &[Bytes], want: &[&str]) -> bool {
+fn are_words(found: &[ByteString], want: &[&str]) -> bool {
     for (place, word) in found.iter().enumerate() {
         if want
             .get(place)

@@ -156,7 +156,7 @@ read_on start text before after next is mode begins unfinished seen lexemes plac
 }
 
 -- bytes from a place on
-passes_part : (start : ℕ) (bytes rest : List ℕ) (place count : ℕ) (before after : Pending) → place ≤ length bytes → rest ≡ drop place bytes → count ≤ length rest
+pub passes_part : (start : ℕ) (bytes rest : List ℕ) (place count : ℕ) (before after : Pending) → place ≤ length bytes → rest ≡ drop place bytes → count ≤ length rest
     → PassesAs start (take count rest) before after → Passes start bytes place (place + count) before after
 passes_part start bytes rest place count before after within is short reads =
     let size = length-drop place bytes in
@@ -275,25 +275,25 @@ not_single : (byte : ℕ) (mode : Option Mode) → first_mode byte ≡ mode → 
 not_single byte mode is no_blank no_whole (inl blank) = no_blank (sym is ∙ blank)
 not_single byte mode is no_blank no_whole (inr (kind, whole, plain)) = no_whole kind (sym is ∙ whole)
 
-single_no_letter : (byte : ℕ) → IsSingle byte → is_letter byte ≡ false
+pub single_no_letter : (byte : ℕ) → IsSingle byte → is_letter byte ≡ false
 single_no_letter byte single = ⊎_elim
     (λ letter. absurd (not_single byte (Some (Word (letter_kind byte))) (first_letter byte letter) (λ same. cc) (λ kind same. cc) single))
     (λ none. none)
     (told (is_letter byte))
 
-single_no_digit : (byte : ℕ) → IsSingle byte → is_digit byte ≡ false
+pub single_no_digit : (byte : ℕ) → IsSingle byte → is_digit byte ≡ false
 single_no_digit byte single = ⊎_elim
     (λ digit. absurd (not_single byte (Some Digits) (first_digit byte digit) (λ same. cc) (λ kind same. cc) single))
     (λ none. none)
     (told (is_digit byte))
 
-single_no_hyphen : (byte : ℕ) → IsSingle byte → byte ≢ 45
+pub single_no_hyphen : (byte : ℕ) → IsSingle byte → byte ≢ 45
 single_no_hyphen byte single same = not_single 45 (Some Dash) refl (λ same. cc) (λ kind same. cc) (subst IsSingle same single)
 
 single_no_colon : (byte : ℕ) → IsSingle byte → byte ≢ 58
 single_no_colon byte single same = not_single 58 None refl (λ same. cc) (λ kind same. cc) (subst IsSingle same single)
 
-no_word_byte : (byte : ℕ) → is_letter byte ≡ false → is_digit byte ≡ false → byte ≢ 45 → is_word_byte byte ≡ false
+pub no_word_byte : (byte : ℕ) → is_letter byte ≡ false → is_digit byte ≡ false → byte ≢ 45 → is_word_byte byte ≡ false
 no_word_byte byte no_letter no_digit no_hyphen = grind (arith, nat_tests)
 
 single_ends_word : (kind : HoaKind) (byte : ℕ) → IsSingle byte → next_mode (Word kind) byte ≡ None
@@ -305,7 +305,7 @@ single_ends_digits : (byte : ℕ) → IsSingle byte → next_mode Digits byte �
 single_ends_digits byte single = pass (is_digit byte) _ _ (single_no_digit byte single)
 
 -- a unit and such a byte behind it
-ended_single : (before : Pending) (byte : ℕ) → next_mode before.mode byte ≡ None
+pub ended_single : (before : Pending) (byte : ℕ) → next_mode before.mode byte ≡ None
     → ((stop : ℕ) → (token : PlacedToken) × IsTokenIn before.mode before.value before.start stop token) → IsSingle byte → IsEndedBy byte before
 ended_single before byte ends token single seen lexemes at =
     let settled = token (length seen) in
@@ -321,10 +321,10 @@ ended_single before byte ends token single seen lexemes at =
     }
 
 -- a token of a kind, value and place
-abbrev placed : HoaKind → ℕ → ℕ → ℕ → PlacedToken
+abbrev pub placed : HoaKind → ℕ → ℕ → ℕ → PlacedToken
 placed kind value start end = record { kind = kind; value = value; span = record { start = start; end = end } }
 
-placed_there : (kind : HoaKind) (value start end : ℕ) → IsPlaced (placed kind value start end) kind value start end
+pub placed_there : (kind : HoaKind) (value start end : ℕ) → IsPlaced (placed kind value start end) kind value start end
 placed_there kind value start end = record { kind_is = refl; value_is = refl; start_is = refl; end_is = refl }
 
 pub word_ended : (byte : ℕ) → IsSingle byte → EndsWord byte
@@ -378,7 +378,7 @@ single_simple start bytes place inside single =
     let one : start + 1 ≡ start + (place + 1 - place) = omega arith in
     (omega arith, passes_byte start bytes place (fresh start) (fresh (start + (place + 1 - place))) inside (subst (λ n. PassesAs start (get_or bytes place 0 ∷ []) (fresh start) (fresh n)) one (single_ends start (get_or bytes place 0) single)))
 
-ended_simple : (start : ℕ) (bytes : List ℕ) (place end : ℕ) (between : Pending) → Passes start bytes place end (fresh start) between → end < length bytes → IsEndedBy (get_or bytes end 0) between
+pub ended_simple : (start : ℕ) (bytes : List ℕ) (place end : ℕ) (between : Pending) → Passes start bytes place end (fresh start) between → end < length bytes → IsEndedBy (get_or bytes end 0) between
     → IsSimple start bytes place (Ended (end + 1))
 ended_simple start bytes place end between front inside ends = (omega (arith, front.forward), ended_passes start bytes place end (fresh start) between front inside ends)
 

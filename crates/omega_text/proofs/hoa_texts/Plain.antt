@@ -1,5 +1,5 @@
 -- Units that a first byte and a run of bytes behind it tell.
-use Rattle.std.proofs.Common.{◌≡◌, ℕ, suc, ◌+◌, ◌-◌, ◌<◌, ◌≤◌, Bool, true, false, Some, List, [], ◌∷◌, length, get_or, take, drop, refl, sym, ap, ◌∙◌, subst, arith, length-drop, length-take-le}
+use Rattle.std.proofs.Common.{◌≡◌, ℕ, suc, ◌+◌, ◌-◌, ◌<◌, ◌≤◌, Bool, true, false, Some, List, [], ◌∷◌, length, get_or, take, drop, refl, sym, ap, ◌∙◌, subst, arith, add-zero, length-drop, length-take-le}
 use Rattle.std.proofs.lemmas.List.{get_or-drop, get_or-take, take_more}
 use Rattle.std.proofs.lemmas.List.Sums.{prefix_len-le-length, prefix_len_is, prefix_len_passes, prefix_len_stops}
 use Rattle.std.specs.List.{AllPass, prefix_len}
@@ -10,18 +10,20 @@ use Rattle.omega_text.specs.declared.hoa.mode.Mode.TheVariants.{Start, Alias, Di
 use Rattle.omega_text.specs.Limits.{most_number}
 use Rattle.omega_text.specs.hoa.Forms.{Spells, spelling}
 use Rattle.omega_text.specs.hoa.scanning.Modes.{BeginsAs, IsFirstUnit, IsScanned, first_mode, next_mode, run}
-use Rattle.omega_text.specs.hoa.scanning.Passing.{is_mark, is_quoted}
+use Rattle.omega_text.specs.hoa.scanning.Passing.{IsSimple, IsSingle, is_mark, is_quoted}
+use Rattle.omega_text.specs.declared.hoa.passing.Simple.TheVariants.{Ended}
+use Rattle.std.specs.Str.Parse.{digits_value}
 use Rattle.omega_text.proofs.pg_texts.Longest.{head, head-take}
-use Rattle.omega_text.proofs.pg_texts.Numbers.{worth_small}
-use Rattle.omega_text.proofs.hoa_texts.Passing.{quoted_front}
+use Rattle.omega_text.proofs.pg_texts.Numbers.{front_value, worth_small}
+use Rattle.omega_text.proofs.hoa_texts.Passing.{digits_simple, quoted_front}
 use Rattle.omega_text.proofs.hoa_texts.Runs.{run_append}
 use Rattle.omega_text.proofs.hoa_texts.Tests.{pass}
-use Rattle.omega_text.proofs.hoa_texts.Units.{digits_scanned, first_plain, first_read, stuck_at, whole_stuck}
+use Rattle.omega_text.proofs.hoa_texts.Units.{digits_scanned, first_digits, first_plain, first_read, stuck_at, whole_stuck}
 use Rattle.omega_text.proofs.hoa_texts.Values.{one_digit}
 use Rattle.omega_text.proofs.hoa_texts.Written.{at_run}
 
 -- each byte of a run passes
-run_passes : (test : ℕ → Bool) (bytes : List ℕ) → AllPass test (take (prefix_len test bytes) bytes)
+pub run_passes : (test : ℕ → Bool) (bytes : List ℕ) → AllPass test (take (prefix_len test bytes) bytes)
 run_passes test bytes k d inside =
     let size = length-take-le (prefix_len test bytes) bytes (prefix_len-le-length test bytes) in
     ap test (get_or-take (prefix_len test bytes) bytes k d (omega arith)) ∙ prefix_len_passes test bytes k d (omega arith)
@@ -84,6 +86,30 @@ first_digit_unit bytes value long digit other is =
     let small : head bytes - 48 ≤ most_number = omega (arith, worth_small (head bytes) digit) in
     first_read bytes 1 Digits (digits_scanned bytes some digit 1 (sym count)) (Some Int) value refl
     (subst (λ n. Spells Int n (take 1 bytes)) (sym is) (subst (Spells Int (head bytes - 48)) (sym front) ((one_digit (head bytes) digit).number small)))
+
+-- a number of few digits
+pub few_spells : (bytes : List ℕ) (count value : ℕ) → 0 < length bytes → is_digit (head bytes) ≡ true → count ≡ prefix_len is_digit bytes → value ≡ digits_value 10 (take count bytes) → value ≤ most_number
+    → (head bytes ≡ 48 → count ≤ 1) → Spells Int value (take count bytes)
+few_spells bytes count value some digit is worth small plain =
+    let digits = first_digits bytes some digit count is in
+    let scanned = digits_scanned bytes some digit count is in
+    let long = length-take-le count bytes scanned.within in
+    (small, front_value (take count bytes) value digits (λ zero_first. omega (arith, long, plain (sym (head-take count bytes (omega (arith, digits.0, long))) ∙ zero_first))) worth small)
+
+pub few_digits_unit : (bytes : List ℕ) (count value : ℕ) → 0 < length bytes → is_digit (head bytes) ≡ true → count ≡ prefix_len is_digit bytes → value ≡ digits_value 10 (take count bytes) → value ≤ most_number
+    → (head bytes ≡ 48 → count ≤ 1) → IsFirstUnit bytes (Some Int) value count
+few_digits_unit bytes count value some digit is worth small plain =
+    first_read bytes count Digits (digits_scanned bytes some digit count is) (Some Int) value refl (few_spells bytes count value some digit is worth small plain)
+
+-- the same where it stands at a place, and a byte behind it ends it
+pub few_digits_simple : (start : ℕ) (bytes rest : List ℕ) (place count value : ℕ) → place < length bytes → rest ≡ drop place bytes → is_digit (get_or bytes place 0) ≡ true → count ≡ prefix_len is_digit rest
+    → value ≡ digits_value 10 (take count rest) → value ≤ most_number → (get_or rest 0 0 ≡ 48 → count ≤ 1) → count < length rest → IsSingle (get_or bytes (place + count) 0) → IsSimple start bytes place (Ended (place + count + 1))
+few_digits_simple start bytes rest place count value inside is digit prefix worth small plain ended single =
+    let size = length-drop place bytes in
+    let same : length rest ≡ length (drop place bytes) = ap length is in
+    let first : is_digit (get_or rest 0 0) ≡ true = ap is_digit (ap (λ bs. get_or bs 0 0) is ∙ get_or-drop place bytes 0 0 ∙ ap (λ k. get_or bytes k 0) (add-zero place)) ∙ digit in
+    let spells = few_spells rest count value (omega (arith, size, same, inside)) first prefix worth small plain in
+    digits_simple start bytes rest place count value inside is digit prefix (record { number = λ _. spells; none = λ great number other. absurd (omega (arith, great, small)) }) small (omega (arith, size, same, ended, inside)) single
 
 -- a mark
 mark_run : (kind : HoaKind) → is_mark kind ≡ true → run (Some Start) (spelling kind) ≡ Some (Whole kind)

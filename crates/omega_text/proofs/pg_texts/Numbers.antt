@@ -1,5 +1,6 @@
 -- Which texts are tokens: digits that are a number, and words.
-use Rattle.std.proofs.Common.{◌≡◌, ◌≢◌, ℕ, zero, suc, ◌+◌, ◌-◌, ◌<◌, ◌*◌, ◌/◌, ◌%◌, ◌≤◌, ◌^◌, ⊎_elim, Bool, true, false, cond, eqb, List, [], ◌∷◌, length, get_or, take, sym, ap, ◌∙◌, arith, codes}
+use Rattle.std.proofs.Common.{◌≡◌, ◌≢◌, ℕ, zero, suc, ◌+◌, ◌-◌, ◌<◌, ◌*◌, ◌/◌, ◌%◌, ◌≤◌, ◌^◌, ⊎_elim, Bool, true, false, cond, eqb, List, [], ◌∷◌, length, get_or, take, sym, ap, ◌∙◌, arith, add-one, codes}
+use Rattle.std.proofs.Math.Nat.{pow-suc}
 use Rattle.std.proofs.lemmas.Fmt.{decimal_digit, decimal_is_IsNumeral, decimal-digits_value, first_decimal}
 use Rattle.std.proofs.lemmas.Str.Parse.{IsNumeralModel, numerals_by_value, tells_by_index}
 use Rattle.std.proofs.lemmas.Bool.Decides.{nat_tests}
@@ -115,6 +116,10 @@ value_no_less text i inside = omega (arith, digits_value_more 10 text i inside)
 -- a digit is worth at most nine
 pub worth_small : (byte : ℕ) → is_digit byte ≡ true → byte - 48 ≤ 9
 worth_small byte digit = grind (arith, nat_tests)
+
+-- with each digit values may be ten times as great
+pub power_more : (count : ℕ) → 10 ^ (count + 1) ≡ 10 ^ count * 10
+power_more count = ap (λ n. 10 ^ n) (add-one count) ∙ pow-suc 10 count
 
 -- digits at the front, whose value is that of a number and which have no needless zero, are its numeral
 pub front_value : (text : List ℕ) (value : ℕ) → IsDigits text → (head text ≡ 48 → length text ≤ 1) → value ≡ digits_value 10 text → value ≤ most_number → text ≡ decimal value

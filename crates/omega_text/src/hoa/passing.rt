@@ -1,23 +1,23 @@
 //! Bytes that settle neither a mark nor a fault, read at once.
 
 ghost use Rattle.std.specs.Prelude.{◌≡◌, ◌+◌, ◌-◌, ◌<◌, ◌≤◌, ◌^◌, ◌∷◌, [], length, slice_index, take, true, IfSome, IsTrue};
-ghost use Rattle.std.specs.List.{prefix_len};
 ghost use Rattle.omega_text.specs.Bytes.{is_digit, is_letter};
 ghost use Rattle.omega_text.specs.hoa.scanning.Passing.{EndsWord, IsCourse, IsNoneMark, IsOnWayFor, IsPlain, IsSimple, IsSingle, Passes, PassesAs};
 ghost use Rattle.omega_text.specs.hoa.scanning.Reading.{IsOnWay};
-ghost use Rattle.omega_text.specs.hoa.scanning.Unfinished.{IsValueOf, fresh};
+ghost use Rattle.omega_text.specs.hoa.scanning.Unfinished.{fresh};
+ghost use Rattle.omega_text.specs.declared.hoa.passing.Simple.TheVariants.{Begun};
 
 use super::kept_mode::KeptMode;
-use super::kind::HoaKind;
+use super::kind::{HoaKind, spelling};
 use super::lead::{Lead, lead_of};
+use super::mark::front_mark;
 use super::mode::{Mode, letter_kind};
-use super::pending::{NO_NUMBER, Pending};
+use super::pending::Pending;
 use super::placed::{PlacedToken, Settled};
 use super::quoted::quoted_count;
 use super::tokenizer::read_byte;
 use crate::bytes::{tail, word_count};
-use crate::digits::{front_digits, has_needless_zero};
-use crate::limits::MOST_NUMBER;
+use crate::digits::{few_digits, has_needless_zero};
 
 /// The unit that is being read, with the bytes from a place on, up to one that settles a mark or a fault; and the place of
 /// that one, or the end. `start` is the place among the bytes of all.
@@ -64,6 +64,7 @@ fn pass_byte(pending: &Pending, place: usize, byte: u8) -> Option<Pending>
                 value: 0,
             }),
             Course::Ends => Some(Pending::new(place + 1)),
+            Course::Marks => None,
             Course::Other => pass_settling(pending, place, byte),
         },
     }
@@ -76,7 +77,9 @@ enum Course {
     GoesOn,
     /// It is whole, and no mark.
     Ends,
-    /// It is a mark, or digits.
+    /// It is a mark.
+    Marks,
+    /// It is digits.
     Other,
 }
 
@@ -88,7 +91,7 @@ fn course_of(next: KeptMode) -> Course
         Mode::Start | Mode::Digits => Course::Other,
         Mode::Blank => Course::Ends,
         Mode::Whole(kind) => match kind {
-            HoaKind::Body | HoaKind::End | HoaKind::Abort => Course::Other,
+            HoaKind::Body | HoaKind::End | HoaKind::Abort => Course::Marks,
             _ => Course::Ends,
         },
         _ => Course::GoesOn,
@@ -184,10 +187,8 @@ fn simple_unit(bytes: &[u8], place: usize, start: usize) -> Simple
         Lead::Digit => pass_digits(bytes, place, start),
         Lead::Letter => pass_word(bytes, place, start),
         Lead::Quote => pass_string(bytes, place, start),
-        _ => Simple::Begun {
-            pending: Pending::new(start),
-            place,
-        },
+        Lead::At => pass_alias(bytes, place, start),
+        _ => pass_mark(bytes, place, start),
     }
 }
 
@@ -249,34 +250,24 @@ fn pass_digits(bytes: &[u8], place: usize, start: usize) -> Simple
         // Most numbers have one digit.
         return Simple::Ended { place: next + 1 };
     }
-    let (count, value) = front_value(tail(bytes, place));
-    let end = place + count;
-    if end < bytes.len() && value <= MOST_NUMBER as u64 && is_single(bytes[end]) {
-        return Simple::Ended { place: end + 1 };
+    let rest = tail(bytes, place);
+    if let Some((count, _)) = few_digits(rest) {
+        let end = place + count;
+        if !has_needless_zero(rest, count) && is_single(bytes[end]) {
+            return Simple::Ended { place: end + 1 };
+        }
     }
-    Simple::Begun {
-        pending: Pending {
-            mode: KeptMode::new(Mode::Digits),
-            start,
-            value,
-        },
-        place: end,
-    }
+    not_begun(place, start)
 }
 
-/// How many bytes at the front are digits, and their value, or a number above the greatest where they are no number.
+/// No byte of the unit that begins at a place, which is read byte by byte then.
 #[inline(always)]
-fn front_value(bytes: &[u8]) -> (usize, u64)
-    requires some { 0 < length bytes.now }
-    requires digit { is_digit (slice_index bytes.now 0) ≡ true }
-    ensures count { result.0 ≡ prefix_len is_digit bytes.now }
-    ensures value { IsValueOf result.1 (take result.0 bytes.now) }
+fn not_begun(place: usize, start: usize) -> Simple
+    ensures { result ≡ Begun (fresh start) place }
 {
-    let (count, value) = front_digits(bytes);
-    if has_needless_zero(bytes, count) {
-        (count, NO_NUMBER)
-    } else {
-        (count, value)
+    Simple::Begun {
+        pending: Pending::new(start),
+        place,
     }
 }
 
@@ -298,5 +289,40 @@ fn pass_string(bytes: &[u8], place: usize, start: usize) -> Simple
             value: 0,
         },
         place: end,
+    }
+}
+
+#[inline(always)]
+fn pass_alias(bytes: &[u8], place: usize, start: usize) -> Simple
+    requires within { place < length bytes.now }
+    requires at { slice_index bytes.now place ≡ 64 }
+    ensures { IsSimple start bytes.now place result }
+{
+    let inside = place + 1;
+    let count = word_count(tail(bytes, inside));
+    let end = inside + count;
+    if count > 0 && end < bytes.len() && is_single(bytes[end]) {
+        return Simple::Ended { place: end + 1 };
+    }
+    not_begun(place, start)
+}
+
+/// A mark up to its last byte, which settles it.
+#[inline(always)]
+fn pass_mark(bytes: &[u8], place: usize, start: usize) -> Simple
+    requires { place < length bytes.now }
+    ensures { IsSimple start bytes.now place result }
+{
+    let Some(kind) = front_mark(tail(bytes, place)) else {
+        return not_begun(place, start);
+    };
+    let count = spelling(kind).len() - 1;
+    Simple::Begun {
+        pending: Pending {
+            mode: KeptMode::new(Mode::Mark(kind, count)),
+            start,
+            value: 0,
+        },
+        place: place + count,
     }
 }

@@ -5,7 +5,8 @@ ghost use Rattle.omega_text.specs.hoa.Cut.{Ends, Follows, IsGapTo};
 ghost use Rattle.omega_text.specs.hoa.Fault.{Faults};
 
 use super::kind::HoaKind;
-use super::unit::{first_unit, plain_unit};
+use super::plain::plain_unit;
+use super::unit::first_unit;
 use crate::bytes::{is_white, tail};
 use crate::refusal::TextFault;
 use crate::token::{Span, Token};

@@ -1,15 +1,15 @@
-ghost use Rattle.std.specs.Prelude.{◌≡◌, ◌<◌, ◌≤◌, ◌^◌, length, slice_index, true, false, Some, IfErr, IfOk, IfSome, IsTrue};
+ghost use Rattle.std.specs.Prelude.{◌≡◌, ◌<◌, ◌≤◌, ◌^◌, length, slice_index, true, false, Some, IfErr, IfOk, IfSome};
 ghost use Rattle.omega_text.specs.hoa.Fault.{IsFaultOf};
-ghost use Rattle.omega_text.specs.hoa.scanning.Modes.{BeginsAs, IsFirstUnit, IsScanned};
+ghost use Rattle.omega_text.specs.hoa.scanning.Modes.{IsFirstUnit, IsScanned};
 ghost use Rattle.omega_text.specs.hoa.Forms.{spelling};
-ghost use Rattle.omega_text.specs.Bytes.{is_digit, is_letter};
+ghost use Rattle.omega_text.specs.Bytes.{is_digit};
 
 use super::kept_mode::KeptMode;
 use super::kind::{HoaKind, spelling};
-use super::lead::{Lead, lead_of};
-use super::mode::{Mode, letter_kind};
-use super::quoted::quoted_count;
-use crate::bytes::{is_white, tail, word_count};
+use super::mark::front_mark;
+use super::mode::Mode;
+use super::plain::plain_unit;
+use crate::bytes::is_white;
 use crate::digits::{front_digits, has_needless_zero};
 use crate::limits::MOST_NUMBER;
 use crate::refusal::TextFault;
@@ -44,24 +44,8 @@ pub(crate) fn first_unit(bytes: &[u8], place: usize) -> Result<Unit, TextFault>
     }
 }
 
-/// The token that bytes begin with, if its first byte and a run of bytes behind it tell it.
-#[inline(always)]
-pub(crate) fn plain_unit(bytes: &[u8]) -> Option<Unit>
-    requires { 0 < length bytes.now }
-    ensures { IfSome result (λ unit. IsFirstUnit bytes.now unit.kind unit.value unit.count) }
-{
-    match lead_of(bytes[0]) {
-        Lead::Sign(kind) => Some(whole_byte(Some(kind))),
-        Lead::Digit => plain_number(bytes),
-        Lead::Letter => Some(first_word(bytes)),
-        Lead::Quote => plain_string(bytes),
-        Lead::At => plain_alias(bytes),
-        _ => None,
-    }
-}
-
 /// A unit of one byte.
-fn whole_byte(kind: Option<HoaKind>) -> Unit
+pub(super) fn whole_byte(kind: Option<HoaKind>) -> Unit
     ensures kind { result.kind ≡ kind }
     ensures value { result.value ≡ 0 }
     ensures count { result.count ≡ 1 }
@@ -70,33 +54,6 @@ fn whole_byte(kind: Option<HoaKind>) -> Unit
         kind,
         value: 0,
         count: 1,
-    }
-}
-
-/// The word that bytes begin with, with the colon that follows it directly.
-#[inline(always)]
-fn first_word(bytes: &[u8]) -> Unit
-    requires some { 0 < length bytes.now }
-    requires letter { is_letter (slice_index bytes.now 0) ≡ true }
-    ensures { IsFirstUnit bytes.now result.kind result.value result.count }
-{
-    let count = word_count(bytes);
-    if count < bytes.len() && bytes[count] == b':' {
-        return Unit {
-            kind: Some(HoaKind::HeaderName),
-            value: 0,
-            count: count + 1,
-        };
-    }
-    let kind = if count == 1 {
-        letter_kind(bytes[0])
-    } else {
-        HoaKind::Identifier
-    };
-    Unit {
-        kind: Some(kind),
-        value: 0,
-        count,
     }
 }
 
@@ -119,84 +76,12 @@ fn first_number(bytes: &[u8], place: usize) -> Result<Unit, TextFault>
     })
 }
 
-/// The same, where the digits are a number.
-#[inline(always)]
-fn plain_number(bytes: &[u8]) -> Option<Unit>
-    requires some { 0 < length bytes.now }
-    requires digit { is_digit (slice_index bytes.now 0) ≡ true }
-    ensures { IfSome result (λ unit. IsFirstUnit bytes.now unit.kind unit.value unit.count) }
-{
-    if bytes.len() > 1 && !bytes[1].is_ascii_digit() {
-        // Most numbers have one digit.
-        return Some(Unit {
-            kind: Some(HoaKind::Int),
-            value: u32::from(bytes[0] - b'0'),
-            count: 1,
-        });
-    }
-    match first_number(bytes, 0) {
-        Ok(unit) => Some(unit),
-        Err(_) => None,
-    }
-}
-
-/// The string that bytes begin with, if it has no backslash.
-#[inline(always)]
-fn plain_string(bytes: &[u8]) -> Option<Unit>
-    requires some { 0 < length bytes.now }
-    requires quote { slice_index bytes.now 0 ≡ 34 }
-    ensures { IfSome result (λ unit. IsFirstUnit bytes.now unit.kind unit.value unit.count) }
-{
-    let close = 1 + quoted_count(tail(bytes, 1));
-    if close < bytes.len() && bytes[close] == b'"' {
-        return Some(Unit {
-            kind: Some(HoaKind::String),
-            value: 0,
-            count: close + 1,
-        });
-    }
-    None
-}
-
-/// The alias name that bytes begin with, if a byte of a word stands behind the `@`.
-#[inline(always)]
-fn plain_alias(bytes: &[u8]) -> Option<Unit>
-    requires some { 0 < length bytes.now }
-    requires at { slice_index bytes.now 0 ≡ 64 }
-    ensures { IfSome result (λ unit. IsFirstUnit bytes.now unit.kind unit.value unit.count) }
-{
-    let size = word_count(tail(bytes, 1));
-    if size == 0 {
-        return None;
-    }
-    Some(Unit {
-        kind: Some(HoaKind::AliasName),
-        value: 0,
-        count: 1 + size,
-    })
-}
-
 /// The mark that bytes begin with.
 fn first_mark(bytes: &[u8]) -> Option<Unit>
     ensures { IfSome result (λ unit. IsFirstUnit bytes.now unit.kind unit.value unit.count) }
 {
-    if is_marked(bytes, HoaKind::Body) {
-        Some(mark(HoaKind::Body))
-    } else if is_marked(bytes, HoaKind::End) {
-        Some(mark(HoaKind::End))
-    } else if is_marked(bytes, HoaKind::Abort) {
-        Some(mark(HoaKind::Abort))
-    } else {
-        None
-    }
-}
-
-/// Whether bytes begin as a mark is written.
-fn is_marked(bytes: &[u8], kind: HoaKind) -> bool
-    ensures { IsTrue result → BeginsAs bytes.now (spelling kind) }
-{
-    let text = spelling(kind);
-    bytes.len() >= text.len() && &bytes[..text.len()] == text
+    let kind = front_mark(bytes)?;
+    Some(mark(kind))
 }
 
 /// A mark as a unit.

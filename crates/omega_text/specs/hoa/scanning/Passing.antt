@@ -11,7 +11,7 @@ use Rattle.omega_text.specs.hoa.scanning.Modes.{first_mode}
 use Rattle.omega_text.specs.declared.hoa.mode.Mode.{Mode}
 use Rattle.omega_text.specs.declared.hoa.mode.Mode.TheVariants.{Word, Blank, Whole}
 use Rattle.omega_text.specs.declared.hoa.passing.Course.{Course}
-use Rattle.omega_text.specs.declared.hoa.passing.Course.TheVariants.{GoesOn, Ends, Other}
+use Rattle.omega_text.specs.declared.hoa.passing.Course.TheVariants.{GoesOn, Ends, Marks, Other}
 use Rattle.omega_text.specs.declared.hoa.passing.Simple.{Simple}
 use Rattle.omega_text.specs.declared.hoa.passing.Simple.TheVariants.{Ended, Begun}
 use Rattle.omega_text.specs.hoa.scanning.Reading.{Any, HasRead, IsAt, IsUnfinished}
@@ -74,6 +74,7 @@ pub record Passes (start : ℕ) (bytes : List ℕ) (from to : ℕ) (before after
 abbrev pub IsCourse : Mode → Course → Type 0
 IsCourse next GoesOn = (value : ℕ) (begun : List ℕ) → IsUnfinished next value begun
 IsCourse next Ends = (next ≡ Blank) ⊎ ((kind : HoaKind) × (next ≡ Whole kind) × (is_mark kind ≡ false))
+IsCourse next Marks = Unit {0}
 IsCourse next Other = Unit {0}
 
 -- the same of one byte, behind which no unit has been begun

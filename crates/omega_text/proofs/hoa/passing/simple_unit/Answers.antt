@@ -1,10 +1,8 @@
 -- By the first byte.
-use Rattle.std.proofs.Common.{get_or, sym, subst, arith}
-use Rattle.omega_text.specs.declared.hoa.lead.Lead.TheVariants.{Digit, Letter, Quote}
-use Rattle.omega_text.specs.hoa.scanning.Passing.{Passes}
-use Rattle.omega_text.specs.hoa.scanning.Unfinished.{fresh}
+use Rattle.std.proofs.Common.{get_or}
+use Rattle.omega_text.specs.declared.hoa.lead.Lead.TheVariants.{At, Digit, Letter, Quote}
 use Rattle.omega_text.proofs.hoa_texts.Leads.{led_as}
-use Rattle.omega_text.proofs.hoa_texts.Passing.{passes_none, single_simple}
+use Rattle.omega_text.proofs.hoa_texts.Passing.{single_simple}
 use Rattle.omega_text.proofs.hoa.passing.simple_unit.Goals as goal
 
 pub pass_digits-requires-clause-digit : goal.pass_digits-requires-clause-digit
@@ -19,7 +17,5 @@ pass_string-requires-clause-quote c = led_as (get_or c.args.bytes.now c.args.pla
 pub returns-then-is_single : goal.returns-then-is_single
 returns-then-is_single c = single_simple c.args.start c.args.bytes.now c.args.place c.requires (c.is_single.ensures c.if-is_single.true)
 
-pub returns-in_default : goal.returns-in_default
-returns-in_default c =
-    subst (Passes c.args.start c.args.bytes.now c.args.place c.args.place (fresh c.args.start)) (sym c.new.ensures)
-    (passes_none c.args.start c.args.bytes.now c.args.place (fresh c.args.start) (omega (arith, c.requires)))
+pub pass_alias-requires-clause-at : goal.pass_alias-requires-clause-at
+pass_alias-requires-clause-at c = led_as (get_or c.args.bytes.now c.args.place 0) c.lead_of.result At c.lead_of.ensures c.in-At.is

@@ -3,7 +3,7 @@ use Rattle.std.proofs.Common.{length, ap, arith, length-drop}
 use Rattle.std.proofs.lemmas.List.Sums.{prefix_len-le-length}
 use Rattle.omega_text.specs.Bytes.{is_word_byte}
 use Rattle.omega_text.proofs.hoa_texts.Plain.{first_alias}
-use Rattle.omega_text.proofs.hoa.unit.plain_alias.Goals as goal
+use Rattle.omega_text.proofs.hoa.plain.plain_alias.Goals as goal
 
 pub overflow_add-result : goal.overflow_add-result
 overflow_add-result c =

@@ -3,7 +3,7 @@ use Rattle.std.proofs.Common.{length, ap, arith, length-drop}
 use Rattle.std.proofs.lemmas.List.Sums.{prefix_len-le-length}
 use Rattle.omega_text.specs.hoa.scanning.Passing.{is_quoted}
 use Rattle.omega_text.proofs.hoa_texts.Plain.{first_string}
-use Rattle.omega_text.proofs.hoa.unit.plain_string.Goals as goal
+use Rattle.omega_text.proofs.hoa.plain.plain_string.Goals as goal
 
 pub overflow_add-close : goal.overflow_add-close
 overflow_add-close c =

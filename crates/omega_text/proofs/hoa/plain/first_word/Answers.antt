@@ -1,8 +1,8 @@
 -- The word that was counted, as it ends.
 use Rattle.std.proofs.Common.{refl, arith}
 use Rattle.omega_text.proofs.hoa_texts.Units.{first_header, first_word}
-use Rattle.omega_text.proofs.hoa.unit.first_word.Goals as goal
-use Rattle.omega_text.proofs.hoa.unit.first_word.Goals.{else-count-bytes-via-then-count-bytes+else-bytes-count-eq58, else-count-bytes-via-else-count-bytes}
+use Rattle.omega_text.proofs.hoa.plain.first_word.Goals as goal
+use Rattle.omega_text.proofs.hoa.plain.first_word.Goals.{else-count-bytes-via-then-count-bytes+else-bytes-count-eq58, else-count-bytes-via-else-count-bytes}
 
 pub returns-then-bytes-count-eq58 : goal.returns-then-bytes-count-eq58
 returns-then-bytes-count-eq58 c =

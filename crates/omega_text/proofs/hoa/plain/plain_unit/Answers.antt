@@ -3,7 +3,7 @@ use Rattle.std.proofs.Common.{get_or}
 use Rattle.omega_text.specs.declared.hoa.lead.Lead.TheVariants.{Sign, Digit, Letter, Quote, At}
 use Rattle.omega_text.proofs.hoa_texts.Leads.{led_as}
 use Rattle.omega_text.proofs.hoa_texts.Units.{one_sign, unit_as}
-use Rattle.omega_text.proofs.hoa.unit.plain_unit.Goals as goal
+use Rattle.omega_text.proofs.hoa.plain.plain_unit.Goals as goal
 
 pub plain_number-requires-clause-digit : goal.plain_number-requires-clause-digit
 plain_number-requires-clause-digit c = led_as (get_or c.args.bytes.now 0 0) c.lead_of.result Digit c.lead_of.ensures c.in-Digit.is

@@ -1,8 +1,0 @@
--- One digit, or what the digits are.
-use Rattle.std.proofs.Common.{sym, ◌∙◌}
-use Rattle.omega_text.proofs.hoa_texts.Plain.{first_digit_unit}
-use Rattle.omega_text.proofs.hoa.unit.plain_number.Goals as goal
-
-pub returns-then-not-is_ascii_digit : goal.returns-then-not-is_ascii_digit
-returns-then-not-is_ascii_digit c =
-    first_digit_unit c.args.bytes.now c.from.result c.if-bytes-gt1.true c.requires.digit (sym c.is_ascii_digit.ensures.value ∙ c.if-not-is_ascii_digit.true) c.from.ensures
