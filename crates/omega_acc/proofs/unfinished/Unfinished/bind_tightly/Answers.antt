@@ -1,6 +1,7 @@
 -- Each `!` negates the part, and `&` joins it.
-use Rattle.std.proofs.Common.{◌∷◌, ◌+◌, ap, min, subst, sym, ◌∙◌}
-use Rattle.omega_acc.specs.Symbols.{unary}
+use Rattle.std.proofs.Common.{◌∷◌, ap, subst, sym, ◌∙◌}
+use Rattle.omega_acc.specs.Symbols.{conjunctive, unary}
+use Rattle.omega_acc.specs.declared.pending.Pending.TheVariants.{And}
 use Rattle.omega_acc.specs.layout.Building.{Has}
 use Rattle.omega_acc.proofs.PendingLemmas.{IsLoose, loose_others}
 use Rattle.omega_acc.proofs.ReadingLemmas.{has_conjoined, has_loose, has_negated}
@@ -13,8 +14,10 @@ loop-pending-preserved c whole left has =
 
 pub returns-in-And-clause-ok : goal.returns-in-And-clause-ok
 returns-in-And-clause-ok c whole left has =
-    has_conjoined whole left _ _ _ _ _ _ _ _ (c.in-Some.ensures ∙ ap (λ p. p ∷ c.pop.new.self) c.in-And.is)
-    c.in_ok-push-in-And.ensures.ok (c.deeper-self-in-And.ensures ∙ ap (λ d. min (d + 1) 257) c.max.ensures) (c.loop-pending.invariant whole left has)
+    subst (λ names. Has conjunctive whole left c.conjoin.new.self.depth c.conjoin.new.self.nodes.items names c.conjoin.new.self.pending) (sym c.in_ok-conjoin-in-And.ensures.names)
+    (has_conjoined whole left _ _ _ _ _ _ _ _
+    (c.in-Some.ensures ∙ (ap (λ p. p ∷ c.pop.new.self) c.in-And.is ∙ ap (λ rest. And c.in-And.left ∷ rest) (sym c.in_ok-conjoin-in-And.ensures.pending)))
+    c.in_ok-conjoin-in-And.ensures.nodes c.in_ok-conjoin-in-And.ensures.depth (c.loop-pending.invariant whole left has))
 
 pub returns-in_default-pending-clause-ok : goal.returns-in_default-pending-clause-ok
 returns-in_default-pending-clause-ok c whole left has =
