@@ -1,4 +1,4 @@
-ghost use Rattle.std.specs.Prelude.{◌≡◌, ◌∷◌, [], IfErr, OnOk, MatchOption};
+ghost use Rattle.std.specs.Prelude.{◌≡◌, ◌∷◌, [], drop, IfErr, OnOk, MatchOption};
 ghost use Rattle.omega_acc.specs.Depth.{IsMemory};
 
 use omega_text::Refusal;
@@ -48,6 +48,13 @@ impl PendingStack {
     {
         self.items.push(pending)?;
         Ok(())
+    }
+
+    /// The one on top, which stays, none where nothing waits.
+    pub(crate) fn top(&self) -> Option<Pending>
+        ensures { MatchOption result (self.now ≡ []) (λ pending. self.now ≡ pending ∷ drop 1 self.now) }
+    {
+        self.items.as_slice().last().copied()
     }
 
     /// Takes the one on top, none where nothing waits.

@@ -12,6 +12,7 @@ use crate::aliases::{behind, front};
 use crate::raw_acc::{RawAcc, RawAccNode};
 use crate::unfinished::deeper;
 use omega_text::{AutomatonFault, Refusal};
+use smallvec::SmallVec;
 use std::alloc::Global;
 use std::marker::Model;
 
@@ -72,10 +73,10 @@ pub(crate) fn depth_of(alloc: Global, nodes: &[AccNode]) -> Result<u32, Refusal>
     Ok(depths.pop())
 }
 
-/// A stack of depths.
+/// A stack of depths. Up to 16 take no memory.
 #[derive(Drop)]
 struct Depths {
-    items: Vec<u32>,
+    items: SmallVec<u32, 16>,
 }
 
 impl Model for Depths {
@@ -92,7 +93,7 @@ impl Depths {
         ensures { result ≡ [] }
     {
         Depths {
-            items: Vec::new(alloc),
+            items: SmallVec::new(alloc),
         }
     }
 

@@ -45,20 +45,19 @@ impl Unfinished {
         ensures ok { OnOk result ((whole : List (Lexeme HoaKind)) (left : List (Lexeme HoaKind)) → HasIn unary whole left self.old → HasIn conjunctive whole left self.new) }
         ensures err { IfErr result IsMemory }
     {
-        while let Some(pending) = self.pending.pop() {
+        while let Some(pending) = self.pending.top() {
             match pending {
                 Pending::Not => {
+                    self.pending.pop();
                     self.nodes.push(LabelNode::Not)?;
                     self.depth = deeper(self.depth);
                 }
                 Pending::And(left) => {
+                    self.pending.pop();
                     self.conjoin(left)?;
                     return Ok(());
                 }
-                _ => {
-                    self.pending.push(pending)?;
-                    return Ok(());
-                }
+                _ => return Ok(()),
             }
         }
         Ok(())
@@ -114,13 +113,14 @@ impl Unfinished {
         ensures ok { OnOk result ((whole : List (Lexeme HoaKind)) (left : List (Lexeme HoaKind)) → HasIn conjunctive whole left self.old → HasIn disjunctive whole left self.new) }
         ensures err { IfErr result IsMemory }
     {
-        if let Some(pending) = self.pending.pop() {
+        if let Some(pending) = self.pending.top() {
             match pending {
                 Pending::Or(left) => {
+                    self.pending.pop();
                     self.nodes.push(LabelNode::Or)?;
                     self.depth = deeper(self.depth.max(left));
                 }
-                _ => self.pending.push(pending)?,
+                _ => return Ok(()),
             }
         }
         Ok(())
