@@ -11,6 +11,7 @@ ghost use Rattle.omega_text.specs.Lexeme.{Lexeme};
 ghost use Rattle.omega_text.specs.declared.hoa.kind.HoaKind.{HoaKind as Kind};
 ghost use Rattle.omega_text.specs.declared.hoa.kind.HoaKind.TheVariants as kinds;
 
+use crate::codes::MOST_IN_PLACE;
 use crate::label::LabelNode;
 use crate::passing::{is_passed, passed_number};
 use crate::pending::Pending;
@@ -31,6 +32,14 @@ pub fn read_raw_label<'a, S: TokenSource<'a, HoaKind>>(
     let mut unfinished = Unfinished::new(alloc);
     operand(&mut unfinished, source)?;
     while goes_on(&mut unfinished, source)? {}
+    if unfinished.nodes.as_slice().len() > MOST_IN_PLACE {
+        return RawLabel::keeping(
+            alloc,
+            unfinished.nodes,
+            unfinished.names,
+            unfinished.depth,
+        );
+    }
     RawLabel::of_nodes(
         alloc,
         unfinished.nodes.as_slice(),
