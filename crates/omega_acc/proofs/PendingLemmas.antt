@@ -1,5 +1,5 @@
 -- What is pending, by what is on top.
-use Rattle.std.proofs.Common.{◌≡◌, ℕ, List, [], ◌∷◌, refl}
+use Rattle.std.proofs.Common.{◌≡◌, ℕ, Option, Some, None, MatchOption, List, [], ◌∷◌, ap, refl, subst, sym, ◌∙◌}
 use Rattle.omega_acc.specs.declared.pending.Pending.{Pending}
 use Rattle.omega_acc.specs.declared.pending.Pending.TheVariants.{And, Not, Open, Or}
 
@@ -81,3 +81,13 @@ free_open Open rest free = refl
 free_open Not rest free = absurd free
 free_open (And depth) rest free = absurd free
 free_open (Or depth) rest free = absurd free
+
+abbrev IsEmpty : List Pending → Type 0
+IsEmpty [] = Unit {0}
+IsEmpty (pending ∷ rest) = ⊥
+
+-- what is on top is taken
+pub popped : (result : Option Pending) (old new : List Pending) (first shape : Pending) (rest : List Pending) → old ≡ first ∷ rest → first ≡ shape
+    → MatchOption result ((old ≡ []) × (new ≡ [])) (λ pending. old ≡ pending ∷ new) → old ≡ shape ∷ new
+popped None old new first shape rest is same none = absurd (subst IsEmpty (sym none.0 ∙ is) tt)
+popped (Some pending) old new first shape rest is same taken = is ∙ (ap (λ p. p ∷ rest) same ∙ ap (λ more. shape ∷ more) (ap below (sym is ∙ taken)))

@@ -1,5 +1,5 @@
 -- Labels built from their tokens.
-use Rattle.std.proofs.Common.{◌≡◌, ℕ, ◌+◌, zero, suc, Bool, true, false, List, [], ◌∷◌, ◌++◌, map, max, min, ap, append_assoc, refl, sym, ◌∙◌, subst, arith}
+use Rattle.std.proofs.Common.{◌≡◌, ℕ, ◌+◌, zero, suc, Bool, true, false, List, [], ◌∷◌, ◌++◌, map, max, min, ap, append-nil, append_assoc, if◌then◌else◌, MatchBool, refl, sym, ◌∙◌, subst, arith}
 use Rattle.std.proofs.lemmas.List.{map-append}
 use Rattle.omega_acc.specs.RawLabel.{RawLabelTree, alias, conjunction, constant, disjunction, group, negation, proposition}
 use Rattle.omega_acc.specs.Reading.{IsOf, Reads, ReadsNone, spelled}
@@ -8,8 +8,8 @@ use Rattle.omega_acc.specs.declared.pending.Pending.{Pending}
 use Rattle.omega_acc.specs.declared.pending.Pending.TheVariants.{And, Not, Open, Or}
 use Rattle.omega_acc.specs.declared.label.LabelNode.{LabelNode}
 use Rattle.omega_acc.specs.declared.label.LabelNode.TheVariants as node
-use Rattle.omega_acc.specs.layout.Building.{Before, Fits, Has, IsOpen, Wants, anded, before_names, before_nodes, before_pending, before_symbols, capped, denied, opened, ored, start}
-use Rattle.omega_acc.specs.layout.Passing.{NextIsNot, Passed, PassesOne}
+use Rattle.omega_acc.specs.layout.Building.{Before, Fits, Has, IsOpen, Wants, anded, before_names, before_nodes, before_pending, before_symbols, capped, denied, literal, literal_depth, opened, ored, start}
+use Rattle.omega_acc.specs.layout.Passing.{NextIsNot, Passed, PassesNumber, PassesOne}
 use Rattle.omega_acc.specs.layout.RawLabel.{alias_names, raw_postfix}
 use Rattle.omega_acc.proofs.PassingLemmas.{GoOnNone, GoesOnNone, enclosed_list, end_others, followed_lists, go_on_others, joined_lists, passed_next, passed_same}
 use Rattle.omega_acc.proofs.PendingLemmas.{IsBar, IsConjunct, IsDisjunct, IsFree, IsLoose, IsNothing, IsParenthesis, below, free_open, kept, top}
@@ -59,6 +59,11 @@ pub data IsAtom : RawLabelTree → Symbol → Type 0 where
   truth : (value : Bool) → IsAtom (constant value) (sign (truth_kind value))
   numbered : (value : ℕ) → IsAtom (proposition value) (number value)
   called : (text : List ℕ) → IsAtom (alias text) (name text)
+
+-- a number is the symbol of its value
+numbered_as : (lexeme : Lexeme HoaKind) (value : ℕ) → lexeme.kind ≡ kind.Int → lexeme.value ≡ value → IsAtom (proposition value) (symbol_of lexeme)
+numbered_as lexeme value is same =
+    subst (IsAtom (proposition value)) (sym (ap (λ k. seen_as k lexeme.value lexeme.text) is ∙ ap number same)) (numbered value)
 
 atom_spelled : (tree : RawLabelTree) (symbol : Symbol) → IsAtom tree symbol → spelled tree ≡ symbol ∷ []
 atom_spelled tree symbol (truth value) = refl
@@ -603,3 +608,37 @@ after_close whole old same still left depth deeper nodes all names pending first
     has_grouped whole old left one.lexeme depth deeper nodes all names pending rest
     (waits ∙ ap (λ p. p ∷ rest) (free_open first rest free)) joined more
     (sym (rests ∙ stays) ∙ one.next) (ap (λ k. seen_as k one.lexeme.value one.lexeme.text) one.is) has
+
+-- `&` and a proposition are passed, with `!` between them or not
+pub has_literal : (negated : Bool) (whole old first next left : List (Lexeme HoaKind)) (depth deeper value : ℕ) (nodes all : List LabelNode) (names same : List ℕ) (pending rest : List Pending)
+    → PassesOne kind.And old first → MatchBool negated (PassesOne kind.Not first next) (next ≡ first) → PassesNumber value next left
+    → all ≡ (nodes ++ literal negated value) ++ node.And ∷ [] → deeper ≡ min (max (literal_depth negated) depth + 1) 257 → same ≡ names → rest ≡ pending
+    → Has conjunctive whole old depth nodes names pending → Has conjunctive whole left deeper all same rest
+has_literal true whole old first next left depth deeper value nodes all names same pending rest one not_one passes flat deep named waits has =
+    let wants = after_and whole old first depth nodes names pending _ one refl has in
+    let denied = wants_denied whole first next not_one.lexeme nodes names _ wants not_one.next (ap (λ k. seen_as k not_one.lexeme.value not_one.lexeme.text) not_one.is) in
+    let atom = has_atom whole next left passes.lexeme nodes names _ (proposition value) (nodes ++ node.Proposition value ∷ []) names _ passes.next (numbered_as passes.lexeme value passes.is passes.value_is) refl (sym (append-nil names)) refl denied in
+    let unary = has_negated whole left 1 2 (nodes ++ node.Proposition value ∷ []) (nodes ++ literal true value) names _ _ refl (sym (append_assoc nodes (node.Proposition value ∷ []) (node.Not ∷ []))) refl atom in
+    subst (λ n. Has conjunctive whole left deeper all n rest) (sym named)
+    (subst (λ p. Has conjunctive whole left deeper all names p) (sym waits)
+    (has_conjoined whole left 2 depth deeper (nodes ++ literal true value) all names _ pending refl flat deep unary))
+has_literal false whole old first next left depth deeper value nodes all names same pending rest one same_place passes flat deep named waits has =
+    let wants = after_and whole old first depth nodes names pending _ one refl has in
+    let atom = has_atom whole first left passes.lexeme nodes names _ (proposition value) (nodes ++ node.Proposition value ∷ []) names _ (sym same_place ∙ passes.next) (numbered_as passes.lexeme value passes.is passes.value_is) refl (sym (append-nil names)) refl wants in
+    subst (λ n. Has conjunctive whole left deeper all n rest) (sym named)
+    (subst (λ p. Has conjunctive whole left deeper all names p) (sym waits)
+    (has_conjoined whole left 1 depth deeper (nodes ++ literal false value) all names _ pending refl flat deep atom))
+
+-- `&` is passed and waits, and behind it `!` or not
+pub after_and_not : (negated : Bool) (whole old first next place : List (Lexeme HoaKind)) (depth : ℕ) (nodes all : List LabelNode) (names same : List ℕ) (pending more : List Pending)
+    → PassesOne kind.And old first → MatchBool negated (PassesOne kind.Not first next) (next ≡ first) → place ≡ next
+    → all ≡ nodes → same ≡ names → more ≡ (if negated then Not ∷ And depth ∷ pending else And depth ∷ pending)
+    → Has conjunctive whole old depth nodes names pending → Wants whole place all same more
+after_and_not true whole old first next place depth nodes all names same pending more one not_one at flat named waits has =
+    let wants = after_and whole old first depth nodes names pending _ one refl has in
+    subst (λ p. Wants whole p all same more) (sym at) (subst (λ n. Wants whole next n same more) (sym flat) (subst (λ n. Wants whole next nodes n more) (sym named) (subst (Wants whole next nodes names) (sym waits)
+    (wants_denied whole first next not_one.lexeme nodes names _ wants not_one.next (ap (λ k. seen_as k not_one.lexeme.value not_one.lexeme.text) not_one.is)))))
+after_and_not false whole old first next place depth nodes all names same pending more one same_place at flat named waits has =
+    let wants = after_and whole old first depth nodes names pending _ one refl has in
+    subst (λ p. Wants whole p all same more) (sym at) (subst (λ n. Wants whole next n same more) (sym flat) (subst (λ n. Wants whole next nodes n more) (sym named) (subst (Wants whole next nodes names) (sym waits)
+    (subst (λ place. Wants whole place nodes names (And depth ∷ pending)) (sym same_place) wants))))

@@ -15,6 +15,7 @@ pub mod Joining
 pub mod Joins
 pub mod Label
 pub mod Passing
+pub mod Pending
 pub mod Plain
 pub mod Propositions
 pub mod RawAcc

@@ -14,6 +14,7 @@ use crate::notation::{
 };
 use crate::postfix::{append, fitted, with_one};
 use omega_text::{Refusal, Seq};
+use smallvec::SmallVec;
 use std::alloc::Global;
 use std::marker::Model;
 
@@ -71,6 +72,31 @@ impl Compact {
         let notation = Notation {
             nodes: Seq::from_vec(fitted(alloc, nodes)?),
             names: Seq::from_vec(fitted(alloc, names)?),
+            depth,
+        };
+        Ok(Compact {
+            held: Held::Long(Box::new(alloc, notation)?),
+            alloc,
+        })
+    }
+
+    /// Nodes, alias names and a depth in the memory that they have, without what they do not need of it.
+    pub(crate) fn kept(
+        alloc: Global,
+        nodes: SmallVec<LabelNode, 24>,
+        names: Vec<u8>,
+        depth: u32,
+    ) -> Result<Self, Refusal>
+        ensures ok { IfOk result (λ compact. compact ≡ record { nodes = nodes.items; names = names.items; depth = depth }) }
+        ensures err { IfErr result IsMemory }
+    {
+        let mut nodes = nodes.into_vec()?;
+        nodes.shrink_to_fit();
+        let mut names = names;
+        names.shrink_to_fit();
+        let notation = Notation {
+            nodes: Seq::from_vec(nodes),
+            names: Seq::from_vec(names),
             depth,
         };
         Ok(Compact {

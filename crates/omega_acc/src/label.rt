@@ -13,14 +13,14 @@ use std::marker::Model;
 /// Both kinds of labels have the same nodes, so that one without aliases is expanded in the memory that it has.
 #[derive(Clone, Copy, Debug, Default, PartialEq, Eq)]
 pub(crate) enum LabelNode {
-    Constant(bool),
-    Proposition(u32),
-    Alias(u32),
-    Not,
     #[default]
     And,
     Or,
+    Not,
     Group,
+    Constant(bool),
+    Proposition(u32),
+    Alias(u32),
 }
 
 /// A label without aliases and parentheses, at most 256 deep.

@@ -9,6 +9,7 @@ mod backward;
 mod codes;
 mod compact;
 mod depth;
+mod depths;
 mod expansion;
 mod extents;
 mod kind;

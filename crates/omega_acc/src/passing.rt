@@ -1,6 +1,6 @@
 //! Tokens passed one by one.
 
-ghost use Rattle.std.specs.Prelude.{◌≡◌, IfErr, IfOk, MatchBool, OnOk};
+ghost use Rattle.std.specs.Prelude.{◌≡◌, IfErr, IfOk, MatchBool, MatchOption, OnOk};
 ghost use Rattle.omega_acc.specs.Symbols.{IsUnread};
 ghost use Rattle.omega_acc.specs.layout.Passing.{NextIsNot, PassesNumber, PassesOne};
 ghost use Rattle.omega_text.specs.declared.hoa.kind.HoaKind.TheVariants as kinds;
@@ -37,6 +37,22 @@ pub(crate) fn pass<'a, S: TokenSource<'a, HoaKind>>(
     }
     let at = source.place();
     Err(Refusal::Text(TextFault::Syntax { at }))
+}
+
+/// Passes the next token if it is a number, and says which.
+pub(crate) fn passed_number<'a, S: TokenSource<'a, HoaKind>>(source: &mut S) -> Option<u32>
+    ensures { MatchOption result (S.left source.new ≡ S.left source.old) (λ value. PassesNumber value (S.left source.old) (S.left source.new)) }
+{
+    match source.look() {
+        Some(token) => {
+            if token.kind == HoaKind::Int {
+                source.take();
+                return Some(token.value);
+            }
+            None
+        }
+        None => None,
+    }
 }
 
 /// Passes a number. Refusal 3 where none is next.

@@ -1,34 +1,37 @@
-ghost use Rattle.std.specs.Prelude.{◌≡◌, ◌∷◌, [], IfErr, OnOk, MatchOption};
+ghost use Rattle.std.specs.Prelude.{◌≡◌, ◌∷◌, [], drop, IfErr, OnOk, MatchOption};
 ghost use Rattle.omega_acc.specs.Depth.{IsMemory};
 
+use crate::depths::Depths;
+use crate::signs::{Sign, Signs};
 use omega_text::Refusal;
-use smallvec::SmallVec;
 use std::alloc::Global;
 use std::marker::Model;
 
 /// What waits for a part to stand behind it; an operator keeps the depth of its left part.
-#[derive(Clone, Copy, Default)]
+#[derive(Clone, Copy)]
 pub(crate) enum Pending {
-    #[default]
     Open,
     Not,
     And(u32),
     Or(u32),
 }
 
-/// What waits, the last on top. Up to eight take no memory.
+/// What waits, the last on top: a byte for each, and the depths of operators beside them. Up to 24 and 16
+/// operators take no memory.
 #[derive(Drop)]
 pub(crate) struct PendingStack {
-    items: SmallVec<Pending, 8>,
+    signs: Signs,
+    depths: Depths,
 }
 
 impl Model for PendingStack {
-    ghost use Rattle.std.specs.Prelude.{List, reverse};
+    ghost use Rattle.std.specs.Prelude.{List};
     ghost use Rattle.omega_acc.specs.declared.pending.Pending.{Pending};
+    ghost use Rattle.omega_acc.specs.layout.Pending.{pending_in};
 
     ghost Value = { List Pending };
 
-    ghost view = { λ s. reverse s.items.items };
+    ghost view = { λ s. pending_in s.signs s.depths };
 }
 
 impl PendingStack {
@@ -37,7 +40,8 @@ impl PendingStack {
         ensures { result ≡ [] }
     {
         PendingStack {
-            items: SmallVec::new(alloc),
+            signs: Signs::new(alloc),
+            depths: Depths::new(alloc),
         }
     }
 
@@ -46,14 +50,43 @@ impl PendingStack {
         ensures ok { OnOk result (self.new ≡ pending ∷ self.old) }
         ensures err { IfErr result IsMemory }
     {
-        self.items.push(pending)?;
-        Ok(())
+        match pending {
+            Pending::Open => self.signs.push(Sign::Open),
+            Pending::Not => self.signs.push(Sign::Not),
+            Pending::And(depth) => {
+                self.depths.push(depth)?;
+                self.signs.push(Sign::And)
+            }
+            Pending::Or(depth) => {
+                self.depths.push(depth)?;
+                self.signs.push(Sign::Or)
+            }
+        }
+    }
+
+    /// The one on top, which stays, none where nothing waits.
+    pub(crate) fn top(&self) -> Option<Pending>
+        ensures { MatchOption result (self.now ≡ []) (λ pending. self.now ≡ pending ∷ drop 1 self.now) }
+    {
+        let pending = match self.signs.top()? {
+            Sign::Open => Pending::Open,
+            Sign::Not => Pending::Not,
+            Sign::And => Pending::And(self.depths.top()),
+            Sign::Or => Pending::Or(self.depths.top()),
+        };
+        Some(pending)
     }
 
     /// Takes the one on top, none where nothing waits.
     pub(crate) fn pop(&mut self) -> Option<Pending>
         ensures { MatchOption result ((self.old ≡ []) × (self.new ≡ [])) (λ pending. self.old ≡ pending ∷ self.new) }
     {
-        self.items.pop()
+        let pending = match self.signs.pop()? {
+            Sign::Open => Pending::Open,
+            Sign::Not => Pending::Not,
+            Sign::And => Pending::And(self.depths.pop()),
+            Sign::Or => Pending::Or(self.depths.pop()),
+        };
+        Some(pending)
     }
 }

@@ -2,18 +2,18 @@
 
 ghost use Rattle.std.specs.Prelude.{◌≡◌, ◌∷◌, [], Some, None, IfErr, IfOk, OnOk};
 ghost use Rattle.omega_acc.specs.Depth.{IsMemory};
-ghost use Rattle.omega_acc.specs.layout.Plain.{alone, atom_plain, depths_behind, depths_below, plain_nodes, top_depth};
+ghost use Rattle.omega_acc.specs.layout.Plain.{alone, atom_plain, depths_behind, plain_nodes, top_depth};
 ghost use Rattle.omega_acc.specs.layout.RawAcc.{atom_names, raw_acc_postfix};
 ghost use Rattle.omega_text.specs.Cases.{never, or_automaton, or_memory};
 ghost use Rattle.omega_text.specs.declared.refusal.automaton.AutomatonFault.TheVariants.{AcceptanceAtom};
 
 use crate::acc::AccNode;
 use crate::aliases::{behind, front};
+use crate::depths::Depths;
 use crate::raw_acc::{RawAcc, RawAccNode};
 use crate::unfinished::deeper;
 use omega_text::{AutomatonFault, Refusal};
 use std::alloc::Global;
-use std::marker::Model;
 
 /// The nodes of a formula without its parentheses. Refusal 31 where an atom is neither `Fin` nor `Inf`.
 pub(crate) fn nodes_of(alloc: Global, raw: &RawAcc) -> Result<Vec<AccNode>, Refusal>
@@ -70,46 +70,4 @@ pub(crate) fn depth_of(alloc: Global, nodes: &[AccNode]) -> Result<u32, Refusal>
         depths.push(depth)?;
     }
     Ok(depths.pop())
-}
-
-/// A stack of depths.
-#[derive(Drop)]
-struct Depths {
-    items: Vec<u32>,
-}
-
-impl Model for Depths {
-    ghost use Rattle.std.specs.Prelude.{List, reverse, ℕ};
-
-    ghost Value = { List ℕ };
-
-    ghost view = { λ d. reverse d.items.items };
-}
-
-impl Depths {
-    /// No depths.
-    fn new(alloc: Global) -> Self
-        ensures { result ≡ [] }
-    {
-        Depths {
-            items: Vec::new(alloc),
-        }
-    }
-
-    /// Puts a depth on top.
-    fn push(&mut self, depth: u32) -> Result<(), Refusal>
-        ensures ok { OnOk result (self.new ≡ depth ∷ self.old) }
-        ensures err { IfErr result IsMemory }
-    {
-        self.items.push(depth)?;
-        Ok(())
-    }
-
-    /// Takes the depth on top, 0 where there is none.
-    fn pop(&mut self) -> u32
-        ensures depth { result ≡ top_depth self.old }
-        ensures rest { self.new ≡ depths_below self.old }
-    {
-        self.items.pop().unwrap_or(0)
-    }
 }

@@ -13,6 +13,7 @@ use crate::depth::deeper;
 use crate::label::{Label, LabelNode};
 use crate::limits::MOST_DEPTH;
 use omega_text::Refusal;
+use smallvec::SmallVec;
 use std::alloc::Global;
 use std::marker::Model;
 
@@ -178,6 +179,21 @@ impl RawLabel {
         ensures err { IfErr result IsMemory }
     {
         let written = Compact::copied(alloc, nodes, names, depth)?;
+        Ok(RawLabel { written })
+    }
+
+    /// The label of nodes in postfix order, alias names and a depth, in the memory that they have.
+    pub(crate) fn keeping(
+        alloc: Global,
+        nodes: SmallVec<LabelNode, 24>,
+        names: Vec<u8>,
+        depth: u32,
+    ) -> Result<RawLabel, Refusal>
+        requires { IsRawLabel nodes.items names.items depth }
+        ensures ok { IfOk result (λ label. label ≡ raw_tree_of nodes.items names.items) }
+        ensures err { IfErr result IsMemory }
+    {
+        let written = Compact::kept(alloc, nodes, names, depth)?;
         Ok(RawLabel { written })
     }
 

@@ -6,11 +6,14 @@ ghost use Rattle.omega_acc.specs.Symbols.{IsUnread, conjunctive, unary};
 ghost use Rattle.omega_acc.specs.Limits.{most_depth};
 ghost use Rattle.omega_acc.specs.RawLabel.{raw_depth};
 ghost use Rattle.omega_acc.specs.layout.Building.{HasIn, IsWhole, WantsIn};
+ghost use Rattle.omega_acc.specs.layout.Passing.{PassesOne};
 ghost use Rattle.omega_text.specs.Lexeme.{Lexeme};
 ghost use Rattle.omega_text.specs.declared.hoa.kind.HoaKind.{HoaKind as Kind};
+ghost use Rattle.omega_text.specs.declared.hoa.kind.HoaKind.TheVariants as kinds;
 
+use crate::codes::MOST_IN_PLACE;
 use crate::label::LabelNode;
-use crate::passing::is_passed;
+use crate::passing::{is_passed, passed_number};
 use crate::pending::Pending;
 use crate::raw_label::{RawLabel, name_length};
 use crate::unfinished::{Unfinished, deeper};
@@ -29,6 +32,14 @@ pub fn read_raw_label<'a, S: TokenSource<'a, HoaKind>>(
     let mut unfinished = Unfinished::new(alloc);
     operand(&mut unfinished, source)?;
     while goes_on(&mut unfinished, source)? {}
+    if unfinished.nodes.as_slice().len() > MOST_IN_PLACE {
+        return RawLabel::keeping(
+            alloc,
+            unfinished.nodes,
+            unfinished.names,
+            unfinished.depth,
+        );
+    }
     RawLabel::of_nodes(
         alloc,
         unfinished.nodes.as_slice(),
@@ -115,8 +126,7 @@ fn goes_on<'a, S: TokenSource<'a, HoaKind>>(
     ensures less { IfOk result (λ more. MatchBool more (length (S.left source.new) < length (S.left source.old)) (Unit {0})) }
 {
     if is_passed(source, HoaKind::And) {
-        unfinished.pending.push(Pending::And(unfinished.depth))?;
-        operand(unfinished, source)?;
+        conjunct(unfinished, source)?;
         return Ok(true);
     }
     unfinished.bind_loosely()?;
@@ -136,4 +146,23 @@ fn goes_on<'a, S: TokenSource<'a, HoaKind>>(
     unfinished.depth = deeper(unfinished.depth);
     unfinished.bind_tightly()?;
     Ok(true)
+}
+
+/// Reads the part behind an `&`, and joins it. A proposition, or one behind a `!`, as most parts are, waits for nothing.
+fn conjunct<'a, S: TokenSource<'a, HoaKind>>(
+    unfinished: &mut Unfinished,
+    source: &mut S,
+) -> Result<(), Refusal>
+    ensures ok { OnOk result ((whole : List (Lexeme Kind)) (before : List (Lexeme Kind)) → PassesOne kinds.And before (S.left source.old) → HasIn conjunctive whole before unfinished.old → HasIn conjunctive whole (S.left source.new) unfinished.new) }
+    ensures err { IfErr result (λ refusal. (whole : List (Lexeme Kind)) (before : List (Lexeme Kind)) → PassesOne kinds.And before (S.left source.old) → HasIn conjunctive whole before unfinished.old → IsUnread (ReadsNone whole) refusal) }
+    ensures less { OnOk result (length (S.left source.new) < length (S.left source.old)) }
+{
+    let negated = is_passed(source, HoaKind::Not);
+    if let Some(number) = passed_number(source) {
+        unfinished.conjoin_literal(negated, number)?;
+        return Ok(());
+    }
+    unfinished.wait(negated)?;
+    operand(unfinished, source)?;
+    Ok(())
 }

@@ -1,4 +1,4 @@
-ghost use Rattle.std.specs.Prelude.{◌≡◌, ◌∷◌, [], IfErr, OnOk, MatchOption};
+ghost use Rattle.std.specs.Prelude.{◌≡◌, ◌∷◌, [], drop, IfErr, OnOk, MatchOption};
 ghost use Rattle.omega_acc.specs.Depth.{IsMemory};
 
 use omega_text::Refusal;
@@ -6,7 +6,7 @@ use smallvec::SmallVec;
 use std::alloc::Global;
 use std::marker::Model;
 
-/// What stands before a part that is written from its end.
+/// What stands before a part of an expression, without what it says of it.
 #[derive(Clone, Copy, Default)]
 pub(crate) enum Sign {
     #[default]
@@ -16,7 +16,7 @@ pub(crate) enum Sign {
     Or,
 }
 
-/// Signs that wait to be written, the next on top. Up to 24 take no memory.
+/// Signs that wait for a part, the next on top. Up to 24 take no memory.
 #[derive(Drop)]
 pub(crate) struct Signs {
     items: SmallVec<Sign, 24>,
@@ -48,6 +48,13 @@ impl Signs {
     {
         self.items.push(sign)?;
         Ok(())
+    }
+
+    /// The one on top, which stays, none where nothing waits.
+    pub(crate) fn top(&self) -> Option<Sign>
+        ensures { MatchOption result (self.now ≡ []) (λ sign. self.now ≡ sign ∷ drop 1 self.now) }
+    {
+        self.items.as_slice().last().copied()
     }
 
     /// Takes the one on top, none where nothing waits.

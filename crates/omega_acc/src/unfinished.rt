@@ -1,5 +1,4 @@
-ghost use Rattle.std.specs.Prelude.{◌≡◌, ◌∷◌, [], IfErr, IfOk, OnOk, MatchBool, ◌+◌, min};
-ghost use Rattle.std.specs.Prelude.{List};
+ghost use Rattle.std.specs.Prelude.{◌≡◌, ◌∷◌, ◌++◌, [], if◌then◌else◌, IfErr, IfOk, List, OnOk, MatchBool, ◌+◌, max, min};
 ghost use Rattle.omega_acc.specs.Depth.{IsMemory};
 
 use crate::label::LabelNode;
@@ -22,7 +21,9 @@ pub(crate) struct Unfinished {
 }
 
 impl Unfinished {
-    ghost use Rattle.omega_acc.specs.layout.Building.{HasIn, WantsIn};
+    ghost use Rattle.omega_acc.specs.declared.label.LabelNode.TheVariants.{And};
+    ghost use Rattle.omega_acc.specs.declared.pending.Pending.TheVariants.{And as WaitingAnd, Not};
+    ghost use Rattle.omega_acc.specs.layout.Building.{HasIn, WantsIn, literal, literal_depth};
     ghost use Rattle.omega_acc.specs.Symbols.{conjunctive, disjunctive, unary};
     ghost use Rattle.omega_text.specs.Lexeme.{Lexeme};
     ghost use Rattle.omega_text.specs.declared.hoa.kind.HoaKind.{HoaKind};
@@ -44,23 +45,66 @@ impl Unfinished {
         ensures ok { OnOk result ((whole : List (Lexeme HoaKind)) (left : List (Lexeme HoaKind)) → HasIn unary whole left self.old → HasIn conjunctive whole left self.new) }
         ensures err { IfErr result IsMemory }
     {
-        while let Some(pending) = self.pending.pop() {
+        while let Some(pending) = self.pending.top() {
             match pending {
                 Pending::Not => {
+                    self.pending.pop();
                     self.nodes.push(LabelNode::Not)?;
                     self.depth = deeper(self.depth);
                 }
                 Pending::And(left) => {
-                    self.nodes.push(LabelNode::And)?;
-                    self.depth = deeper(self.depth.max(left));
+                    self.pending.pop();
+                    self.conjoin(left)?;
                     return Ok(());
                 }
-                _ => {
-                    self.pending.push(pending)?;
-                    return Ok(());
-                }
+                _ => return Ok(()),
             }
         }
+        Ok(())
+    }
+
+    /// Joins a proposition, or `!` and a proposition, by `&` to the part that stands last.
+    pub(crate) fn conjoin_literal(&mut self, negated: bool, number: u32) -> Result<(), Refusal>
+        ensures nodes { OnOk result (self.new.nodes.items ≡ (self.old.nodes.items ++ literal negated number) ++ And ∷ []) }
+        ensures depth { OnOk result (self.new.depth ≡ min (max (literal_depth negated) self.old.depth + 1) 257) }
+        ensures names { OnOk result (self.new.names.items ≡ self.old.names.items) }
+        ensures pending { OnOk result (self.new.pending ≡ self.old.pending) }
+        ensures err { IfErr result IsMemory }
+    {
+        let left = self.depth;
+        self.nodes.push(LabelNode::Proposition(number))?;
+        self.depth = 1;
+        if negated {
+            self.nodes.push(LabelNode::Not)?;
+            self.depth = 2;
+        }
+        self.conjoin(left)
+    }
+
+    /// The next part waits for `&` and the part that stands last, and behind a `!` for that too.
+    pub(crate) fn wait(&mut self, negated: bool) -> Result<(), Refusal>
+        ensures pending { OnOk result (self.new.pending ≡ (if negated then Not ∷ WaitingAnd self.old.depth ∷ self.old.pending else WaitingAnd self.old.depth ∷ self.old.pending)) }
+        ensures nodes { OnOk result (self.new.nodes.items ≡ self.old.nodes.items) }
+        ensures names { OnOk result (self.new.names.items ≡ self.old.names.items) }
+        ensures err { IfErr result IsMemory }
+    {
+        self.pending.push(Pending::And(self.depth))?;
+        if negated {
+            self.pending.push(Pending::Not)?;
+        }
+        Ok(())
+    }
+
+    /// Joins the part that stands last by `&` to one before it of this depth.
+    fn conjoin(&mut self, left: u32) -> Result<(), Refusal>
+        ensures nodes { OnOk result (self.new.nodes.items ≡ self.old.nodes.items ++ And ∷ []) }
+        ensures depth { OnOk result (self.new.depth ≡ min (max self.old.depth left + 1) 257) }
+        ensures names { OnOk result (self.new.names.items ≡ self.old.names.items) }
+        ensures pending { OnOk result (self.new.pending ≡ self.old.pending) }
+        ensures err { IfErr result IsMemory }
+    {
+        self.nodes.push(LabelNode::And)?;
+        self.depth = deeper(self.depth.max(left));
         Ok(())
     }
 
@@ -69,13 +113,14 @@ impl Unfinished {
         ensures ok { OnOk result ((whole : List (Lexeme HoaKind)) (left : List (Lexeme HoaKind)) → HasIn conjunctive whole left self.old → HasIn disjunctive whole left self.new) }
         ensures err { IfErr result IsMemory }
     {
-        if let Some(pending) = self.pending.pop() {
+        if let Some(pending) = self.pending.top() {
             match pending {
                 Pending::Or(left) => {
+                    self.pending.pop();
                     self.nodes.push(LabelNode::Or)?;
                     self.depth = deeper(self.depth.max(left));
                 }
-                _ => self.pending.push(pending)?,
+                _ => return Ok(()),
             }
         }
         Ok(())

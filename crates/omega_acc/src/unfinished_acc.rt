@@ -40,13 +40,14 @@ impl UnfinishedAcc {
         ensures ok { OnOk result ((whole : List (Lexeme HoaKind)) (left : List (Lexeme HoaKind)) → HasIn unary whole left self.old → HasIn conjunctive whole left self.new) }
         ensures err { IfErr result IsMemory }
     {
-        if let Some(pending) = self.pending.pop() {
+        if let Some(pending) = self.pending.top() {
             match pending {
                 Pending::And(left) => {
+                    self.pending.pop();
                     self.nodes.push(RawAccNode::And)?;
                     self.depth = deeper(self.depth.max(left));
                 }
-                _ => self.pending.push(pending)?,
+                _ => return Ok(()),
             }
         }
         Ok(())
@@ -57,13 +58,14 @@ impl UnfinishedAcc {
         ensures ok { OnOk result ((whole : List (Lexeme HoaKind)) (left : List (Lexeme HoaKind)) → HasIn conjunctive whole left self.old → HasIn disjunctive whole left self.new) }
         ensures err { IfErr result IsMemory }
     {
-        if let Some(pending) = self.pending.pop() {
+        if let Some(pending) = self.pending.top() {
             match pending {
                 Pending::Or(left) => {
+                    self.pending.pop();
                     self.nodes.push(RawAccNode::Or)?;
                     self.depth = deeper(self.depth.max(left));
                 }
-                _ => self.pending.push(pending)?,
+                _ => return Ok(()),
             }
         }
         Ok(())

@@ -1,5 +1,5 @@
 -- How a label is built from its tokens: what is still open before the part that stands last.
-use Rattle.std.specs.Prelude.{◌≡◌, ℕ, List, [], ◌∷◌, ◌++◌}
+use Rattle.std.specs.Prelude.{◌≡◌, ℕ, Bool, true, false, List, [], ◌∷◌, ◌++◌}
 use Rattle.omega_acc.specs.Depth.{counted}
 use Rattle.omega_acc.specs.RawLabel.{RawLabelTree, raw_depth}
 use Rattle.omega_acc.specs.Reading.{IsOf, Reads, spelled}
@@ -7,6 +7,8 @@ use Rattle.omega_acc.specs.Symbols.{Rank, Symbol, conjunctive, disjunctive, sign
 use Rattle.omega_acc.specs.declared.pending.Pending.{Pending}
 use Rattle.omega_acc.specs.declared.pending.Pending.TheVariants.{And, Not, Open, Or}
 use Rattle.omega_acc.specs.declared.label.LabelNode.{LabelNode}
+use Rattle.omega_acc.specs.declared.label.LabelNode.TheVariants.{Proposition}
+use Rattle.omega_acc.specs.declared.label.LabelNode.TheVariants as node
 use Rattle.omega_acc.specs.layout.Passing.{FitsOr, FitsTight, Passed}
 use Rattle.omega_acc.specs.layout.RawLabel.{alias_names, raw_postfix}
 use Rattle.omega_acc.specs.declared.unfinished.Unfinished.{Unfinished}
@@ -103,6 +105,16 @@ WantsIn whole left unfinished = Wants whole left unfinished.nodes.items unfinish
 -- a part of this case stands last in an unfinished label
 abbrev pub HasIn : Rank → (whole left : List (Lexeme HoaKind)) → Unfinished → Type 0
 HasIn rank whole left unfinished = Has rank whole left unfinished.depth unfinished.nodes.items unfinished.names.items unfinished.pending
+
+-- the nodes of a proposition, behind `!` or not
+abbrev pub literal : Bool → ℕ → List LabelNode
+literal true value = Proposition value ∷ node.Not ∷ []
+literal false value = Proposition value ∷ []
+
+-- and its depth
+abbrev pub literal_depth : Bool → ℕ
+literal_depth true = 2
+literal_depth false = 1
 
 -- an unfinished label is whole, and no operator follows
 pub record IsWhole (whole left : List (Lexeme HoaKind)) (unfinished : Unfinished) : Type 0 where
