@@ -1,6 +1,7 @@
 use crate::edges::Edges;
 use omega_acc::Label;
-use omega_text::{ByteString, Numbers};
+use omega_raw::StateName;
+use omega_text::Numbers;
 
 /// A state that an automaton defines, with its edges (HOA v1, *Body*).
 #[derive(Debug, Drop)]
@@ -10,7 +11,7 @@ pub struct State {
     /// The number of the state, below the count of states.
     pub number: u32,
     /// The bytes of the name between its quotes, as they are, or none. An empty name differs from none.
-    pub name: Option<ByteString>,
+    pub name: StateName,
     /// The sets that each of its edges is in, rising, each once.
     pub marks: Numbers,
     /// The edges in the order written.

@@ -10,7 +10,7 @@ use crate::naming::write_named;
 use omega_acc::{Label, write_acc};
 use omega_automaton::{Automaton, State};
 use omega_dot::write_name_line;
-use omega_text::{ByteString, Refusal, write_number};
+use omega_text::{Refusal, write_number};
 
 /// Appends the front of the graph, with the automaton's name and acceptance formula.
 pub(crate) fn write_front(automaton: &Automaton, out: &mut Vec<u8>) -> Result<(), Refusal>
@@ -102,7 +102,7 @@ fn write_state(automaton: &Automaton, state: &State, out: &mut Vec<u8>) -> Resul
     ensures memory { IsOkUnless result Refusal.Memory }
 {
     write_state_number(state.number, out)?;
-    write_name_line(state.name.as_ref().map(ByteString::as_slice), out)?;
+    write_name_line(state.name.as_slice(), out)?;
     write_state_label(automaton, &state.label, out)?;
     write_marks(state.marks.as_slice(), out)?;
     out.extend_from_slice(b"\"];\n")?;

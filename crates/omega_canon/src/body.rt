@@ -6,7 +6,7 @@ ghost use Rattle.omega_canon.specs.BodyText.{body_text, edge_line, state_line, s
 
 use crate::parts::{write_label_part, write_marks, write_numbers, write_string_part};
 use omega_automaton::{EdgeRef, Edges, State};
-use omega_text::{ByteString, Refusal, write_number};
+use omega_text::{Refusal, write_number};
 
 /// Appends `--BODY--`, the states that are defined, and `--END--`.
 pub(crate) fn write_body(states: &[State], out: &mut Vec<u8>) -> Result<(), Refusal>
@@ -39,7 +39,7 @@ fn write_state(state: &State, out: &mut Vec<u8>) -> Result<(), Refusal>
     out.extend_from_slice(b"State: ")?;
     write_label_part(state.label.as_ref(), out)?;
     write_number(u128::from(state.number), out)?;
-    write_string_part(state.name.as_ref().map(ByteString::as_slice), out)?;
+    write_string_part(state.name.as_slice(), out)?;
     write_marks(state.marks.as_slice(), out)?;
     out.push(b'\n')?;
     Ok(())

@@ -18,6 +18,7 @@ mod raw_state;
 mod reading;
 mod short_edge;
 mod single;
+mod state_name;
 mod taking;
 
 pub use header_value::HeaderValue;
@@ -30,3 +31,4 @@ pub use raw_item::RawItem;
 pub use raw_state::RawState;
 pub use reading::read_raw;
 pub use short_edge::ShortEdge;
+pub use state_name::StateName;

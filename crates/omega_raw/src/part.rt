@@ -4,6 +4,8 @@ ghost use Rattle.omega_raw.specs.Grammar.{each, optional};
 ghost use Rattle.omega_raw.specs.Symbols.{FirstIs};
 ghost use Rattle.omega_raw.specs.steps.Reading.{EndsList, Finds, Gives, IsRefusal, NextIs, NextMayBe};
 
+use crate::raw_edge::RawEdge;
+use crate::raw_edges::RawEdges;
 use omega_text::{HoaKind, Numbers, Refusal, Seq, TokenSource};
 use std::alloc::Global;
 
@@ -125,4 +127,21 @@ pub(crate) fn read_numbers<'a, P: Part<'a, S, Value = u32>, S: TokenSource<'a, H
         numbers.push(alloc, number)?;
     }
     Ok(numbers)
+}
+
+/// Reads as many edges as stand there, into up to twice as much memory as they need.
+pub(crate) fn read_raw_edges<'a, P: Part<'a, S, Value = RawEdge>, S: TokenSource<'a, HoaKind>>(
+    alloc: Global,
+    source: &mut S,
+) -> Result<RawEdges, Refusal>
+    ensures gives { Gives (AllByRecursion P.valid) (each P.written) (S.left source.old) (S.left source.new) result }
+    ensures finds { Finds (AllByRecursion P.valid) (each P.written) (FirstIs (EndsList P.first P.next)) (S.left source.old) (S.left source.new) result }
+    ensures err { IfErr result IsRefusal }
+{
+    let mut edges = RawEdges::new(alloc);
+    while is_next::<P, S>(source) {
+        let edge = P::read(alloc, source)?;
+        edges.push(alloc, edge)?;
+    }
+    Ok(edges)
 }

@@ -1,22 +1,34 @@
-ghost use Rattle.std.specs.Prelude.{◌≡◌, ◌<◌, [], ◌++◌, IfOk, IfSome, length, map, option_map, slice_index_or};
+ghost use Rattle.std.specs.Prelude.{◌≡◌, ◌<◌, [], ◌∷◌, ◌++◌, IfOk, IfSome, OnErr, OnOk, length, map, slice_index_or};
 ghost use Rattle.omega_raw.specs.layout.Edges.{edges_in, lengthened};
 
 use crate::raw_edge::RawEdge;
 use crate::raw_edge_ref::RawEdgeRef;
 use crate::short_edge::ShortEdge;
-use omega_text::Seq;
+use omega_text::{Marks, Numbers, Seq};
 use std::alloc::{AllocError, Global};
 use std::marker::Model;
+
+/// Up to how many edges are moved where they do not need all memory that they have.
+const MOST_MOVED: usize = 64;
 
 /// The edges of a state in the order written. Contracts see the list of edges.
 ///
 /// Where all of them are short they take 12 bytes each, else 64.
 #[derive(Debug, Drop)]
 pub struct RawEdges {
-    held: HeldEdges,
+    held: Held,
 }
 
-/// How the edges of a state lie in memory.
+/// How the edges lie in memory.
+#[derive(Debug, Drop)]
+enum Held {
+    /// In short.
+    Short(Vec<ShortEdge>),
+    /// As they are.
+    Full(Vec<RawEdge>),
+}
+
+/// The edges of a state, taken apart.
 #[derive(Debug, Drop)]
 pub enum HeldEdges {
     /// In short.
@@ -35,19 +47,46 @@ impl Model for RawEdges {
 
     ghost coded = { Prim.hlevel (codes, raw_label.the_row.coded) };
 
-    ghost use Rattle.omega_raw.specs.layout.Edges.{edges_in};
+    ghost use Rattle.omega_raw.specs.layout.Edges.{held_edges};
 
-    ghost view = { λ e. edges_in e.held };
+    ghost view = { λ e. held_edges e.held };
 }
 
 impl RawEdges {
-    /// These edges, in short where all of them are short, in as much memory as they need.
-    pub fn from_seq(alloc: Global, edges: Seq<RawEdge>) -> Result<RawEdges, AllocError>
-        ensures { IfOk result (λ same. same ≡ edges) }
+    /// No edges, which take no memory.
+    pub fn new(alloc: Global) -> RawEdges
+        ensures { result ≡ [] }
     {
-        let held = match shortened(alloc, edges.as_slice())? {
-            Some(short) => HeldEdges::Short(short),
-            None => HeldEdges::Full(exact(alloc, edges)?),
+        RawEdges {
+            held: Held::Short(Vec::new(alloc)),
+        }
+    }
+
+    /// Adds an edge at the end. The first that is not short makes all before it lie as they are.
+    pub fn push(&mut self, alloc: Global, edge: RawEdge) -> Result<(), AllocError>
+        ensures ok { OnOk result (self.new ≡ self.old ++ edge ∷ []) }
+        ensures err { OnErr result (self.new ≡ self.old) }
+    {
+        let short = short_of(&edge);
+        match (&mut self.held, short) {
+            (Held::Short(edges), Some(short)) => edges.push(short)?,
+            (Held::Short(edges), None) => {
+                let mut full = full_edges(alloc, edges.as_slice())?;
+                full.push(edge)?;
+                self.held = Held::Full(full);
+            }
+            (Held::Full(edges), _) => edges.push(edge)?,
+        }
+        Ok(())
+    }
+
+    /// The same edges in as much memory as they need.
+    pub fn exact(self, alloc: Global) -> Result<RawEdges, AllocError>
+        ensures { IfOk result (λ same. same ≡ self) }
+    {
+        let held = match self.held {
+            Held::Short(edges) => Held::Short(exact(alloc, edges)?),
+            Held::Full(edges) => Held::Full(exact(alloc, edges)?),
         };
         Ok(RawEdges { held })
     }
@@ -57,8 +96,8 @@ impl RawEdges {
         ensures { result ≡ length self.now }
     {
         match &self.held {
-            HeldEdges::Short(edges) => edges.len(),
-            HeldEdges::Full(edges) => edges.len(),
+            Held::Short(edges) => edges.len(),
+            Held::Full(edges) => edges.len(),
         }
     }
 
@@ -68,8 +107,8 @@ impl RawEdges {
         ensures { result ≡ slice_index_or self.now at result }
     {
         match &self.held {
-            HeldEdges::Short(edges) => short_edge(&edges.as_slice()[at]),
-            HeldEdges::Full(edges) => full_edge(&edges.as_slice()[at]),
+            Held::Short(edges) => short_edge(&edges[at]),
+            Held::Full(edges) => full_edge(&edges[at]),
         }
     }
 
@@ -77,37 +116,55 @@ impl RawEdges {
     pub fn into_held(self) -> HeldEdges
         ensures { edges_in result ≡ self }
     {
-        self.held
-    }
-}
-
-/// The same edges in as much memory as they need. They are moved, and not shrunk in place: what a shrunk list leaves behind
-/// it is mostly too small to be used again.
-fn exact(alloc: Global, edges: Seq<RawEdge>) -> Result<Seq<RawEdge>, AllocError>
-    ensures { IfOk result (λ same. same ≡ edges) }
-{
-    let mut edges = edges.into_vec();
-    if edges.len() == edges.capacity() {
-        return Ok(Seq::from_vec(edges));
-    }
-    let mut same = Vec::with_capacity(alloc, edges.len())?;
-    same.append(&mut edges)?;
-    Ok(Seq::from_vec(same))
-}
-
-/// The edges in short, none where one of them is not short.
-fn shortened(alloc: Global, edges: &[RawEdge]) -> Result<Option<Seq<ShortEdge>>, AllocError>
-    ensures { IfOk result (λ short. IfSome short (λ short. map lengthened short ≡ edges.now)) }
-{
-    let mut short = Vec::new(alloc);
-    for edge in edges {
-        match short_of(edge) {
-            Some(edge) => short.push(edge)?,
-            None => return Ok(None),
+        match self.held {
+            Held::Short(edges) => HeldEdges::Short(Seq::from_vec(edges)),
+            Held::Full(edges) => HeldEdges::Full(Seq::from_vec(edges)),
         }
     }
-    short.shrink_to_fit();
-    Ok(Some(Seq::from_vec(short)))
+}
+
+/// The same values in as much memory as they need. A few are moved, and not shrunk in place: what a short list leaves behind
+/// it is mostly too small to be used again.
+fn exact<T: Drop>(alloc: Global, values: Vec<T>) -> Result<Vec<T>, AllocError>
+    ensures { IfOk result (λ same. same.items ≡ values.items) }
+{
+    let mut values = values;
+    if values.len() == values.capacity() {
+        return Ok(values);
+    }
+    if MOST_MOVED < values.len() {
+        values.shrink_to_fit();
+        return Ok(values);
+    }
+    let mut same = Vec::with_capacity(alloc, values.len())?;
+    same.append(&mut values)?;
+    Ok(same)
+}
+
+/// The edges as they are.
+fn full_edges(alloc: Global, edges: &[ShortEdge]) -> Result<Vec<RawEdge>, AllocError>
+    ensures { IfOk result (λ full. full.items ≡ map lengthened edges.now) }
+{
+    let mut full = Vec::new(alloc);
+    for edge in edges {
+        full.push(as_it_is(edge))?;
+    }
+    Ok(full)
+}
+
+/// The edge as it is.
+fn as_it_is(edge: &ShortEdge) -> RawEdge
+    ensures { result ≡ lengthened edge.now }
+{
+    let marks = match edge.mark {
+        Some(mark) => Marks::of(Numbers::one(mark)),
+        None => Marks::absent(),
+    };
+    RawEdge {
+        label: None,
+        targets: Numbers::one(edge.target),
+        marks,
+    }
 }
 
 /// An edge in short, none where it is not short.

@@ -6,7 +6,7 @@ ghost use Rattle.omega_acc.specs.Symbols.{IsUnread};
 
 use crate::body::State;
 use crate::header::Item;
-use crate::part::read_each;
+use crate::part::read_growing;
 use crate::raw_automaton::RawAutomaton;
 use crate::taking::{take_header, take_sign, take_word};
 use omega_text::{HoaKind, Refusal, TokenSource};
@@ -27,9 +27,9 @@ pub fn read_raw<'a, S: TokenSource<'a, HoaKind>>(
 {
     take_header(source, b"HOA")?;
     let version = take_word(alloc, source)?;
-    let items = read_each::<Item, S>(alloc, source)?;
+    let items = read_growing::<Item, S>(alloc, source)?;
     take_sign(source, HoaKind::Body)?;
-    let states = read_each::<State, S>(alloc, source)?;
+    let states = read_growing::<State, S>(alloc, source)?;
     take_sign(source, HoaKind::End)?;
     Ok(RawAutomaton {
         version,

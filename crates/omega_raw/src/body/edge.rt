@@ -9,7 +9,7 @@ ghost use Rattle.omega_raw.specs.steps.Parts.{EndsEdge, is_edge};
 use crate::body::guard::Guard;
 use crate::body::sig::read_marks;
 use crate::conj::conj;
-use crate::part::{Part, read_growing, read_if};
+use crate::part::{Part, read_if, read_raw_edges};
 use crate::raw_edge::RawEdge;
 use crate::raw_edges::RawEdges;
 use omega_text::{HoaKind, Refusal, TokenSource};
@@ -49,7 +49,7 @@ impl<'a, S: TokenSource<'a, HoaKind>> Part<'a, S> for Edge {
     ghost follows = { edge_follows };
 }
 
-/// Reads as many edges as stand there.
+/// Reads as many edges as stand there, into as much memory as they need.
 pub(crate) fn read_edges<'a, S: TokenSource<'a, HoaKind>>(
     alloc: Global,
     source: &mut S,
@@ -58,7 +58,7 @@ pub(crate) fn read_edges<'a, S: TokenSource<'a, HoaKind>>(
     ensures finds { Finds (AllByRecursion IsEdge) (each edge_row) (FirstIs (EndsList is_edge EndsEdge)) (S.left source.old) (S.left source.new) result }
     ensures err { IfErr result IsRefusal }
 {
-    let edges = read_growing::<Edge, S>(alloc, source)?;
-    let edges = RawEdges::from_seq(alloc, edges)?;
+    let edges = read_raw_edges::<Edge, S>(alloc, source)?;
+    let edges = edges.exact(alloc)?;
     Ok(edges)
 }

@@ -1,6 +1,9 @@
+ghost use Rattle.std.specs.Prelude.{IfErr, IfSome};
+ghost use Rattle.omega_raw.specs.Symbols.{FirstIs};
+ghost use Rattle.omega_raw.specs.steps.Reading.{EndsList, Finds, Gives, IsAny, IsKind, IsRefusal};
 ghost use Rattle.omega_raw.specs.steps.Beginnings.{state_begun, state_follows};
-ghost use Rattle.omega_raw.specs.Grammar.{IsState, state_row};
-ghost use Rattle.omega_raw.specs.steps.Parts.{EndsState, is_header};
+ghost use Rattle.omega_raw.specs.Grammar.{IsState, optional, state_row, string_row};
+ghost use Rattle.omega_raw.specs.steps.Parts.{EndsState, is_header, is_string};
 
 use crate::body::edge::read_edges;
 use crate::body::guard::Guard;
@@ -8,6 +11,7 @@ use crate::body::sig::read_marks;
 use crate::part::{Part, read_if};
 use crate::raw_state::RawState;
 use crate::single::Quoted;
+use crate::state_name::StateName;
 use crate::taking::{take_header, take_int};
 use omega_text::{HoaKind, Refusal, TokenSource};
 use std::alloc::Global;
@@ -34,7 +38,7 @@ impl<'a, S: TokenSource<'a, HoaKind>> Part<'a, S> for State {
         take_header(source, b"State")?;
         let label = read_if::<Guard, S>(alloc, source)?;
         let number = take_int(source)?;
-        let name = read_if::<Quoted, S>(alloc, source)?;
+        let name = read_name(alloc, source)?;
         let marks = read_marks(alloc, source)?;
         let edges = read_edges(alloc, source)?;
         Ok(RawState {
@@ -49,4 +53,23 @@ impl<'a, S: TokenSource<'a, HoaKind>> Part<'a, S> for State {
     ghost begun = { state_begun };
 
     ghost follows = { state_follows };
+}
+
+/// Reads the name of a state, if it stands there.
+fn read_name<'a, S: TokenSource<'a, HoaKind>>(
+    alloc: Global,
+    source: &mut S,
+) -> Result<StateName, Refusal>
+    ensures gives { Gives (λ it. IfSome it IsAny) (optional string_row) (S.left source.old) (S.left source.new) result }
+    ensures finds { Finds (λ it. IfSome it IsAny) (optional string_row) (FirstIs (EndsList is_string IsKind)) (S.left source.old) (S.left source.new) result }
+    ensures err { IfErr result IsRefusal }
+{
+    let bytes = read_if::<Quoted, S>(alloc, source)?;
+    match bytes {
+        Some(bytes) => {
+            let name = StateName::of(alloc, bytes)?;
+            Ok(name)
+        }
+        None => Ok(StateName::absent()),
+    }
 }
