@@ -39,27 +39,18 @@ pub(super) fn plain_hoa_token(source: &[u8], at: usize) -> Option<Token<'_, HoaK
     ensures token { IfSome result (λ token. Follows source.now at (lexeme_of token)) }
     ensures progress { IfSome result (λ token. IsPartBehind source.now at token.span) }
 {
-    let start = white_end(source, at);
-    if start == source.len() {
-        return None;
+    let mut start = at;
+    while start < source.len() {
+        if is_white(source[start]) {
+            start += 1;
+            continue;
+        }
+        let bytes = tail(source, start);
+        let unit = plain_unit(bytes)?;
+        let kind = unit.kind?;
+        return Some(front_token(bytes, start, kind, unit.value, unit.count));
     }
-    let bytes = tail(source, start);
-    let unit = plain_unit(bytes)?;
-    let kind = unit.kind?;
-    Some(front_token(bytes, start, kind, unit.value, unit.count))
-}
-
-/// Where the white bytes end that stand at a place.
-#[inline(always)]
-fn white_end(source: &[u8], at: usize) -> usize
-    requires { at ≤ length source.now }
-    ensures { IsGapTo source.now at result }
-{
-    let mut end = at;
-    while end < source.len() && is_white(source[end]) {
-        end += 1;
-    }
-    end
+    None
 }
 
 /// What `next_behind` gives. Its result stands in memory of its own, so that a token that is read before it need not.
