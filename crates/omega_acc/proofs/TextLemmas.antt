@@ -62,7 +62,7 @@ pub texts-step : (nodes : List LabelNode) (left before : ℕ) (last shape : Labe
     → texts_behind (texts_behind [] (take before nodes)) (shape ∷ []) ≡ texts_behind [] (take left nodes)
 texts-step nodes left before last shape next is same =
     let more = take_more nodes before last (slice_get_within nodes before last is)
-        ∙ ap (λ node. take before nodes ++ node ∷ []) (get_or_from_slice_get nodes before last last is ∙ same) in
+    ∙ ap (λ node. take before nodes ++ node ∷ []) (get_or_from_slice_get nodes before last last is ∙ same) in
     sym (ap (texts_behind []) (ap (λ n. take n nodes) next ∙ more) ∙ texts_behind-append (take before nodes) [] (shape ∷ []))
 
 acc_texts_behind-append : (front : List AccNode) (stack : List Text) (rest : List AccNode) → acc_texts_behind stack (front ++ rest) ≡ acc_texts_behind (acc_texts_behind stack front) rest

@@ -148,6 +148,7 @@ impl Backward {
     }
 
     /// Writes the signs that stand before the part that was written, up to an operator, whose left part comes next.
+    #[inline]
     fn turn(&mut self) -> Result<(), Refusal>
         ensures ok { OnOk result ((texts : List Text) → whole_text self.new texts ≡ before_text self.old.waiting texts ++ self.old.bytes) }
         ensures err { IfErr result IsMemory }
@@ -184,12 +185,7 @@ fn byte(sign: Sign) -> u8
 }
 
 /// Puts a word and a set in parentheses first, with `!` before the set or without.
-fn put_set(
-    bytes: &mut Leftward,
-    word: &[u8],
-    negated: bool,
-    set: u32,
-) -> Result<(), Refusal>
+fn put_set(bytes: &mut Leftward, word: &[u8], negated: bool, set: u32) -> Result<(), Refusal>
     ensures ok { OnOk result (bytes.new ≡ (word.now ++ set_text negated set) ++ bytes.old) }
     ensures err { IfErr result IsMemory }
 {

@@ -46,6 +46,7 @@ impl PendingStack {
     }
 
     /// Puts one on top.
+    #[inline]
     pub(crate) fn push(&mut self, pending: Pending) -> Result<(), Refusal>
         ensures ok { OnOk result (self.new ≡ pending ∷ self.old) }
         ensures err { IfErr result IsMemory }
@@ -78,6 +79,7 @@ impl PendingStack {
     }
 
     /// Takes the one on top, none where nothing waits.
+    #[inline]
     pub(crate) fn pop(&mut self) -> Option<Pending>
         ensures { MatchOption result ((self.old ≡ []) × (self.new ≡ [])) (λ pending. self.old ≡ pending ∷ self.new) }
     {

@@ -33,12 +33,7 @@ pub fn read_raw_label<'a, S: TokenSource<'a, HoaKind>>(
     operand(&mut unfinished, source)?;
     while goes_on(&mut unfinished, source)? {}
     if unfinished.nodes.as_slice().len() > MOST_IN_PLACE {
-        return RawLabel::keeping(
-            alloc,
-            unfinished.nodes,
-            unfinished.names,
-            unfinished.depth,
-        );
+        return RawLabel::keeping(alloc, unfinished.nodes, unfinished.names, unfinished.depth);
     }
     RawLabel::of_nodes(
         alloc,

@@ -13,41 +13,48 @@ loop-left-init c =
     (omega (arith, all), ap (λ nodes. whole_text c.args.text.now (texts_behind [] nodes)) (ap (λ n. take n (postfix c.args.label.now)) all ∙ take-length (postfix c.args.label.now)))
 
 pub loop-left-preserved-in-Continue-1 : goal.loop-left-preserved-in-Continue-1
-loop-left-preserved-in-Continue-1 c =
-    (omega (arith, c.loop-left.invariant.0),
-    c.in_ok-truth-in-Constant.ensures.ok (texts_behind [] (take (c.loop-left.left - 1) (postfix c.args.label.now)))
-    ∙ (ap (whole_text c.loop-left.text) (texts-step (postfix c.args.label.now) c.loop-left.left (c.loop-left.left - 1) c.node.result _ (omega (arith, c.loop-left-test.true)) c.node.ensures c.in-Constant.is) ∙ c.loop-left.invariant.1))
+loop-left-preserved-in-Continue-1 c = (
+  omega (arith, c.loop-left.invariant.0),
+  c.in_ok-truth-in-Constant.ensures.ok (texts_behind [] (take (c.loop-left.left - 1) (postfix c.args.label.now)))
+      ∙ (ap (whole_text c.loop-left.text) (texts-step (postfix c.args.label.now) c.loop-left.left (c.loop-left.left - 1) c.node.result _ (omega (arith, c.loop-left-test.true)) c.node.ensures c.in-Constant.is) ∙ c.loop-left.invariant.1),
+)
 
 pub loop-left-preserved-in-Continue-branch-2 : goal.loop-left-preserved-in-Continue-branch-2
-loop-left-preserved-in-Continue-branch-2 c =
-    (omega (arith, c.loop-left.invariant.0),
-    c.in_ok-number-in-Proposition.ensures.ok (texts_behind [] (take (c.loop-left.left - 1) (postfix c.args.label.now)))
-    ∙ (ap (whole_text c.loop-left.text) (texts-step (postfix c.args.label.now) c.loop-left.left (c.loop-left.left - 1) c.node.result _ (omega (arith, c.loop-left-test.true)) c.node.ensures c.in-Proposition.is) ∙ c.loop-left.invariant.1))
+loop-left-preserved-in-Continue-branch-2 c = (
+  omega (arith, c.loop-left.invariant.0),
+  c.in_ok-number-in-Proposition.ensures.ok (texts_behind [] (take (c.loop-left.left - 1) (postfix c.args.label.now)))
+      ∙ (ap (whole_text c.loop-left.text) (texts-step (postfix c.args.label.now) c.loop-left.left (c.loop-left.left - 1) c.node.result _ (omega (arith, c.loop-left-test.true)) c.node.ensures c.in-Proposition.is) ∙ c.loop-left.invariant.1),
+)
 
 pub loop-left-preserved-in-Continue-branch-3 : goal.loop-left-preserved-in-Continue-branch-3
-loop-left-preserved-in-Continue-branch-3 c =
-    (omega (arith, c.loop-left.invariant.0),
-    c.in_ok-negate-in-Not.ensures.ok (texts_behind [] (take (c.loop-left.left - 1) (postfix c.args.label.now)))
-    ∙ (ap (whole_text c.loop-left.text) (texts-step (postfix c.args.label.now) c.loop-left.left (c.loop-left.left - 1) c.node.result _ (omega (arith, c.loop-left-test.true)) c.node.ensures c.in-Not.is) ∙ c.loop-left.invariant.1))
+loop-left-preserved-in-Continue-branch-3 c = (
+  omega (arith, c.loop-left.invariant.0),
+  c.in_ok-negate-in-Not.ensures.ok (texts_behind [] (take (c.loop-left.left - 1) (postfix c.args.label.now)))
+      ∙ (ap (whole_text c.loop-left.text) (texts-step (postfix c.args.label.now) c.loop-left.left (c.loop-left.left - 1) c.node.result _ (omega (arith, c.loop-left-test.true)) c.node.ensures c.in-Not.is) ∙ c.loop-left.invariant.1),
+)
 
 pub loop-left-preserved-in-Continue-branch-4 : goal.loop-left-preserved-in-Continue-branch-4
-loop-left-preserved-in-Continue-branch-4 c =
-    (omega (arith, c.loop-left.invariant.0),
-    c.in_ok-and-in-And.ensures.ok (texts_behind [] (take (c.loop-left.left - 1) (postfix c.args.label.now)))
-    ∙ (ap (whole_text c.loop-left.text) (texts-step (postfix c.args.label.now) c.loop-left.left (c.loop-left.left - 1) c.node.result _ (omega (arith, c.loop-left-test.true)) c.node.ensures c.in-And.is) ∙ c.loop-left.invariant.1))
+loop-left-preserved-in-Continue-branch-4 c = (
+  omega (arith, c.loop-left.invariant.0),
+  c.in_ok-and-in-And.ensures.ok (texts_behind [] (take (c.loop-left.left - 1) (postfix c.args.label.now)))
+      ∙ (ap (whole_text c.loop-left.text) (texts-step (postfix c.args.label.now) c.loop-left.left (c.loop-left.left - 1) c.node.result _ (omega (arith, c.loop-left-test.true)) c.node.ensures c.in-And.is) ∙ c.loop-left.invariant.1),
+)
 
 pub loop-left-preserved-in-Continue-branch-5 : goal.loop-left-preserved-in-Continue-branch-5
-loop-left-preserved-in-Continue-branch-5 c =
-    (omega (arith, c.loop-left.invariant.0),
-    c.in_ok-or-in-Or.ensures.ok (texts_behind [] (take (c.loop-left.left - 1) (postfix c.args.label.now)))
-    ∙ (ap (whole_text c.loop-left.text) (texts-step (postfix c.args.label.now) c.loop-left.left (c.loop-left.left - 1) c.node.result _ (omega (arith, c.loop-left-test.true)) c.node.ensures c.in-Or.is) ∙ c.loop-left.invariant.1))
+loop-left-preserved-in-Continue-branch-5 c = (
+  omega (arith, c.loop-left.invariant.0),
+  c.in_ok-or-in-Or.ensures.ok (texts_behind [] (take (c.loop-left.left - 1) (postfix c.args.label.now)))
+      ∙ (ap (whole_text c.loop-left.text) (texts-step (postfix c.args.label.now) c.loop-left.left (c.loop-left.left - 1) c.node.result _ (omega (arith, c.loop-left-test.true)) c.node.ensures c.in-Or.is) ∙ c.loop-left.invariant.1),
+)
 
 pub loop-left-preserved-in-Alias : goal.loop-left-preserved-in-Alias
-loop-left-preserved-in-Alias c =
-    (omega (arith, c.loop-left.invariant.0),
-    ap (whole_text c.loop-left.text) (texts-step (postfix c.args.label.now) c.loop-left.left (c.loop-left.left - 1) c.node.result _ (omega (arith, c.loop-left-test.true)) c.node.ensures c.in-Alias.is) ∙ c.loop-left.invariant.1)
+loop-left-preserved-in-Alias c = (
+  omega (arith, c.loop-left.invariant.0),
+  ap (whole_text c.loop-left.text) (texts-step (postfix c.args.label.now) c.loop-left.left (c.loop-left.left - 1) c.node.result _ (omega (arith, c.loop-left-test.true)) c.node.ensures c.in-Alias.is) ∙ c.loop-left.invariant.1,
+)
 
 pub loop-left-preserved : goal.loop-left-preserved
-loop-left-preserved c =
-    (omega (arith, c.loop-left.invariant.0),
-    ap (whole_text c.loop-left.text) (texts-step (postfix c.args.label.now) c.loop-left.left (c.loop-left.left - 1) c.node.result _ (omega (arith, c.loop-left-test.true)) c.node.ensures c.in-Group.is) ∙ c.loop-left.invariant.1)
+loop-left-preserved c = (
+  omega (arith, c.loop-left.invariant.0),
+  ap (whole_text c.loop-left.text) (texts-step (postfix c.args.label.now) c.loop-left.left (c.loop-left.left - 1) c.node.result _ (omega (arith, c.loop-left-test.true)) c.node.ensures c.in-Group.is) ∙ c.loop-left.invariant.1,
+)
