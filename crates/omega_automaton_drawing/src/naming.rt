@@ -73,7 +73,11 @@ fn with_digit(number: Option<u32>, byte: u8) -> u32
 }
 
 /// Appends the name of the proposition whose number has been passed, if there is one.
-fn write_pending(number: Option<u32>, names: &[ByteString], out: &mut Vec<u8>) -> Result<(), Refusal>
+fn write_pending(
+    number: Option<u32>,
+    names: &[ByteString],
+    out: &mut Vec<u8>,
+) -> Result<(), Refusal>
     ensures ok { OnOk result (out.new.items ≡ out.old.items ++ pending_name names.now number) }
     ensures memory { IsOkUnless result Refusal.Memory }
 {

@@ -44,11 +44,7 @@ pub(crate) fn take_piece<T: ItemText>(telling: &mut Telling, piece: &[u8]) -> Re
     telling.items.clear();
     match telling.stream.feed(piece, &mut telling.items) {
         Ok(()) => {
-            append_items::<T>(
-                telling.count,
-                telling.items.as_slice(),
-                &mut telling.told,
-            )?;
+            append_items::<T>(telling.count, telling.items.as_slice(), &mut telling.told)?;
             telling.count += telling.items.len();
             Ok(())
         }

@@ -104,7 +104,10 @@ fn is_among(bytes: &[u8], names: &[ByteString]) -> bool
 }
 
 /// The same where no name is seen yet.
-fn sees_name_twice<'a>(seen: &mut IndexSet<&'a [u8]>, names: &'a [ByteString]) -> Result<bool, Refusal>
+fn sees_name_twice<'a>(
+    seen: &mut IndexSet<&'a [u8]>,
+    names: &'a [ByteString],
+) -> Result<bool, Refusal>
     requires { seen.old.keys ≡ [] }
     ensures ok { IfOk result (λ twice. twice ≡ has_repeat bytes_eq names.now) }
     ensures err { IfErr result IsMemory }

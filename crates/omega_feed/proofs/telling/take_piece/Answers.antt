@@ -51,13 +51,13 @@ returns-in_ok-append_items-in-Ok-clause-follows g c = λ seen short follows.
 pub returns-in_default : goal.returns-in_default
 returns-in_default g c = record {
   follows = λ seen short follows.
-    let kept : Kept = c.args.telling.now.stream in
-    let said = c.in-Err.ensures in
-    let refusal = c.in-Err.refusal in
-    follows_refused g.T.ItemText.text seen kept c.args.telling.now.count c.args.telling.now.told.items follows c.args.piece.now
-    c.clear.new.self.items c.feed.new.out.items c.feed.new.self c.clear.ensures.items c.args.telling.now.count c.args.telling.now.told.items refusal
-    (kept_refusal c.feed.new.self.refused refusal c.in_default.not-Memory said.kept) c.in_default.not-Memory
-    (λ none items fed. said.refused none (piece_fits g.T.ItemText.text seen kept c.args.telling.now.count c.args.telling.now.told.items follows none (length c.args.piece.now) short) seen items fed)
-    (same_as_before kept.refused refusal _ (λ before says. says.0) said.refused_before);
+      let kept : Kept = c.args.telling.now.stream in
+      let said = c.in-Err.ensures in
+      let refusal = c.in-Err.refusal in
+      follows_refused g.T.ItemText.text seen kept c.args.telling.now.count c.args.telling.now.told.items follows c.args.piece.now
+      c.clear.new.self.items c.feed.new.out.items c.feed.new.self c.clear.ensures.items c.args.telling.now.count c.args.telling.now.told.items refusal
+      (kept_refusal c.feed.new.self.refused refusal c.in_default.not-Memory said.kept) c.in_default.not-Memory
+      (λ none items fed. said.refused none (piece_fits g.T.ItemText.text seen kept c.args.telling.now.count c.args.telling.now.told.items follows none (length c.args.piece.now) short) seen items fed)
+      (same_as_before kept.refused refusal _ (λ before says. says.0) said.refused_before);
   memory = tt;
 }
