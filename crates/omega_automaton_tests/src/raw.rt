@@ -1,7 +1,7 @@
 //! Automata as they are written.
 use crate::outcomes::assert_row;
 use crate::texts::{raw_in, text_of};
-use omega_raw::{RawAutomaton, RawEdge, RawItem, RawState};
+use omega_raw::{RawAutomaton, RawEdgeRef, RawItem, RawState};
 use std::alloc::Global;
 
 // The number of a refusal and its place, or 0 and the place behind what was read.
@@ -151,27 +151,24 @@ fn other_texts_are_refused(rt: HostRuntime) {
     }
 }
 
-fn is_edge(edge: &RawEdge) -> bool {
-    let marks = match edge.marks.as_slice() {
+fn is_edge(edge: &RawEdgeRef<'_>) -> bool {
+    let marks = match edge.marks() {
         Some(marks) => marks == [1, 1].as_slice(),
         None => false,
     };
-    marks && edge.label.is_none() && edge.targets.as_slice() == [2, 0].as_slice()
+    marks && edge.label().is_none() && edge.targets() == [2, 0].as_slice()
 }
 
 fn is_state(state: &RawState) -> bool {
-    let name = match &state.name {
-        Some(name) => name.as_slice() == b"n\\\"".as_slice(),
+    let name = match state.name.as_slice() {
+        Some(name) => name == b"n\\\"".as_slice(),
         None => false,
     };
     let marks = match state.marks.as_slice() {
         Some(marks) => marks.is_empty(),
         None => false,
     };
-    let edges = match state.edges.as_slice() {
-        [edge] => is_edge(edge),
-        _ => false,
-    };
+    let edges = state.edges.len() == 1 && is_edge(&state.edges.edge(0));
     name && marks && edges && state.number == 1 && state.label.is_some()
 }
 

@@ -2,7 +2,7 @@ use crate::outcomes::{assert_row, number_of, outcome_of};
 use crate::texts::text_with;
 use omega_acc::RawAcc;
 use omega_automaton::{Marks, Numbers, RawAutomaton, Refusal, Seq, automaton_of};
-use omega_raw::{RawEdge, RawItem, RawState};
+use omega_raw::{RawEdge, RawEdges, RawItem, RawState, StateName};
 use std::alloc::Global;
 
 // Items, body, and the number of the refusal of a text of version v1 with both, or 0.
@@ -147,14 +147,15 @@ fn items_with(alloc: Global, start: &[u32]) -> Result<Seq<RawItem>, Refusal> {
 }
 
 // One edge.
-fn edges_with(alloc: Global, targets: &[u32]) -> Result<Seq<RawEdge>, Refusal> {
-    let mut edges = Vec::new(alloc);
-    edges.push(RawEdge {
+fn edges_with(alloc: Global, targets: &[u32]) -> Result<RawEdges, Refusal> {
+    let mut edges = RawEdges::new(alloc);
+    let edge = RawEdge {
         label: None,
         targets: Numbers::from_slice(alloc, targets)?,
         marks: Marks::absent(),
-    })?;
-    Ok(Seq::from_vec(edges))
+    };
+    edges.push(alloc, edge)?;
+    Ok(edges)
 }
 
 // One state with an edge.
@@ -163,7 +164,7 @@ fn states_with(alloc: Global, targets: &[u32]) -> Result<Seq<RawState>, Refusal>
     states.push(RawState {
         label: None,
         number: 0,
-        name: None,
+        name: StateName::absent(),
         marks: Marks::absent(),
         edges: edges_with(alloc, targets)?,
     })?;

@@ -3,8 +3,8 @@ use crate::acc::{formula_text, written};
 use crate::outcomes::{assert_row, is_text};
 use crate::texts::{meaning, text_with};
 use omega_automaton::{
-    AccName, Automaton, ByteString, Edge, Header, HeaderValue, Label, Numbers, Parameter, Refusal,
-    State, Tool,
+    AccName, Automaton, ByteString, EdgeRef, Edges, Header, HeaderValue, Label, Numbers, Parameter,
+    Refusal, State, Tool,
 };
 use std::alloc::Global;
 use std::process::Abort;
@@ -111,10 +111,8 @@ fn automata_are_counted(rt: HostRuntime) {
 }
 
 // Whether an edge has this label, leads to these states, and is in these sets.
-fn is_edge(alloc: Global, edge: &Edge, label: &str, targets: &[u32], marks: &[u32]) -> bool {
-    is_label(alloc, edge.label.as_ref(), label)
-        && edge.targets.as_slice() == targets
-        && edge.marks.as_slice() == marks
+fn is_edge(alloc: Global, edge: &EdgeRef<'_>, label: &str, targets: &[u32], marks: &[u32]) -> bool {
+    is_label(alloc, edge.label(), label) && edge.targets() == targets && edge.marks() == marks
 }
 
 // Whether these are the bytes that are there, if any.
@@ -137,7 +135,7 @@ fn is_state(
 ) -> bool {
     is_label(alloc, state.label.as_ref(), label)
         && state.number == number
-        && are_bytes(state.name.as_ref(), name)
+        && state.name.as_slice() == name
         && state.marks.as_slice() == marks
 }
 
@@ -153,18 +151,13 @@ fn an_alias_and_repeated_marks(rt: HostRuntime) {
 
 fn has_one_edge(alloc: Global, states: &[State]) -> bool {
     match states {
-        [state] => {
-            is_state(alloc, state, "", 0, None, &[]) && is_only_edge(alloc, state.edges.as_slice())
-        }
+        [state] => { is_state(alloc, state, "", 0, None, &[]) && is_only_edge(alloc, &state.edges) }
         _ => false,
     }
 }
 
-fn is_only_edge(alloc: Global, edges: &[Edge]) -> bool {
-    match edges {
-        [edge] => is_edge(alloc, edge, "!(0|t)&0", &[0], &[0]),
-        _ => false,
-    }
+fn is_only_edge(alloc: Global, edges: &Edges) -> bool {
+    edges.len() == 1 && is_edge(alloc, &edges.edge(0), "!(0|t)&0", &[0], &[0])
 }
 
 const STATES: &str =
@@ -186,29 +179,57 @@ fn are_states(alloc: Global, states: &[State]) -> bool {
             is_state(alloc, third, "!0", 3, Some(b"n"), &[0, 1, 2])
                 && is_state(alloc, first, "", 1, Some(b""), &[])
                 && is_state(alloc, none, "", 0, None, &[])
-                && are_plain_and_both(alloc, third.edges.as_slice())
-                && are_labelled(alloc, first.edges.as_slice())
+                && are_plain_and_both(alloc, &third.edges)
+                && are_labelled(alloc, &first.edges)
         }
         _ => false,
     }
 }
 
-fn are_plain_and_both(alloc: Global, edges: &[Edge]) -> bool {
-    match edges {
-        [plain, both] => {
-            is_edge(alloc, plain, "", &[0], &[]) && is_edge(alloc, both, "", &[1, 1], &[0, 1])
-        }
-        _ => false,
+fn are_plain_and_both(alloc: Global, edges: &Edges) -> bool {
+    edges.len() == 2
+        && is_edge(alloc, &edges.edge(0), "", &[0], &[])
+        && is_edge(alloc, &edges.edge(1), "", &[1, 1], &[0, 1])
+}
+
+fn are_labelled(alloc: Global, edges: &Edges) -> bool {
+    edges.len() == 2
+        && is_edge(alloc, &edges.edge(0), "0", &[2], &[])
+        && is_edge(alloc, &edges.edge(1), "!0|0", &[0], &[])
+}
+
+// Edges without labels, in a state where each leads to one state and is in one set at most, and in one where braces are empty.
+#[test]
+fn edges_without_labels(rt: HostRuntime) {
+    let body = "State: 0 1 {1} 0 State: 1 0 {} 1 {0}";
+    match automaton_of(rt.alloc(), "AP: 1 \"p\" Acceptance: 2 t", body) {
+        Ok(automaton) => assert!(rt; are_unlabelled(rt.alloc(), automaton.defined())),
+        Err(_) => assert!(rt; false),
     }
 }
 
-fn are_labelled(alloc: Global, edges: &[Edge]) -> bool {
-    match edges {
+fn are_unlabelled(alloc: Global, states: &[State]) -> bool {
+    match states {
         [one, other] => {
-            is_edge(alloc, one, "0", &[2], &[]) && is_edge(alloc, other, "!0|0", &[0], &[])
+            are_edges(alloc, &one.edges, &[1], &[1], &[0], &[])
+                && are_edges(alloc, &other.edges, &[0], &[], &[1], &[0])
         }
         _ => false,
     }
+}
+
+// Whether there are two edges without labels that lead to these states and are in these sets.
+fn are_edges(
+    alloc: Global,
+    edges: &Edges,
+    targets: &[u32],
+    marks: &[u32],
+    other_targets: &[u32],
+    other_marks: &[u32],
+) -> bool {
+    edges.len() == 2
+        && is_edge(alloc, &edges.edge(0), "", targets, marks)
+        && is_edge(alloc, &edges.edge(1), "", other_targets, other_marks)
 }
 
 const HEADER: &str =
