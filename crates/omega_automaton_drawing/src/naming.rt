@@ -4,7 +4,7 @@ ghost use Rattle.std.specs.Prelude.{◌≡◌, ◌≤◌, true, ◌++◌, IfOk, 
 ghost use Rattle.omega_acc.specs.Label.{propositions};
 ghost use Rattle.omega_automaton.specs.Automaton.{AreBelow};
 ghost use Rattle.omega_automaton.specs.Limits.{most_propositions};
-ghost use Rattle.omega_text.specs.ByteString.{is_digit};
+ghost use Rattle.omega_text.specs.Bytes.{is_digit};
 ghost use Rattle.omega_automaton_drawing.specs.Expressions.{named_text};
 ghost use Rattle.omega_automaton_drawing.specs.layout.Naming.{AreOwed, pending_name, sign_text, with_digit, with_names};
 
