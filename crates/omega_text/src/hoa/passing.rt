@@ -144,7 +144,8 @@ fn pass_plain(pending: Pending, start: usize, bytes: &[u8], from: usize) -> (Pen
     }
 }
 
-/// White bytes, signs, words, numbers and strings, as far as they are ended one behind the other; and the unit that is not.
+/// White bytes, signs, words, numbers, strings and alias names, as far as they are ended one behind the other; and the unit
+/// that is not.
 #[inline(always)]
 fn pass_simple(start: usize, bytes: &[u8], from: usize) -> (Pending, usize)
     requires within { from ≤ length bytes.now }

@@ -66,8 +66,8 @@ impl HoaTokenizer {
     /// Reads the bytes from a place on, up to one that settles a mark or a fault, and gives the place of that one, or the end.
     /// The tokens that are settled before it are not given.
     ///
-    /// It does what as many steps do, in a fraction of their time: each byte is looked at once, or twice where it ends a word
-    /// or a number.
+    /// It does what as many steps do, in a fraction of their time: each byte is looked at once, or a few times where it ends a
+    /// word or a number, or stands in a mark or a number of many digits.
     pub fn pass(&mut self, bytes: &[u8], from: usize) -> usize
         requires within { from ≤ length bytes.now }
         requires room { HasRoom (length bytes.now - from) self.old }
