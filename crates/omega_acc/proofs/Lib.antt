@@ -13,6 +13,7 @@ pub mod EmitLemmas
 pub mod EntryLemmas
 pub mod ExpansionLemmas
 pub mod ExtentLemmas
+pub mod KeptLemmas
 pub mod KindLemmas
 pub mod LabelLemmas
 pub mod Parities

@@ -1,26 +1,36 @@
-ghost use Rattle.std.specs.Prelude.{◌≡◌, ◌<◌, ◌++◌, [], ◌∷◌, drop, false, length, map, option_map, take, IfErr, IfOk, OnErr, OnOk};
+ghost use Rattle.std.specs.Prelude.{◌≡◌, ◌<◌, ◌++◌, [], ◌∷◌, drop, false, length, map, option_map, take, IfErr, IfOk, IfSome, OnErr, OnOk};
 ghost use Rattle.std.specs.List.{list_any};
 ghost use Rattle.std.specs.Str.{bytes_eq};
 ghost use Rattle.omega_acc.specs.Depth.{IsMemory};
 ghost use Rattle.omega_acc.specs.Expanding.{IsAdded, IsBodyAt, IsRepeated, entries_of, expansion, place_among};
+ghost use Rattle.omega_acc.specs.layout.Emitting.{IsKept, IsKeptAt};
 ghost use Rattle.omega_acc.specs.layout.Extents.{extent_named, extent_of};
 
 use crate::codes::ROOM;
+use crate::expansion::emit;
 use crate::extents::{Extent, Extents, atom, bare, both, in_parentheses, negated};
 use crate::label::LabelNode;
 use crate::raw_label::RawLabel;
 use indexmap::IndexSet;
-use omega_text::{AutomatonFault, ByteString, Refusal};
+use omega_text::{AutomatonFault, ByteString, Refusal, Seq};
 use std::alloc::Global;
 use std::marker::Model;
 
+/// The most nodes that are kept of one definition once expanded.
+const MOST_KEPT_OF_ONE: u32 = 512;
+
+/// The most nodes that are kept of all definitions once expanded, in half a megabyte.
+const MOST_KEPT: usize = 65_536;
+
 /// An alias: its name, its definition as it is written, and how deep and large that is once expanded, none where it
-/// reaches an undefined alias.
+/// reaches an undefined alias. Where its nodes once expanded are few they are kept, so that a chain of definitions is not
+/// gone down again for each label that names its end.
 #[derive(Drop)]
 pub(crate) struct Definition {
     name: ByteString,
     body: RawLabel,
     extent: Option<Extent>,
+    expanded: Option<Seq<LabelNode>>,
 }
 
 /// Aliases with their definitions, in the order of their items, kept unexpanded.
@@ -30,6 +40,7 @@ pub(crate) struct Definition {
 pub struct Aliases {
     names: IndexSet<Vec<u8>>,
     definitions: Vec<Definition>,
+    room: usize,
 }
 
 impl Model for Aliases {
@@ -56,6 +67,7 @@ impl Aliases {
         Aliases {
             names: IndexSet::new(alloc),
             definitions: Vec::new(alloc),
+            room: MOST_KEPT,
         }
     }
 
@@ -82,6 +94,17 @@ impl Aliases {
         ensures { IsBodyAt self.now place result.now }
     {
         &self.definitions[place].body
+    }
+
+    /// The nodes of the definition at a place once expanded, where they are kept.
+    pub(crate) fn kept(&self, place: usize) -> Option<&[LabelNode]>
+        requires { place < length self.now }
+        ensures { IfSome result (λ nodes. IsKeptAt self.now place nodes.now) }
+    {
+        match &self.definitions[place].expanded {
+            Some(nodes) => Some(nodes.as_slice()),
+            None => None,
+        }
     }
 
     /// The extent of what a name stands for.
@@ -148,7 +171,49 @@ impl Aliases {
         }
         let alloc = *self.definitions.allocator();
         let extent = self.measure(alloc, &body)?;
-        put_last(&mut self.names, &mut self.definitions, name, body, extent)
+        let expanded = self.expanded(alloc, &body, extent)?;
+        let room = self.room_beside(&expanded);
+        put_last(
+            &mut self.names,
+            &mut self.definitions,
+            name,
+            body,
+            extent,
+            expanded,
+        )?;
+        self.room = room;
+        Ok(())
+    }
+
+    /// The nodes of a definition once expanded, where they are few enough to be kept. What it names is kept then too, so
+    /// that no definition is gone down into.
+    fn expanded(
+        &self,
+        alloc: Global,
+        body: &RawLabel,
+        extent: Option<Extent>,
+    ) -> Result<Option<Seq<LabelNode>>, Refusal>
+        requires { extent ≡ option_map extent_of (expansion self.now body.now) }
+        ensures ok { IfOk result (λ kept. IsKept kept (expansion self.now body.now)) }
+        ensures err { IfErr result IsMemory }
+    {
+        let Some(extent) = extent else {
+            return Ok(None);
+        };
+        if extent.size > MOST_KEPT_OF_ONE || extent.size as usize > self.room {
+            return Ok(None);
+        }
+        let mut nodes = Vec::with_capacity(alloc, extent.size as usize)?;
+        emit(self, body, self.len(), &mut nodes)?;
+        Ok(Some(Seq::from_vec(nodes)))
+    }
+
+    /// How many more nodes may be kept beside these.
+    fn room_beside(&self, expanded: &Option<Seq<LabelNode>>) -> usize {
+        match expanded {
+            Some(nodes) => self.room.saturating_sub(nodes.len()),
+            None => self.room,
+        }
     }
 }
 
@@ -159,10 +224,11 @@ fn put_last(
     name: &[u8],
     body: RawLabel,
     extent: Option<Extent>,
+    expanded: Option<Seq<LabelNode>>,
 ) -> Result<(), Refusal>
     requires { list_any (λ key. bytes_eq name.now key.items) names.old.keys ≡ false }
     ensures names { OnOk result (map (λ key. key.items) names.new.keys ≡ map (λ key. key.items) names.old.keys ++ name.now ∷ []) }
-    ensures definitions { OnOk result (definitions.new.items ≡ definitions.old.items ++ record { name = name.now; body = body; extent = extent } ∷ []) }
+    ensures definitions { OnOk result (definitions.new.items ≡ definitions.old.items ++ record { name = name.now; body = body; extent = extent; expanded = expanded } ∷ []) }
     ensures same_names { OnErr result (map (λ key. key.items) names.new.keys ≡ map (λ key. key.items) names.old.keys) }
     ensures same_definitions { OnErr result (definitions.new.items ≡ definitions.old.items) }
     ensures err { IfErr result IsMemory }
@@ -174,6 +240,7 @@ fn put_last(
         name: copy,
         body,
         extent,
+        expanded,
     })?;
     match names.insert(key) {
         Ok(_) => Ok(()),

@@ -78,8 +78,9 @@ struct Stretch {
 }
 
 /// Appends the nodes of a label with its aliases replaced by the definitions before a place. It goes down at most as far as
-/// the label is deep. An alias that is the same as the one before it is copied from there, and not gone down into once more.
-fn emit(
+/// the label is deep. An alias whose nodes are kept, or that is the same as the one before it, is copied from there and not
+/// gone down into.
+pub(crate) fn emit(
     aliases: &Aliases,
     raw: &RawLabel,
     before: usize,
@@ -111,7 +112,9 @@ fn emit(
                 names = behind(names, *count as usize);
                 if place < before {
                     let body = aliases.body(place);
-                    if place == last.place {
+                    if let Some(kept) = aliases.kept(place) {
+                        out.extend_from_slice(kept)?;
+                    } else if place == last.place {
                         repeat(out, last.start, last.end)?;
                     } else {
                         let start = out.as_slice().len();

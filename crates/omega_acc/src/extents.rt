@@ -3,6 +3,7 @@ ghost use Rattle.omega_acc.specs.Depth.{IsMemory};
 ghost use Rattle.omega_acc.specs.layout.Extents.{atom_extent, both_extents, deeper_extent, extents_below, negated_extent, top_extent};
 
 use omega_text::Refusal;
+use smallvec::SmallVec;
 use std::alloc::Global;
 use std::marker::Model;
 
@@ -83,10 +84,10 @@ fn one_more(count: u32, past: u32) -> u32
     if count < past { count + 1 } else { past }
 }
 
-/// A stack of extents, none where an alias is undefined.
+/// A stack of extents, none where an alias is undefined. Up to 16 of them take no memory.
 #[derive(Drop)]
 pub(crate) struct Extents {
-    items: Vec<Option<Extent>>,
+    items: SmallVec<Option<Extent>, 16>,
 }
 
 impl Model for Extents {
@@ -104,7 +105,7 @@ impl Extents {
         ensures { result ≡ [] }
     {
         Extents {
-            items: Vec::new(alloc),
+            items: SmallVec::new(alloc),
         }
     }
 

@@ -1,6 +1,7 @@
--- How aliases lie in memory: their names as a set, and each definition with its extent.
+-- How aliases lie in memory: their names as a set, and each definition with its extent, and its nodes where they are kept.
 use Rattle.std.specs.Prelude.{◌≡◌, List, [], map, option_map}
 use Rattle.omega_acc.specs.Expanding.{Defined, entries_of}
+use Rattle.omega_acc.specs.layout.Emitting.{AllKept}
 use Rattle.omega_acc.specs.layout.Extents.{extent_of}
 use Rattle.omega_acc.specs.declared.aliases.Aliases.TheInside.{Inside}
 use Rattle.omega_acc.specs.declared.aliases.Definition.{Definition}
@@ -13,8 +14,9 @@ defined_of definition = record { name = definition.name; body = definition.body 
 abbrev pub definitions_of : Inside → List Defined
 definitions_of a = map defined_of a.definitions.items
 
--- the set has the names in order, and each definition the extent of what it means
+-- the set has the names in order, and each definition the extent of what it means, and its nodes if any are kept
 pub record IsAliases (a : Inside) : Type 0 where
   pub named : map (λ key. key.items) a.names.keys ≡ map (λ d. d.name) a.definitions.items
   pub measured : map (λ d. d.extent) a.definitions.items
       ≡ map (λ entry. option_map extent_of entry.meaning) (entries_of [] (definitions_of a))
+  pub kept : AllKept (map (λ d. d.expanded) a.definitions.items) (entries_of [] (definitions_of a))

@@ -33,6 +33,24 @@ AllStand entries names (And ∷ nodes) = AllStand entries names nodes
 AllStand entries names (Or ∷ nodes) = AllStand entries names nodes
 AllStand entries names (Group ∷ nodes) = AllStand entries names nodes
 
+-- what is kept of a meaning: its nodes, or nothing
+abbrev pub IsKept : Option (List LabelNode) → Option Meaning → Type 0
+IsKept None meaning = Unit {0}
+IsKept (Some nodes) None = ⊥
+IsKept (Some nodes) (Some meaning) = nodes ≡ postfix meaning.tree
+
+-- what is kept of each entry's meaning
+abbrev pub AllKept : List (Option (List LabelNode)) → List Entry → Type 0
+AllKept [] [] = Unit {0}
+AllKept [] (entry ∷ entries) = ⊥
+AllKept (kept ∷ others) [] = ⊥
+AllKept (kept ∷ others) (entry ∷ entries) = IsKept kept entry.meaning × AllKept others entries
+
+-- these are the nodes of what the definition at a place means
+abbrev pub IsKeptAt : List Defined → ℕ → List LabelNode → Type 0
+IsKeptAt definitions place nodes =
+    (body : RawLabelTree) → IsBodyAt definitions place body → nodes ≡ nodes_of (replaced (take place (entries_of [] definitions)) body)
+
 -- what the definition at a place means stands from one place to another, if that definition comes before the limit
 pub record IsReplacedAt (definitions : List Defined) (limit : ℕ) (out : List LabelNode) (place start stop : ℕ) : Type 0 where
   pub forward : start ≤ stop

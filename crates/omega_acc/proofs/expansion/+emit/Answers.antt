@@ -8,7 +8,7 @@ use Rattle.omega_acc.proofs.EmitLemmas.{emitted-alias, emitted-group, emitted-la
 use Rattle.omega_acc.proofs.EntryLemmas.{stands_for-at, stands_for-past}
 use Rattle.omega_acc.proofs.ReplacedAtLemmas.{replaced-moved, replaced-new, replaced-none}
 use Rattle.omega_acc.proofs.expansion.+emit.Goals as goal
-use Rattle.omega_acc.proofs.expansion.+emit.Goals.{in-Constant+in_ok-push-in-Constant, in-Proposition+in_ok-push-in-Proposition, in-Not+in_ok-push-in-Not, in-And+in_ok-push-in-And, in-Or+in_ok-push-in-Or, in-Group, in-Alias+then-place-before+then-place-last+in_ok-repeat-in-Alias, in-Alias+then-place-before+else-place-last+in_ok-emit-in-Alias, in-Alias+else-place-before}
+use Rattle.omega_acc.proofs.expansion.+emit.Goals.{in-Constant+in_ok-push-in-Constant, in-Proposition+in_ok-push-in-Proposition, in-Not+in_ok-push-in-Not, in-And+in_ok-push-in-And, in-Or+in_ok-push-in-Or, in-Group, in-Alias+then-place-before+in-Some+in_ok-extend_from_slice-in-Alias, in-Alias+then-place-before+in_default+then-place-last+in_ok-repeat-in-Alias, in-Alias+then-place-before+in_default+else-place-last+in_ok-emit-in-Alias, in-Alias+else-place-before}
 
 pub loop-node-init : goal.loop-node-init
 loop-node-init t c =
@@ -71,7 +71,22 @@ loop-node-preserved t c =
         stand = stand-moved entries _ _ (drop (c.loop-node.node-index + 1) c.nodes-nodes.result.now) (stand-at entries _ c.nodes-nodes.result.now _ _ _ c.loop-node-test.true w.in-Group.is c.loop-node.invariant.stand) (ap (λ n. n.now) w.names-is);
         last = replaced-moved c.args.aliases.now c.args.before c.loop-node.out.items _ _ _ _ _ _ _ _ c.loop-node.invariant.last (ap (λ v. v.items) w.out-is ∙ sym (append-nil _)) (ap (λ l. l.place) w.last-is) (ap (λ l. l.start) w.last-is) (ap (λ l. l.end) w.last-is);
       }
-      | in-Alias+then-place-before+then-place-last+in_ok-repeat-in-Alias w ↦
+      | in-Alias+then-place-before+in-Some+in_ok-extend_from_slice-in-Alias w ↦
+          let body = subst (λ place. IsBodyAt c.args.aliases.now place w.body-body.result.now) w.place-place.ensures w.body-body.ensures in
+          let lower : place_among c.args.aliases.now w.front.result.now < c.args.before = omega (arith, w.place-place.ensures, w.if-place-before.true) in
+          let means = stands_for-at w.front.result.now [] c.args.aliases.now c.args.before w.body-body.result.now body lower in
+          let moved = ap (λ n. n.now) w.names-is ∙ w.behind-names.ensures in
+          let kept = rw w.in-Some.is at w.kept.ensures in
+          let put = ap (λ v. v.items) w.out-is ∙ w.in_ok-extend_from_slice-in-Alias.ensures.items in
+          record {
+            rest = emitted-alias entries _ _ c.nodes-nodes.result.now _ _ _ _ _ _ _ c.loop-node-test.true w.in-Alias.is (ap (stands_for entries) (sym w.front.ensures) ∙ means) c.loop-node.invariant.rest
+                (put
+                ∙ (ap (λ nodes. c.loop-node.out.items ++ nodes) (kept w.body-body.result.now w.body-body.ensures)
+                ∙ ap (λ place. c.loop-node.out.items ++ nodes_of (replaced (take place (entries_of [] c.args.aliases.now)) w.body-body.result.now)) w.place-place.ensures)) moved;
+            stand = stand-moved entries _ _ (drop (c.loop-node.node-index + 1) c.nodes-nodes.result.now) (stand-at entries _ c.nodes-nodes.result.now _ _ _ c.loop-node-test.true w.in-Alias.is c.loop-node.invariant.stand).1 moved;
+            last = replaced-moved c.args.aliases.now c.args.before c.loop-node.out.items _ _ _ _ _ _ _ _ c.loop-node.invariant.last put (ap (λ l. l.place) w.last-is) (ap (λ l. l.start) w.last-is) (ap (λ l. l.end) w.last-is);
+          }
+      | in-Alias+then-place-before+in_default+then-place-last+in_ok-repeat-in-Alias w ↦
           let body = subst (λ place. IsBodyAt c.args.aliases.now place w.body-body.result.now) w.place-place.ensures w.body-body.ensures in
           let lower : place_among c.args.aliases.now w.front.result.now < c.args.before = omega (arith, w.place-place.ensures, w.if-place-before.true) in
           let means = stands_for-at w.front.result.now [] c.args.aliases.now c.args.before w.body-body.result.now body lower in
@@ -87,7 +102,7 @@ loop-node-preserved t c =
             stand = stand-moved entries _ _ (drop (c.loop-node.node-index + 1) c.nodes-nodes.result.now) (stand-at entries _ c.nodes-nodes.result.now _ _ _ c.loop-node-test.true w.in-Alias.is c.loop-node.invariant.stand).1 moved;
             last = replaced-moved c.args.aliases.now c.args.before c.loop-node.out.items _ _ _ _ _ _ _ _ c.loop-node.invariant.last put (ap (λ l. l.place) w.last-is) (ap (λ l. l.start) w.last-is) (ap (λ l. l.end) w.last-is);
           }
-      | in-Alias+then-place-before+else-place-last+in_ok-emit-in-Alias w ↦
+      | in-Alias+then-place-before+in_default+else-place-last+in_ok-emit-in-Alias w ↦
           let body = subst (λ place. IsBodyAt c.args.aliases.now place w.body-body.result.now) w.place-place.ensures w.body-body.ensures in
           let lower : place_among c.args.aliases.now w.front.result.now < c.args.before = omega (arith, w.place-place.ensures, w.if-place-before.true) in
           let means = stands_for-at w.front.result.now [] c.args.aliases.now c.args.before w.body-body.result.now body lower in

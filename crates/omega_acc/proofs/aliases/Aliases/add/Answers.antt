@@ -1,11 +1,12 @@
 -- The name is not among the keys; with one more, or as they were, aliases keep what they keep.
-use Rattle.std.proofs.Common.{◌≡◌, length, ap, sym, ◌∙◌, arith, option_map}
+use Rattle.std.proofs.Common.{◌≡◌, length, ap, subst, sym, ◌∙◌, arith, option_map}
 use Rattle.std.proofs.lemmas.List.{length-map}
 use Rattle.omega_acc.specs.Expanding.{expansion, place_among}
 use Rattle.omega_acc.specs.layout.Aliases.{defined_of, definitions_of}
+use Rattle.omega_acc.specs.layout.Emitting.{IsKept}
 use Rattle.omega_acc.specs.layout.Extents.{extent_of}
 use Rattle.omega_acc.proofs.AliasLemmas.{place-absent}
-use Rattle.omega_acc.proofs.PutLemmas.{Keeps-put}
+use Rattle.omega_acc.proofs.PutLemmas.{Keeps-push, Keeps-put}
 use Rattle.omega_acc.proofs.aliases.Aliases.add.Goals as goal
 
 pub put_last-requires : goal.put_last-requires
@@ -18,7 +19,16 @@ put_last-requires c =
 
 pub invariant_of-self : goal.invariant_of-self
 invariant_of-self c =
-    let keeps = Keeps-put c.put_last.result _ _ c.self.inside.definitions.items c.put_last.new.definitions.items _ (record { named = c.self.invariant.named; measured = c.self.invariant.measured })
+    let keeps = Keeps-put c.put_last.result _ _ c.self.inside.definitions.items c.put_last.new.definitions.items _ (record { named = c.self.invariant.named; measured = c.self.invariant.measured; kept = c.self.invariant.kept })
     c.put_last.ensures.names c.put_last.ensures.definitions c.put_last.ensures.same_names c.put_last.ensures.same_definitions
-    (c.in_ok-extent.ensures.ok ∙ ap (λ ds. option_map extent_of (expansion ds c.args.body)) (sym c.self.view_is)) in
-    record { named = keeps.named; measured = keeps.measured }
+    (c.in_ok-extent.ensures.ok ∙ ap (λ ds. option_map extent_of (expansion ds c.args.body)) (sym c.self.view_is))
+    (subst (λ ds. IsKept c.in_ok-expanded.expanded (expansion ds c.args.body)) (sym c.self.view_is) c.in_ok-expanded.ensures.ok) in
+    record { named = keeps.named; measured = keeps.measured; kept = keeps.kept }
+
+pub invariant_of-self-2 : goal.invariant_of-self-2
+invariant_of-self-2 c =
+    let keeps = Keeps-push _ _ c.self.inside.definitions.items c.put_last.new.definitions.items _ (record { named = c.self.invariant.named; measured = c.self.invariant.measured; kept = c.self.invariant.kept })
+    c.in_ok-put_last.ensures.names c.in_ok-put_last.ensures.definitions
+    (c.in_ok-extent.ensures.ok ∙ ap (λ ds. option_map extent_of (expansion ds c.args.body)) (sym c.self.view_is))
+    (subst (λ ds. IsKept c.in_ok-expanded.expanded (expansion ds c.args.body)) (sym c.self.view_is) c.in_ok-expanded.ensures.ok) in
+    record { named = keeps.named; measured = keeps.measured; kept = keeps.kept }
