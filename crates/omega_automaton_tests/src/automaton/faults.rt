@@ -1,7 +1,7 @@
 use crate::outcomes::{assert_row, number_of, outcome_of};
 use crate::texts::text_with;
 use omega_acc::RawAcc;
-use omega_automaton::{Marks, Numbers, RawAutomaton, Refusal, Seq, automaton_of};
+use omega_automaton::{ByteString, Marks, Numbers, RawAutomaton, Refusal, Seq, automaton_of};
 use omega_raw::{RawEdge, RawEdges, RawItem, RawState, StateName};
 use std::alloc::Global;
 
@@ -173,7 +173,7 @@ fn states_with(alloc: Global, targets: &[u32]) -> Result<Seq<RawState>, Refusal>
 
 // An automaton of one state with an edge, where the start and the edge list these states.
 fn written(alloc: Global, start: &[u32], targets: &[u32]) -> Result<RawAutomaton, Refusal> {
-    let version = Seq::from_vec(b"v1".to_vec(alloc)?);
+    let version = ByteString::from_slice(alloc, b"v1")?;
     let items = items_with(alloc, start)?;
     let states = states_with(alloc, targets)?;
     Ok(RawAutomaton {
