@@ -1,0 +1,105 @@
+-- Renamed games: renaming back, their edges, and their priorities.
+use Rattle.std.proofs.Common.{◌≡◌, ℕ, ◌<◌, inl, inr, List, Contains, length, map, get_or, slice_index, refl, sym, ap, subst, ◌∙◌, arith}
+use Rattle.std.proofs.lemmas.List.{get_or-map, get_or_past, length-map}
+use Rattle.std.proofs.lemmas.Bool.{cases_lt}
+use Rattle.omega_game.specs.declared.player.Player.{Player}
+use Rattle.omega_game.specs.Bound.{bound_of}
+use Rattle.omega_game.specs.Game.{Node, HasEdge, IsGame, no_node, node_at, owner_at, priorities, priority_at, successors_at}
+use Rattle.omega_game.proofs.elements.Membership.{Contains-nothing, Contains-under, map-Contains, map-map, map_same}
+use Rattle.omega_order.specs.Ranking.{AreInverse}
+use Rattle.omega_rename.specs.Renaming.{IsMoved, IsRenaming}
+use Rattle.omega_rename.proofs.Priorities.{AreAlike, alike_renamed, bounds_alike}
+
+-- the places of successors are places
+abbrev pub IsClosed : List Node → Type 0
+IsClosed nodes = (v w : ℕ) → v < length nodes → HasEdge nodes v w → w < length nodes
+
+-- an edge leads from a node
+pub edge_from : (nodes : List Node) (v w : ℕ) → HasEdge nodes v w → v < length nodes
+edge_from nodes v w edge = elim (cases_lt v (length nodes)) [
+  | inl lt ↦ lt
+  | inr past ↦
+      absurd (Contains-nothing w (subst (λ (node : Node). Contains node.successors w) (get_or_past nodes v no_node (omega (arith, past))) edge))
+]
+
+module _ (nodes other : List Node) (ranks places : List ℕ) (renaming : IsRenaming nodes other ranks places) where
+  -- a place has a rank that is a place of the other game, and leads back
+  pub rank_below : (v : ℕ) → v < length nodes → get_or ranks v 0 < length other
+  rank_below v lt = omega (arith, (renaming.inverse.ranked v (omega (arith, renaming.ranked))).0, renaming.placed, renaming.entries)
+
+  pub place_of_rank : (v : ℕ) → v < length nodes → get_or places (get_or ranks v 0) 0 ≡ v
+  place_of_rank v lt = (renaming.inverse.ranked v (omega (arith, renaming.ranked))).1
+
+  pub place_below : (r : ℕ) → r < length other → get_or places r 0 < length nodes
+  place_below r lt = omega (arith, (renaming.inverse.placed r (omega (arith, renaming.placed, renaming.entries))).0, renaming.ranked)
+
+  pub rank_of_place : (r : ℕ) → r < length other → get_or ranks (get_or places r 0) 0 ≡ r
+  rank_of_place r lt = (renaming.inverse.placed r (omega (arith, renaming.placed, renaming.entries))).1
+
+  -- the nodes of the other game, by their ranks
+  pub moved_to : (r : ℕ) → r < length other → IsMoved ranks (node_at nodes (get_or places r 0)) (node_at other r)
+  moved_to r lt =
+      subst (λ (i : ℕ). IsMoved ranks (node_at nodes (get_or places r 0)) (node_at other i)) (rank_of_place r lt)
+      (renaming.moved (get_or places r 0) (place_below r lt))
+
+  priority_of : (v : ℕ) → v < length nodes → get_or (priorities other) (get_or ranks v 0) 0 ≡ get_or (priorities nodes) v 0
+  priority_of v lt =
+      get_or-map (λ (node : Node). node.priority) other (get_or ranks v 0) no_node 0 (rank_below v lt)
+      ∙ (renaming.moved v lt).priority
+      ∙ sym (get_or-map (λ (node : Node). node.priority) nodes v no_node 0 lt)
+
+  pub alike : AreAlike (priorities nodes) (priorities other)
+  alike =
+      let size = length-map nodes (λ (node : Node). node.priority) in
+      let others = length-map other (λ (node : Node). node.priority) in
+      alike_renamed (priorities nodes) (priorities other) ranks places renaming.inverse (omega (arith, size, renaming.ranked))
+      (omega (arith, size, renaming.placed)) (omega (arith, size, others, renaming.entries))
+      (λ v lt. priority_of v (omega (arith, lt, size)))
+
+  pub bound_renamed : (player : Player) → bound_of player (priorities other) ≡ bound_of player (priorities nodes)
+  bound_renamed player =
+      let size = length-map nodes (λ (node : Node). node.priority) in
+      let others = length-map other (λ (node : Node). node.priority) in
+      sym (bounds_alike player (priorities nodes) (priorities other) (omega (arith, size, others, renaming.entries)) alike)
+
+  -- an edge leads to the rank
+  pub edge_there : (v w : ℕ) → v < length nodes → HasEdge nodes v w → HasEdge other (get_or ranks v 0) (get_or ranks w 0)
+  edge_there v w lt edge =
+      subst (λ (ws : List ℕ). Contains ws (get_or ranks w 0)) (sym (renaming.moved v lt).successors)
+      (Contains-under (λ u. get_or ranks u 0) (successors_at nodes v) w edge)
+
+  -- each edge is one that leads so
+  pub edge_here : (v u : ℕ) → v < length nodes → HasEdge other (get_or ranks v 0) u → (w : ℕ) × HasEdge nodes v w × (u ≡ get_or ranks w 0)
+  edge_here v u lt edge =
+      let found = map-Contains (λ w. get_or ranks w 0) (successors_at nodes v) u
+      (subst (λ (ws : List ℕ). Contains ws u) (renaming.moved v lt).successors edge) in
+      (found.0, found.1, found.2)
+
+  -- renaming back
+  pub back_renaming : IsClosed nodes → IsRenaming other nodes places ranks
+  back_renaming closed = record {
+    inverse = record { ranked = renaming.inverse.placed; placed = renaming.inverse.ranked };
+    ranked = renaming.placed ∙ sym renaming.entries;
+    placed = renaming.ranked ∙ sym renaming.entries;
+    entries = sym renaming.entries;
+    moved = λ r lt. moved_back r lt;
+  }
+    where
+      moved_back : (r : ℕ) → r < length other → IsMoved places (node_at other r) (node_at nodes (get_or places r 0))
+      moved_back r lt =
+          let moved = moved_to r lt in
+          let v = get_or places r 0 in
+          record {
+            priority = sym moved.priority;
+            owner = sym moved.owner;
+            successors =
+                sym (ap (map (λ u. get_or places u 0)) moved.successors
+                ∙ map-map (λ u. get_or places u 0) (λ w. get_or ranks w 0) (successors_at nodes v)
+                ∙ map_same (λ w. get_or places (get_or ranks w 0) 0) (successors_at nodes v) (λ w edge. place_of_rank w (closed v w (place_below r lt) edge)));
+          }
+
+  pub back_closed : IsClosed nodes → IsClosed other
+  back_closed closed r u lt edge =
+      let found = edge_here (get_or places r 0) u (place_below r lt)
+      (subst (λ (i : ℕ). HasEdge other i u) (sym (rank_of_place r lt)) edge) in
+      subst (λ (i : ℕ). i < length other) (sym found.2) (rank_below found.0 (closed (get_or places r 0) found.0 (place_below r lt) found.1))

@@ -1,0 +1,6 @@
+-- The lemmas of renamed games.
+mod Weights
+mod Priorities
+mod Games
+mod Lifting
+mod Answering
