@@ -1,3 +1,4 @@
 -- The lemmas of orders and of sets of ranks.
 mod Bits
+mod Kept
 mod Rising

@@ -1,3 +1,4 @@
--- What contracts of orders cite.
+-- What contracts of orders cite; what only their layout needs is in layout.
 pub mod Ranking
 pub mod RankSet
+pub mod layout

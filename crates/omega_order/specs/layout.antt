@@ -1,0 +1,2 @@
+-- How orders are kept.
+pub mod Ranking
