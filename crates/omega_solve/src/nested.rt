@@ -1,4 +1,4 @@
-ghost use Rattle.std.specs.Prelude.{◌≡◌, ◌<◌, ◌^◌, length, false, IfSome, MatchOption};
+ghost use Rattle.std.specs.Prelude.{◌≡◌, ◌<◌, ◌^◌, length, false, IfOk, IfSome, IsOkUnless, MatchOption};
 ghost use Rattle.omega_order.specs.RankSet.{is_set};
 ghost use Rattle.omega_solve.specs.schedules.Nested.{HasBits, IsEmpty, IsPlaceAt, IsSomeRank};
 
@@ -33,48 +33,37 @@ impl Model for Nested {
 
     ghost Value = { Pending };
 
-    ghost view = { λ s. record { flags = flags_of s.ranking.ranks.items s.pending.items; taken = s.taken } };
+    ghost view = { λ s. record { flags = flags_of s.ranking.ranks s.pending.items; taken = s.taken } };
 
-    ghost invariant = { λ s. IsNested s.ranking.ranks.items s.ranking.places.items s.pending.items };
+    ghost invariant = { λ s. IsNested s.ranking.ranks s.ranking.places s.pending.items };
 }
 
 impl Schedule for Nested {
     ghost waiting = { λ s. s };
 
     fn prepare(alloc: Global, n: u32) -> Result<Self, Refusal> {
-        Ok(Nested {
-            ranking: Ranking::rising(alloc, n)?,
-            pending: all_ranks(alloc, n)?,
-            filled: FilledWords::all(alloc, n)?,
-            taken: 0,
-            pace: Pace::new(),
-        })
+        Nested::along(alloc, Ranking::rising(n))
     }
 
     fn prepare_for(alloc: Global, game: &Game) -> Result<Self, Refusal> {
-        Ok(Nested {
-            ranking: Ranking::nested(alloc, game)?,
-            pending: all_ranks(alloc, game.len() as u32)?,
-            filled: FilledWords::all(alloc, game.len() as u32)?,
-            taken: 0,
-            pace: Pace::new(),
-        })
+        let ranking = Ranking::nested(alloc, game)?;
+        Nested::along(alloc, ranking)
     }
 
     fn look(&self) -> Option<u32> {
-        let places = &self.ranking.places;
-        if let Some(place) = pending_from(places, &self.pending, &self.filled, self.pace.cursor) {
+        let ranking = &self.ranking;
+        if let Some(place) = pending_from(ranking, &self.pending, &self.filled, self.pace.cursor) {
             return Some(place);
         }
-        if let Some(place) = pending_from(places, &self.pending, &self.filled, self.pace.low) {
+        if let Some(place) = pending_from(ranking, &self.pending, &self.filled, self.pace.low) {
             return Some(place);
         }
         // That nothing is pending then is not claimed: it is looked up.
-        first_pending(places, &self.pending)
+        first_pending(ranking, &self.pending)
     }
 
     fn take(&mut self, place: u32) {
-        let rank = self.ranking.ranks[place as usize] as usize;
+        let rank = self.ranking.rank(place) as usize;
         remove(&mut self.pending, rank);
         self.filled.note_removed(&self.pending, rank);
         self.taken += 1;
@@ -94,29 +83,53 @@ impl Schedule for Nested {
     }
 
     fn add(&mut self, place: u32) {
-        let rank = self.ranking.ranks[place as usize] as usize;
+        let rank = self.ranking.rank(place) as usize;
         insert(&mut self.pending, rank);
         self.filled.note_inserted(rank);
         self.pace.add(rank);
     }
 }
 
+impl Nested {
+    ghost use Rattle.omega_solve.specs.Schedule.{all_pending};
+
+    /// All places pending, in the order of a ranking.
+    fn along(alloc: Global, ranking: Ranking) -> Result<Nested, Refusal>
+        ensures all { IfOk result (λ schedule. schedule ≡ all_pending (length ranking.ranks)) }
+        ensures memory { IsOkUnless result Refusal.Memory }
+    {
+        let n = ranking.len();
+        Ok(Nested {
+            ranking,
+            pending: all_ranks(alloc, n)?,
+            filled: FilledWords::all(alloc, n)?,
+            taken: 0,
+            pace: Pace::new(),
+        })
+    }
+}
+
 /// The place of the least pending rank from a rank on, or none: whoever uses that looks at the others.
 #[inline(always)]
-fn pending_from(places: &[u32], pending: &[u64], filled: &FilledWords, from: usize) -> Option<u32>
-    requires bits { HasBits pending.now (length places.now) }
-    ensures { IfSome result (IsSomeRank places.now pending.now) }
+fn pending_from(
+    ranking: &Ranking,
+    pending: &[u64],
+    filled: &FilledWords,
+    from: usize,
+) -> Option<u32>
+    requires bits { HasBits pending.now (length ranking.now.places) }
+    ensures { IfSome result (IsSomeRank ranking.now.places pending.now) }
 {
-    pending_at(places, pending, least_from(pending, filled, from)?)
+    pending_at(ranking, pending, least_from(pending, filled, from)?)
 }
 
 /// The place of the least pending rank of all.
-fn first_pending(places: &[u32], pending: &[u64]) -> Option<u32>
-    requires { HasBits pending.now (length places.now) }
-    ensures { MatchOption result (IsEmpty places.now pending.now) (IsSomeRank places.now pending.now) }
+fn first_pending(ranking: &Ranking, pending: &[u64]) -> Option<u32>
+    requires { HasBits pending.now (length ranking.now.places) }
+    ensures { MatchOption result (IsEmpty ranking.now.places pending.now) (IsSomeRank ranking.now.places pending.now) }
 {
-    for rank in 0..places.len() {
-        if let Some(place) = pending_at(places, pending, rank) {
+    for rank in 0..ranking.len() as usize {
+        if let Some(place) = pending_at(ranking, pending, rank) {
             return Some(place);
         }
     }
@@ -125,12 +138,12 @@ fn first_pending(places: &[u32], pending: &[u64]) -> Option<u32>
 
 /// The place of a rank, if the rank has one and is pending.
 #[inline(always)]
-fn pending_at(places: &[u32], pending: &[u64], rank: usize) -> Option<u32>
-    requires { HasBits pending.now (length places.now) }
-    ensures { MatchOption result (rank < length places.now → is_set pending.now rank ≡ false) (IsPlaceAt places.now pending.now rank) }
+fn pending_at(ranking: &Ranking, pending: &[u64], rank: usize) -> Option<u32>
+    requires { HasBits pending.now (length ranking.now.places) }
+    ensures { MatchOption result (rank < length ranking.now.places → is_set pending.now rank ≡ false) (IsPlaceAt ranking.now.places pending.now rank) }
 {
-    if rank < places.len() && contains(pending, rank) {
-        Some(places[rank])
+    if rank < ranking.len() as usize && contains(pending, rank) {
+        Some(ranking.place(rank as u32))
     } else {
         None
     }

@@ -1,6 +1,6 @@
-ghost use Rattle.std.specs.Prelude.{◌≡◌, ◌↔◌, ℕ, ◌+◌, ◌-◌, ◌^◌, ◌<◌, ◌≤◌, true, false, is_some, length, slice_get, Some, IsTrue, IsOk, IsSome, IfOk, IfErr, IfSome, MatchOption};
+ghost use Rattle.std.specs.Prelude.{◌≡◌, ◌↔◌, ℕ, ◌+◌, ◌-◌, ◌^◌, ◌<◌, ◌≤◌, true, false, is_some, length, slice_get, Some, IsTrue, IsOk, IsOkUnless, IsSome, IfOk, IfErr, IfSome, MatchOption};
 ghost use Rattle.omega_game.specs.Game.{priorities};
-ghost use Rattle.omega_measure.specs.Table.{IsPrepareRefusal, is_too_wide};
+ghost use Rattle.omega_measure.specs.Table.{IsPrepareRefusal, is_too_wide, zero_content};
 ghost use Rattle.omega_solve.specs.Limits.{most_lifts};
 ghost use Rattle.omega_solve.specs.Solver.{start_of};
 
@@ -50,12 +50,13 @@ impl<'g, T: MeasureTable, S: Schedule> Solver<'g, T, S> {
     ghost use Rattle.omega_lift.specs.Run.{IsDue};
     ghost use Rattle.omega_solve.specs.declared.outcome.Outcome.TheVariants.{Done};
     ghost use Rattle.omega_solve.specs.Headline.{IsExact, Runs};
-    ghost use Rattle.omega_solve.specs.Schedule.{IsIdle, IsPending, with_taken};
+    ghost use Rattle.omega_solve.specs.Schedule.{IsIdle, IsPending, all_pending, with_taken};
     ghost use Rattle.omega_solve.specs.solving.Successor.{IsDueTowards};
     ghost use Rattle.omega_solve.specs.solving.Progress.{IsLifted};
     ghost use Rattle.omega_solve.specs.Solver.{IsFinished, IsReached, attempt_bound, lift_bound};
 
-    /// A solver with every measure 0 and all places pending. 50 where the table would be too wide, or 60.
+    /// A solver with every measure 0 and all places pending, in an order that suits the game where the schedule has one.
+    /// 50 where the table would be too wide, or 60.
     pub fn prepare(
         alloc: Global,
         game: &'g Game,
@@ -65,10 +66,44 @@ impl<'g, T: MeasureTable, S: Schedule> Solver<'g, T, S> {
         ensures fits { IsOk result → is_too_wide player (priorities game.entry.now) ≡ false }
         ensures refused { IfErr result (IsPrepareRefusal player (priorities game.entry.now)) }
     {
-        zero_tables_are_tables();
-        let n = game.len();
         let table = T::prepare(alloc, game, player)?;
         let schedule = S::prepare_for(alloc, game)?;
+        let solver = Solver::assembled(alloc, game, player, table, schedule)?;
+        Ok(solver)
+    }
+
+    /// A solver as `prepare` makes it, but with the places of the game in rising order: for a game whose places lie in the
+    /// order in which they are to be lifted.
+    pub fn prepare_in_order(
+        alloc: Global,
+        game: &'g Game,
+        player: Player,
+    ) -> Result<Solver<'g, T, S>, Refusal>
+        ensures start { IfOk result (λ solver. solver ≡ start_of game.entry.now player) }
+        ensures fits { IsOk result → is_too_wide player (priorities game.entry.now) ≡ false }
+        ensures refused { IfErr result (IsPrepareRefusal player (priorities game.entry.now)) }
+    {
+        let table = T::prepare(alloc, game, player)?;
+        let schedule = S::prepare(alloc, game.len() as u32)?;
+        let solver = Solver::assembled(alloc, game, player, table, schedule)?;
+        Ok(solver)
+    }
+
+    /// A solver of a game that has made no lift. 60 alone.
+    fn assembled(
+        alloc: Global,
+        game: &'g Game,
+        player: Player,
+        table: T,
+        schedule: S,
+    ) -> Result<Solver<'g, T, S>, Refusal>
+        requires zero { T.content table ≡ zero_content player (priorities game.now) }
+        requires all { S.waiting schedule ≡ all_pending (length game.now) }
+        ensures start { IfOk result (λ solver. solver ≡ start_of game.now player) }
+        ensures memory { IsOkUnless result Refusal.Memory }
+    {
+        zero_tables_are_tables();
+        let n = game.len();
         Ok(Solver {
             game,
             player,

@@ -11,8 +11,7 @@ returns c =
     let ranking = c.self.inside.ranking in
     let words = c.self.inside.pending.items in
     let found = c.first_pending.result in
-    let of_words = subst (λ (ws : List ℕ). MatchOption found (IsEmpty c.deref-5.result.now ws) (IsSomeRank c.deref-5.result.now ws))
-    c.deref-6.ensures.value c.first_pending.ensures in
-    let of_places = subst (λ (ps : List ℕ). MatchOption found (IsEmpty ps words) (IsSomeRank ps words)) c.deref-5.ensures.value of_words in
+    let of_words = subst (λ (ws : List ℕ). MatchOption found (IsEmpty ranking.places ws) (IsSomeRank ranking.places ws))
+    c.deref-3.ensures.value c.first_pending.ensures in
     subst (λ (p : Pending). MatchOption found (IsIdle p) (IsPending p)) c.self.view_is
-    (found_pending ranking.ranks.items ranking.places.items words c.self.inside.taken found c.self.invariant.inverse of_places)
+    (found_pending ranking.ranks ranking.places words c.self.inside.taken found c.self.invariant.inverse of_words)

@@ -1,15 +1,10 @@
 -- A new nested schedule has all places pending.
-use Rattle.std.proofs.Common.{◌∙◌, ap, Bool, List, sym}
-use Rattle.omega_solve.specs.Schedule.{Pending}
-use Rattle.omega_solve.proofs.schedules.Nesting.{flags_at_start}
+use Rattle.std.proofs.Common.{◌≡◌, ◌∙◌, ap, IfOk, List, length, subst, ℕ}
+use Rattle.std.proofs.lemmas.List.FromFn.{length-range_with_len}
+use Rattle.omega_solve.specs.Schedule.{all_pending}
 use Rattle.omega_solve.proofs.nested.NestedSchedule.prepare.Goals as goal
 
 pub returns-clause-all : goal.returns-clause-all
 returns-clause-all c =
-    let ranking = c.in_ok-rising.field-0 in
-    let start : List Bool → Pending = λ flags. record { flags = flags; taken = 0 } in
-    ap start
-    (flags_at_start ranking.ranks.items ranking.places.items c.in_ok-all_ranks.field-0.items c.args.n c.in_ok-rising.ensures.inverse
-    (sym ranking.ranks.ok.0 ∙ c.in_ok-rising.ensures.count)
-    (sym ranking.places.ok.0 ∙ c.in_ok-rising.ensures.even)
-    c.in_ok-all_ranks.ensures)
+    subst (λ (m : ℕ). IfOk c.along.result (λ schedule. schedule ≡ all_pending m))
+    (ap (λ (ranks : List ℕ). length ranks) c.rising.ensures.ranks ∙ length-range_with_len 0 c.args.n) c.along.ensures.all

@@ -6,18 +6,18 @@ use Rattle.omega_solve.specs.Schedule.{Pending, all_pending}
 use Rattle.omega_solve.specs.Solver.{State, start_of, state_of}
 use Rattle.omega_solve.specs.solving.Progress.{IsSolving}
 use Rattle.omega_solve.proofs.lifting.Starting.{answered_open, solving_start}
-use Rattle.omega_solve.proofs.solver.Solver.prepare.Goals as goal
+use Rattle.omega_solve.proofs.solver.Solver.assembled.Goals as goal
 
 pub invariant_of-result : goal.invariant_of-result
 invariant_of-result g c =
     let nodes = c.args.game.now in
-    let content = g.T.MeasureTable.content c.in_ok-table.table in
-    let pending = g.S.Schedule.waiting c.in_ok-schedule.schedule in
+    let content = g.T.MeasureTable.content c.args.table in
+    let pending = g.S.Schedule.waiting c.args.schedule in
     let state = state_of nodes c.args.player content pending 0 false in
-    let all : pending ≡ all_pending (length nodes) = c.in_ok-schedule.ensures.all in
+    let all : pending ≡ all_pending (length nodes) = c.requires.all in
     let is_start : state ≡ start_of nodes c.args.player =
     ap (λ (t : Content). state_of nodes c.args.player t pending 0 false)
-    c.in_ok-table.ensures.zero
+    c.requires.zero
     ∙ ap (λ (p : Pending). state_of nodes c.args.player (zero_content c.args.player (priorities nodes)) p 0 false) all in
     record {
       solving = subst (λ (s : State). IsSolving s) (sym is_start)
