@@ -3,4 +3,5 @@ mod Weights
 mod Priorities
 mod Games
 mod Lifting
-mod Answering
+mod Exactness
+mod Nodes

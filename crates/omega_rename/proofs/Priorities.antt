@@ -53,8 +53,8 @@ module _ (numbers others ranks places : List ℕ) (inverse : AreInverse ranks pl
 
   sums_same : (f : ℕ → ℕ) → (sum_by f numbers) ≡ (sum_by f others)
   sums_same f =
-      omega (arith, sum_fits f numbers others 0 ranks places inverse ranked (placed ∙ sym entries) same,
-      sum_fits f others numbers 0 places ranks back (placed ∙ sym entries) ranked same_back)
+      omega (arith, sum_fits f numbers others 0 ranks places inverse ranked (placed ∙ sym entries) (λ v lt. ap f (same v lt)),
+      sum_fits f others numbers 0 places ranks back (placed ∙ sym entries) ranked (λ r lt. ap f (same_back r lt)))
 
   greatest_same : greatest numbers ≡ greatest others
   greatest_same =

@@ -29,7 +29,7 @@ fitting (x ∷ xs) ys to there apart =
 module _ {X : Type 0} (f : X → ℕ) (xs ys : List X) (d : X) where
   -- where each element stands at its rank, the sum is at most that of the other list
   pub sum_fits : (ranks places : List ℕ) → AreInverse ranks places → length ranks ≡ length xs → length places ≡ length ys
-      → ((v : ℕ) → v < length xs → get_or ys (get_or ranks v 0) d ≡ get_or xs v d)
+      → ((v : ℕ) → v < length xs → f (get_or ys (get_or ranks v 0) d) ≡ f (get_or xs v d))
       → sum_by f xs ≤ sum_by f ys
   sum_fits ranks places inverse ranked placed same =
       let weights = fitting (map f xs) (map f ys) (λ i. get_or ranks i 0) there apart in
@@ -41,7 +41,7 @@ module _ {X : Type 0} (f : X → ℕ) (xs ys : List X) (d : X) where
           let back = inverse.ranked i (omega (arith, ranked)) in
           let within : get_or ranks i 0 < length ys = omega (arith, back.0, placed) in (
             omega (arith, within, length-map ys f),
-            get_or-map f ys (get_or ranks i 0) d 0 within ∙ ap f (same i below) ∙ sym (get_or-map f xs i d 0 below),
+            get_or-map f ys (get_or ranks i 0) d 0 within ∙ same i below ∙ sym (get_or-map f xs i d 0 below),
           )
 
       apart : (i j : ℕ) → i < length (map f xs) → j < length (map f xs) → get_or ranks i 0 ≡ get_or ranks j 0 → i ≡ j

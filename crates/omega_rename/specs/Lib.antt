@@ -6,3 +6,4 @@ pub use Rattle.omega_solve.specs.Solver
 pub use Rattle.omega_solve.specs.Headline
 pub mod Renaming
 pub mod Laws
+pub mod Building

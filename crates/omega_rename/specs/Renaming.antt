@@ -43,3 +43,14 @@ state_by_place nodes ranks state = record {
   lifts = state.lifts;
   done = state.done;
 }
+
+-- a game, the other game with the same nodes, and where each node is in the other
+pub record Renamed : Type 0 where
+  pub given : List Node
+  pub renamed : List Node
+  pub ranks : List ℕ
+  pub places : List ℕ
+
+-- the other game is the game with each node at its rank
+abbrev pub IsRenamed : Renamed → Type 0
+IsRenamed renaming = IsRenaming renaming.given renaming.renamed renaming.ranks renaming.places

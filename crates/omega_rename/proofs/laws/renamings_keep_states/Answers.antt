@@ -1,6 +1,6 @@
 -- Runs are carried over place by place.
 use Rattle.omega_rename.proofs.Lifting.{follows}
-use Rattle.omega_rename.proofs.Answering.{exact_here, won_here}
+use Rattle.omega_rename.proofs.Exactness.{exact_here, won_here}
 use Rattle.omega_rename.proofs.laws.renamings_keep_states.Goals as goal
 
 pub returns : goal.returns

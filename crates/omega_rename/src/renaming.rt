@@ -1,0 +1,103 @@
+ghost use Rattle.std.specs.Prelude.{◌≡◌, true, false, IfOk, IfErr, IsOk, IsOkUnless};
+ghost use Rattle.omega_game.specs.Game.{IsGame, priorities};
+ghost use Rattle.omega_measure.specs.Table.{IsPrepareRefusal, is_too_wide};
+ghost use Rattle.omega_order.specs.Ranking.{AreInverse};
+ghost use Rattle.omega_solve.specs.Headline.{IsExact};
+ghost use Rattle.omega_solve.specs.Solver.{start_of};
+
+use crate::building::renamed_game;
+use omega_game::{Game, Player, Refusal};
+use omega_order::Ranking;
+use omega_solve::{MeasureTable, Schedule, Solver};
+use std::alloc::Global;
+use std::marker::Model;
+
+/// How many successors a node may list in the mean where a game is built anew: with more, the other game would take more
+/// memory than its order saves time.
+const MOST_SUCCESSORS_RENAMED: usize = 4;
+
+/// A game, and another with the same nodes in the order in which a solver is to lift them: rows, successors and
+/// predecessors then lie in the order of work. What is found there is said by the places of the game that was given.
+#[derive(Drop)]
+pub struct Renaming<'g> {
+    given: &'g Game,
+    ranking: Ranking,
+    // None where the game is solved as it was given: the ranking is then rising.
+    other: Option<Game>,
+}
+
+impl<'g> Model for Renaming<'g> {
+    ghost use Rattle.std.specs.Prelude.{unwrap_or};
+    ghost use Rattle.omega_rename.specs.Renaming.{IsRenamed, Renamed};
+
+    ghost Value = { Renamed };
+
+    ghost view = { λ a. record { given = a.given.now; renamed = unwrap_or a.other a.given.now; ranks = a.ranking.ranks; places = a.ranking.places } };
+
+    ghost invariant = { λ a. IsRenamed (record { given = a.given.now; renamed = unwrap_or a.other a.given.now; ranks = a.ranking.ranks; places = a.ranking.places }) };
+}
+
+impl<'g> Renaming<'g> {
+    ghost use Rattle.omega_rename.specs.Renaming.{IsRenamed};
+
+    /// The game with its places in an order in which few lifts are made, or as it was given where it has more than 4
+    /// successors a node. 60 alone.
+    pub fn of(alloc: Global, game: &'g Game) -> Result<Renaming<'g>, Refusal>
+        ensures given { IfOk result (λ renaming. renaming.given ≡ game.entry.now) }
+        ensures memory { IsOkUnless result Refusal.Memory }
+    {
+        if game.edges() > MOST_SUCCESSORS_RENAMED * game.len() {
+            return Ok(Renaming::as_given(game));
+        }
+        let ranking = Ranking::nested(alloc, game)?;
+        let other = renamed_game(alloc, game, &ranking)?;
+        Ok(Renaming {
+            given: game,
+            ranking,
+            other: Some(other),
+        })
+    }
+
+    /// The game that was given, with its places as they are.
+    fn as_given(game: &'g Game) -> Renaming<'g>
+        ensures given { result.given ≡ game.entry.now }
+    {
+        Renaming {
+            given: game,
+            ranking: Ranking::rising(game.len() as u32),
+            other: None,
+        }
+    }
+
+    /// The game that was given.
+    pub fn given(&self) -> &Game
+        ensures given { result.now ≡ self.now.given }
+        ensures renamed { IsRenamed self.now }
+        ensures game { IsGame self.now.given }
+    {
+        self.given
+    }
+
+    /// The game that is solved: the other, or the one given where there is no other.
+    pub fn renamed(&self) -> &Game
+        ensures renamed { result.now ≡ self.now.renamed }
+    {
+        match &self.other {
+            Some(other) => other,
+            None => self.given,
+        }
+    }
+
+    /// Whether another game was built.
+    pub(crate) fn is_other(&self) -> bool {
+        self.other.is_some()
+    }
+
+    /// Where each node is in the other game.
+    pub(crate) fn ranking(&self) -> &Ranking
+        ensures ranks { result.now.ranks ≡ self.now.ranks }
+        ensures places { result.now.places ≡ self.now.places }
+    {
+        &self.ranking
+    }
+}
