@@ -15,7 +15,8 @@ use omega_text::{GameFault, Refusal};
 use std::alloc::{AllocError, Global};
 use std::marker::Model;
 
-/// Specifications that are handed over one by one, kept flat: no vector for each node.
+/// Specifications that are handed over one by one, kept flat: no vector for each node. Behind 2^32 successors, or behind
+/// names of 2^32 bytes, the next is refused with `Memory` too, since a place in them takes four bytes.
 #[derive(Drop)]
 pub struct GameBuilder {
     ids: Vec<u32>,
