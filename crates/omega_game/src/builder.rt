@@ -61,6 +61,26 @@ impl GameBuilder {
         }
     }
 
+    /// No specification, and room for so many with so many successors in all: adding them asks for no memory, and the room
+    /// is no more than they need. Names have none. `Memory` where a request for memory is refused, as where the room is
+    /// beyond what there is.
+    pub fn with_room(alloc: Global, nodes: usize, successors: usize) -> Result<Self, Refusal>
+        ensures empty { IfOk result (λ builder. builder ≡ []) }
+        ensures memory { IsOkUnless result Refusal.Memory }
+    {
+        let ids = Vec::with_capacity(alloc, nodes)?;
+        let priorities = Vec::with_capacity(alloc, nodes)?;
+        let owners = Vec::with_capacity(alloc, nodes)?;
+        let successors = Lists::with_room(alloc, nodes, successors)?;
+        Ok(GameBuilder {
+            ids,
+            priorities,
+            owners,
+            successors,
+            quoted: Lists::new(alloc),
+        })
+    }
+
     /// The number of specifications so far, all well formed.
     pub fn len(&self) -> usize
         ensures count { result ≡ length self.now }

@@ -39,6 +39,15 @@ impl<T: Copy> Lists<T> {
         }
     }
 
+    /// No list, and room for so many lists with so many items in all, and for no more.
+    pub(crate) fn with_room(alloc: Global, lists: usize, items: usize) -> Result<Self, AllocError>
+        ensures { IfOk result (λ lists. lists ≡ []) }
+    {
+        let starts = Vec::with_capacity(alloc, lists)?;
+        let items = Vec::with_capacity(alloc, items)?;
+        Ok(Lists { starts, items })
+    }
+
     /// The lists with these starts in these items.
     pub(crate) fn from_parts(starts: Vec<u32>, items: Vec<T>) -> Self
         requires { AreStarts starts.items (length items.items) }
