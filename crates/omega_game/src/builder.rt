@@ -15,7 +15,8 @@ use omega_text::{GameFault, Refusal};
 use std::alloc::{AllocError, Global};
 use std::marker::Model;
 
-/// Specifications that are handed over one by one, kept flat: no vector for each node.
+/// Specifications that are handed over one by one, kept flat: no vector for each node. Behind 2^32 successors, or behind
+/// names of 2^32 bytes, the next is refused with `Memory` too, since a place in them takes four bytes.
 #[derive(Drop)]
 pub struct GameBuilder {
     ids: Vec<u32>,
@@ -58,6 +59,26 @@ impl GameBuilder {
             successors: Lists::new(alloc),
             quoted: Lists::new(alloc),
         }
+    }
+
+    /// No specification, and room for so many with so many successors in all: adding them asks for no memory, and the room
+    /// is no more than they need. Names have none. `Memory` where a request for memory is refused, as where the room is
+    /// beyond what there is.
+    pub fn with_room(alloc: Global, nodes: usize, successors: usize) -> Result<Self, Refusal>
+        ensures empty { IfOk result (λ builder. builder ≡ []) }
+        ensures memory { IsOkUnless result Refusal.Memory }
+    {
+        let ids = Vec::with_capacity(alloc, nodes)?;
+        let priorities = Vec::with_capacity(alloc, nodes)?;
+        let owners = Vec::with_capacity(alloc, nodes)?;
+        let successors = Lists::with_room(alloc, nodes, successors)?;
+        Ok(GameBuilder {
+            ids,
+            priorities,
+            owners,
+            successors,
+            quoted: Lists::new(alloc),
+        })
     }
 
     /// The number of specifications so far, all well formed.

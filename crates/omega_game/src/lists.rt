@@ -13,7 +13,7 @@ use std::marker::Model;
 /// Lists that lie one behind the other in one vector, with the place where each starts.
 #[derive(Drop)]
 pub(crate) struct Lists<T> {
-    starts: Vec<usize>,
+    starts: Vec<u32>,
     items: Vec<T>,
 }
 
@@ -39,8 +39,17 @@ impl<T: Copy> Lists<T> {
         }
     }
 
+    /// No list, and room for so many lists with so many items in all, and for no more.
+    pub(crate) fn with_room(alloc: Global, lists: usize, items: usize) -> Result<Self, AllocError>
+        ensures { IfOk result (λ lists. lists ≡ []) }
+    {
+        let starts = Vec::with_capacity(alloc, lists)?;
+        let items = Vec::with_capacity(alloc, items)?;
+        Ok(Lists { starts, items })
+    }
+
     /// The lists with these starts in these items.
-    pub(crate) fn from_parts(starts: Vec<usize>, items: Vec<T>) -> Self
+    pub(crate) fn from_parts(starts: Vec<u32>, items: Vec<T>) -> Self
         requires { AreStarts starts.items (length items.items) }
         ensures { result ≡ lists_of starts.items items.items }
     {
@@ -59,14 +68,6 @@ impl<T: Copy> Lists<T> {
         ensures { result ≡ sum_by (λ list. length list) self.now }
     {
         self.items.len()
-    }
-
-    /// The number of items of all lists together is a `usize`. Does nothing: it hands this on.
-    pub(crate) fn total_fits(&self)
-        ensures { sum_by (λ list. length list) self.now < 2 ^ 64 }
-    {
-        // A field is read, since only then a proof knows the invariant.
-        let _count = self.items.len();
     }
 
     /// The list at an index.
@@ -92,12 +93,13 @@ impl<T: Copy> Lists<T> {
         Ok(lists)
     }
 
-    /// Adds a list behind the others.
+    /// Adds a list behind the others. Refused also where it would start at 2^32 or beyond: a start takes four bytes.
     pub(crate) fn push_list(&mut self, list: &[T]) -> Result<(), AllocError>
         ensures ok { OnOk result (self.new ≡ self.old ++ list.now ∷ []) }
         ensures err { OnErr result (self.new ≡ self.old) }
     {
-        self.starts.push(self.items.len())?;
+        let start = u32::try_from(self.items.len()).map_err(|_| AllocError)?;
+        self.starts.push(start)?;
         if self.items.extend_from_slice(list).is_err() {
             let _ = self.starts.pop();
             return Err(AllocError);
@@ -123,7 +125,7 @@ impl Lists<u8> {
         ensures ok { OnOk result (self.new ≡ slice_set self.old (length self.old - 1) (first ∷ rest.now)) }
         ensures err { OnErr result (self.new ≡ self.old) }
     {
-        let start = self.starts[self.starts.len() - 1];
+        let start = self.starts[self.starts.len() - 1] as usize;
         replace_end(&mut self.items, start, first, rest)?;
         Ok(())
     }
@@ -154,12 +156,23 @@ fn replace_end(items: &mut Vec<u8>, start: usize, first: u8, rest: &[u8]) -> Res
 }
 
 /// The list at an index of those that lie one behind the other.
-fn list_in<'a, T>(starts: &[usize], items: &'a [T], index: usize) -> &'a [T]
+fn list_in<'a, T>(starts: &[u32], items: &'a [T], index: usize) -> &'a [T]
     requires within { index < length starts.now }
     requires starts { AreStarts starts.now (length items.now) }
     ensures { result.now ≡ list_at starts.now items.now index }
 {
-    let start = starts[index];
-    let end = starts.get(index + 1).copied().unwrap_or(items.len());
+    let start = starts[index] as usize;
+    let end = end_in(starts, items.len(), index);
     &items[start..end]
+}
+
+/// Where the list at an index ends: at the start of the next one, or at the number of items.
+fn end_in(starts: &[u32], size: usize, index: usize) -> usize
+    requires { index < length starts.now }
+    ensures { result ≡ slice_index_or starts.now (index + 1) size }
+{
+    match starts.get(index + 1) {
+        Some(next) => *next as usize,
+        None => size,
+    }
 }

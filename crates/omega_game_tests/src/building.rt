@@ -29,8 +29,7 @@ fn hand_over(builder: &mut GameBuilder) -> Result<(), Refusal> {
 }
 
 /// Whether three specifications are counted, and their game is read as it should be.
-fn are_handed_over(alloc: Global) -> bool {
-    let mut builder = GameBuilder::new(alloc);
+fn are_handed_over(mut builder: GameBuilder) -> bool {
     let done = hand_over(&mut builder).is_ok() && builder.len() == 3;
     match finish(builder) {
         Ok(game) => done && reads(&game, 4, &HANDED_OVER),
@@ -40,7 +39,20 @@ fn are_handed_over(alloc: Global) -> bool {
 
 #[test]
 fn specifications_handed_over_one_by_one(rt: HostRuntime) {
-    assert!(rt; are_handed_over(rt.alloc()));
+    assert!(rt; are_handed_over(GameBuilder::new(rt.alloc())));
+}
+
+/// Whether the same holds of a builder with room for three specifications and their successors.
+fn are_handed_over_with_room(alloc: Global) -> bool {
+    match GameBuilder::with_room(alloc, 3, 4) {
+        Ok(builder) => are_handed_over(builder),
+        Err(_) => false,
+    }
+}
+
+#[test]
+fn specifications_handed_over_with_room(rt: HostRuntime) {
+    assert!(rt; are_handed_over_with_room(rt.alloc()));
 }
 
 /// The number of a refusal, 0 for a game.

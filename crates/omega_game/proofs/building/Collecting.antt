@@ -6,7 +6,7 @@ use Rattle.std.proofs.lemmas.Bool.{cases_lt}
 use Rattle.std.proofs.lemmas.List.{same_lists, get_or_append_left, get_or_push, get_or_past, get_or_default, length_push, get_or-set_same, get_or-set_other, length-set, length-map, get_or-map}
 use Rattle.std.specs.List.Sorted.{IsPermutation}
 use Rattle.std.proofs.lemmas.List.Sorted.{IsPermutation-map, All-permutation}
-use Rattle.std.proofs.lemmas.List.Elements.{All-set, All-push}
+use Rattle.std.proofs.lemmas.List.Elements.{All-nil, All-set, All-push}
 use Rattle.std.proofs.lemmas.List.FromFn.{length-range_with_len, get_or-range_with_len, length-map-range_with_len, get_or-map-range_with_len}
 use Rattle.omega_text.specs.Limits.{most_number}
 use Rattle.omega_game.specs.declared.player.Player.{Player}
@@ -44,6 +44,14 @@ pub spec_same : (one other : Columns) (k : ℕ)
     → spec_in one k ≡ spec_in other k
 unfolding spec_in
 spec_same one other k a b c d e = rw (a, b, c, d, e) refl
+
+-- no specification is one that a builder keeps
+pub AreCollected-none : AreCollected (collected [] [] [] [] [])
+unfolding specs_of
+AreCollected-none = record {
+  even = record { priorities_even = refl; owners_even = refl; successors_even = refl; quoted_within = omega arith };
+  well_formed = All-nil IsWellFormed;
+}
 
 -- a specification more at the end
 pub specs_of-push : (ids ranks : List ℕ) (owners : List Player) (lists quoted : List (List ℕ)) (id rank : ℕ) (owner : Player) (list : List ℕ)

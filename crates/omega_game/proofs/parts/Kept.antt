@@ -1,8 +1,7 @@
 -- The part of a place: which nodes it keeps, and their edges.
-use Rattle.std.proofs.Common.{◌≡◌, ◌↔◌, ◌==◌, ℕ, ◌<◌, List, [], ◌∷◌, ◌++◌, length, map, Contains, slice_index, position, option_map, Option, Some, None, refl, sym, ap, ◌∙◌, subst, subst₂, eqb-true}
+use Rattle.std.proofs.Common.{◌≡◌, ℕ, ◌<◌, List, [], ◌∷◌, ◌++◌, length, map, Contains, slice_index, refl, sym, ap, ◌∙◌, subst}
 use Rattle.std.proofs.lemmas.List.{get_or-map, length-map}
 use Rattle.std.proofs.lemmas.List.Elements.{Contains-get_or}
-use Rattle.omega_game.specs.declared.player.Player.{Player}
 use Rattle.omega_game.specs.Game.{Node, IsGame, HasEdge, node_at, no_node, owner_at, priority_at, successors_at}
 use Rattle.omega_game.specs.Winning.{end_of}
 use Rattle.omega_game.specs.Part.{IsPath, Reaches, IsPartAt, KeepsNodes, new_place}

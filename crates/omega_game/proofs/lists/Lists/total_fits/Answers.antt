@@ -1,7 +1,0 @@
--- `Lists::total_fits`: the number of items of all lists together is a `usize`.
-use Rattle.std.proofs.Common.{ap, length, sum_by, arith}
-use Rattle.omega_game.proofs.layout.JoinedLists.{sum_by-lists_of}
-use Rattle.omega_game.proofs.lists.Lists.total_fits.Goals as goal
-
-pub returns : goal.returns
-returns g c = omega (arith, c.len-count.ensures, c.len-count.type_inv, sum_by-lists_of c.self.inside.starts.items c.self.inside.items.items c.self.invariant, ap (sum_by (λ list. length list)) c.self.view_is)
