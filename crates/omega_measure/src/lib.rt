@@ -1,6 +1,7 @@
 //! Tables of small progress measures (Jurdziński 2000), one measure for each node of a game.
 #![tactic(auto)]
 
+mod cells;
 mod due;
 mod field;
 mod fields;
@@ -14,6 +15,7 @@ mod shape;
 mod table;
 mod words;
 
+pub use cells::fits;
 pub use limits::{MOST_CELLS, measure_limits_are_stated};
 pub use omega_game::{Game, Player, Refusal, TaskFault};
 pub use packed::PackedTable;

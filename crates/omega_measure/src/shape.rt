@@ -1,4 +1,4 @@
-ghost use Rattle.std.specs.Prelude.{◌≡◌, ℕ, ◌*◌, ◌<◌, ◌≤◌, false, length, map, nat_lt, slice_index, IsOk, IfOk, IfErr, IsOkUnless};
+ghost use Rattle.std.specs.Prelude.{◌≡◌, ℕ, ◌*◌, ◌<◌, ◌≤◌, false, length, slice_index, IsOk, IfOk, IfErr, IsOkUnless};
 ghost use Rattle.omega_game.specs.Game.{priorities};
 ghost use Rattle.omega_game.specs.Limits.{most_nodes};
 ghost use Rattle.omega_game.specs.Player.{loses};
@@ -8,10 +8,10 @@ ghost use Rattle.omega_measure.specs.Limits.{most_cells};
 ghost use Rattle.omega_measure.specs.Table.{IsPrepareRefusal, is_too_wide};
 ghost use Rattle.omega_measure.specs.layout.Shape.{width_of};
 
-use crate::kept::{from_of, kept_from, kept_of};
-use crate::limits::MOST_CELLS;
+use crate::cells::is_too_wide;
+use crate::kept::{count_from, kept_of};
 use crate::losing::losing_of;
-use omega_game::{Game, Player, PriorityCount, Refusal, TaskFault};
+use omega_game::{Game, Player, Refusal, TaskFault};
 use std::alloc::Global;
 use std::marker::Model;
 
@@ -23,9 +23,6 @@ pub(crate) struct Shape {
     priorities: Vec<u32>,
     losing: Vec<u32>,
     limits: Vec<u32>,
-    // How many entries are for priorities at least p, for each small p: a scan compares at each step, and a search
-    // would cost more than the comparison.
-    from: Vec<u32>,
     kept: Vec<u32>,
 }
 
@@ -36,7 +33,7 @@ impl Model for Shape {
 
     ghost view = { λ s. record { player = s.player; priorities = s.priorities.items } };
 
-    ghost invariant = { λ s. IsShape s.player s.priorities.items s.losing.items s.limits.items s.from.items s.kept.items };
+    ghost invariant = { λ s. IsShape s.player s.priorities.items s.losing.items s.limits.items s.kept.items };
 }
 
 impl Shape {
@@ -51,15 +48,12 @@ impl Shape {
         if is_too_wide(priorities.len(), losing.len()) {
             return Err(Refusal::Task(TaskFault::TooWide));
         }
-        let small = small_priorities(game.priority_counts(), priorities.len() as u32);
-        let from = from_of(alloc, &losing, small)?;
-        let kept = kept_of(alloc, &priorities, &losing, &from)?;
+        let kept = kept_of(alloc, &priorities, &losing)?;
         Ok(Shape {
             player,
             priorities,
             losing,
             limits,
-            from,
             kept,
         })
     }
@@ -100,7 +94,7 @@ impl Shape {
     pub(crate) fn kept_from(&self, p: u32) -> usize
         ensures { result ≡ entries_from self.now.player self.now.priorities p }
     {
-        kept_from(&self.losing, &self.from, p)
+        count_from(&self.losing, p)
     }
 
     /// Whether the priority of a place loses.
@@ -125,26 +119,4 @@ fn priorities_of(alloc: Global, game: &Game) -> Result<Vec<u32>, Refusal>
         found.push(game.priority(place))?;
     }
     Ok(found)
-}
-
-/// Whether so many nodes with so many entries each have more cells than a table may have.
-fn is_too_wide(nodes: usize, entries: usize) -> bool
-    requires { 0 < nodes }
-    ensures wide { result ≡ nat_lt most_cells (nodes * entries) }
-    ensures few { result ≡ false → entries ≤ most_cells }
-{
-    match nodes.checked_mul(entries) {
-        Some(cells) => cells > MOST_CELLS,
-        None => true,
-    }
-}
-
-/// How many priorities, from 0 on, are looked up: as far as one is borne, and no more than there are nodes.
-fn small_priorities(counts: &[PriorityCount], nodes: u32) -> u32
-    ensures { result ≤ nodes }
-{
-    match counts {
-        [greatest, ..] => greatest.priority.saturating_add(1).min(nodes),
-        [] => 0,
-    }
 }

@@ -30,7 +30,7 @@ pub trait MeasureTable: Drop {
         ensures { IsTrue result ↔ (measure_at (content self.now).measures place ≡ None) };
 
     /// The measures at two places compared on the entries for priorities at least `p`; top is above all others. How many
-    /// entries these are is looked up where `p` is below the number of nodes, and else searched for among the priorities.
+    /// entries these are is searched for among the losing priorities.
     fn compare(&self, a: u32, b: u32, p: u32) -> Ordering
         requires first { a < length (content self.now).measures }
         requires second { b < length (content self.now).measures }

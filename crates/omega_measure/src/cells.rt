@@ -1,0 +1,39 @@
+//! Whether a table of measures has no more cells than a table may have.
+ghost use Rattle.std.specs.Prelude.{◌≡◌, ◌*◌, ◌<◌, ◌≤◌, count_by, false, nat_lt, not};
+ghost use Rattle.omega_game.specs.Game.{priorities};
+ghost use Rattle.omega_game.specs.Player.{loses};
+ghost use Rattle.omega_measure.specs.Limits.{most_cells};
+ghost use Rattle.omega_measure.specs.Table.{is_too_wide};
+
+use crate::limits::MOST_CELLS;
+use omega_game::{Game, Player, PriorityCount};
+
+/// Whether a table of the player's measures over a game has at most `MOST_CELLS` cells. Takes no memory, and a step for each
+/// priority that is borne.
+pub fn fits(game: &Game, player: Player) -> bool
+    ensures { result ≡ not (is_too_wide player (priorities game.now)) }
+{
+    !is_too_wide(game.len(), losing_among(game.priority_counts(), player))
+}
+
+/// How many of the priorities that are counted lose for the player.
+fn losing_among(counts: &[PriorityCount], player: Player) -> usize
+    ensures { result ≡ count_by (λ count. loses player count.priority) counts.now }
+{
+    counts
+        .iter()
+        .filter(|count| player.loses(count.priority))
+        .count()
+}
+
+/// Whether so many nodes with so many entries each have more cells than a table may have.
+pub(crate) fn is_too_wide(nodes: usize, entries: usize) -> bool
+    requires { 0 < nodes }
+    ensures wide { result ≡ nat_lt most_cells (nodes * entries) }
+    ensures few { result ≡ false → entries ≤ most_cells }
+{
+    match nodes.checked_mul(entries) {
+        Some(cells) => cells > MOST_CELLS,
+        None => true,
+    }
+}
