@@ -1,11 +1,11 @@
 -- The answer that a solver of the other game gives, by place, is exact.
-use Rattle.std.proofs.Common.{◌≡◌, ◌≢◌, ℕ, ◌+◌, ◌<◌, ◌≤◌, ◌⊎◌, inl, inr, Bool, true, false, List, [], ◌∷◌, None, Some, Option, Contains, IsSome, is_some, length, map, get_or, slice_get, option_map, refl, sym, ap, ap₂, subst, ◌∙◌, arith}
+use Rattle.std.proofs.Common.{◌≡◌, ◌≢◌, ℕ, ◌+◌, ◌<◌, ◌≤◌, ◌⊎◌, inl, inr, Bool, true, false, List, [], ◌∷◌, None, Some, Option, Contains, IfSome, IsSome, is_some, length, map, get_or, slice_get, option_map, refl, sym, ap, ap₂, subst, ◌∙◌, arith}
 use Rattle.std.proofs.lemmas.Bool.{cases_lt}
 use Rattle.std.proofs.lemmas.List.{ext_get_or, get_or-map, get_or_past, length-map}
 use Rattle.std.proofs.lemmas.Option.{get_or_from_slice_get, slice_get-get_or, slice_get_past}
 use Rattle.omega_game.specs.declared.player.Player.{Player}
 use Rattle.omega_game.specs.Game.{Node, HasEdge, IsGame, owner_at, priorities, successors_at}
-use Rattle.omega_game.specs.Winning.{Chooses}
+use Rattle.omega_game.specs.Winning.{Chooses, IsStrategy}
 use Rattle.omega_lift.specs.Allowance.{IsAllowanceOf, measure_at}
 use Rattle.omega_lift.specs.Answer.{AreChoices, IsFirstLeast, won_in}
 use Rattle.omega_lift.specs.Measure.{Measure}
@@ -13,7 +13,7 @@ use Rattle.omega_solve.specs.Headline.{DealsOut, Headline, IsExact, Runs}
 use Rattle.omega_solve.specs.Solver.{State, IsFinished, IsReached, start_of}
 use Rattle.omega_rename.specs.Laws.{Follows}
 use Rattle.omega_rename.specs.Renaming.{IsRenaming, choices_by_place, measures_by_place, state_by_place}
-use Rattle.omega_rename.proofs.Games.{IsClosed, back_renaming, back_closed, place_of_rank, rank_below, rank_of_place}
+use Rattle.omega_rename.proofs.Games.{IsClosed, back_closed, back_renaming, edge_from, place_of_rank, rank_below, rank_of_place}
 use Rattle.omega_rename.proofs.Lifting.{allowance_here, allowance_there, follows, measure_here}
 
 -- what a list has under a function, and what it has there
@@ -139,3 +139,19 @@ exact_here headline nodes ranks places state choices game renaming reached finis
       },
       refl,
     )
+
+-- a choice of a strategy is a place
+pub choices_below : (nodes other : List Node) (ranks places : List ℕ) (player : Player) (choices : List (Option ℕ)) → IsGame nodes
+    → IsRenaming nodes other ranks places → IsStrategy other player choices → (r : ℕ) → IfSome (get_or choices r None) (λ w. w < length places)
+choices_below nodes other ranks places player choices game renaming strategy r = go (get_or choices r None) refl
+  where
+    go : (choice : Option ℕ) → get_or choices r None ≡ choice → IfSome choice (λ w. w < length places)
+    go None is = tt
+    go (Some w) is =
+        let edge : HasEdge other r w = strategy.listed r w (chooses (cases_lt r (length choices))) in
+        let below = back_closed nodes other ranks places renaming (λ v u lt on. game.closed v u on) r w (edge_from other r w edge) edge in
+        omega (arith, below, renaming.entries, renaming.placed)
+      where
+        chooses : (r < length choices) ⊎ (length choices ≤ r) → Chooses choices r w
+        chooses (inl lt) = slice_get-get_or choices r None lt ∙ ap Some is
+        chooses (inr past) = (let none : get_or choices r None ≡ None = get_or_past choices r None past in cc)

@@ -1,12 +1,18 @@
 -- Renamed games: renaming back, their edges, and their priorities.
-use Rattle.std.proofs.Common.{◌≡◌, ℕ, ◌<◌, inl, inr, List, Contains, length, map, get_or, slice_index, refl, sym, ap, subst, ◌∙◌, arith}
+use Rattle.std.proofs.Common.{◌≡◌, ℕ, ◌<◌, inl, inr, List, Contains, length, map, get_or, slice_index, refl, sym, ap, ap₂, subst, ◌*◌, nat_lt, Err, IfErr, Ok, Result, ◌∙◌, arith}
 use Rattle.std.proofs.lemmas.List.{get_or-map, get_or_past, length-map}
 use Rattle.std.proofs.lemmas.Bool.{cases_lt}
 use Rattle.omega_game.specs.declared.player.Player.{Player}
 use Rattle.omega_game.specs.Bound.{bound_of}
 use Rattle.omega_game.specs.Game.{Node, HasEdge, IsGame, no_node, node_at, owner_at, priorities, priority_at, successors_at}
 use Rattle.omega_game.proofs.elements.Membership.{Contains-nothing, Contains-under, map-Contains, map-map, map_same}
-use Rattle.omega_order.specs.Ranking.{AreInverse}
+use Rattle.std.specs.List.{range_with_len}
+use Rattle.std.proofs.lemmas.List.FromFn.{get_or-range_with_len, length-range_with_len}
+use Rattle.omega_text.specs.declared.refusal.Refusal.{Refusal}
+use Rattle.omega_text.specs.declared.refusal.Refusal.TheVariants.{Automaton, Game, Io, Memory, Task, Text}
+use Rattle.omega_measure.specs.Limits.{most_cells}
+use Rattle.omega_measure.specs.Table.{IsPrepareRefusal, is_too_wide}
+use Rattle.omega_order.specs.Ranking.{AreInverse, LeadsBack}
 use Rattle.omega_rename.specs.Renaming.{IsMoved, IsRenaming}
 use Rattle.omega_rename.proofs.Priorities.{AreAlike, alike_renamed, bounds_alike}
 
@@ -103,3 +109,53 @@ module _ (nodes other : List Node) (ranks places : List ℕ) (renaming : IsRenam
       let found = edge_here (get_or places r 0) u (place_below r lt)
       (subst (λ (i : ℕ). HasEdge other i u) (sym (rank_of_place r lt)) edge) in
       subst (λ (i : ℕ). i < length other) (sym found.2) (rank_below found.0 (closed (get_or places r 0) found.0 (place_below r lt) found.1))
+
+-- a game renamed to itself
+pub renamed_to_itself : (nodes : List Node) (ranks places : List ℕ) → IsClosed nodes → ranks ≡ range_with_len 0 (length nodes)
+    → places ≡ range_with_len 0 (length nodes) → IsRenaming nodes nodes ranks places
+renamed_to_itself nodes ranks places closed same_ranks same_places = record {
+  inverse = record {
+    ranked = λ v lt. leads_back ranks places v same_ranks same_places lt;
+    placed = λ r lt. leads_back places ranks r same_places same_ranks lt;
+  };
+  ranked = ap (λ (xs : List ℕ). length xs) same_ranks ∙ length-range_with_len 0 (length nodes);
+  placed = ap (λ (xs : List ℕ). length xs) same_places ∙ length-range_with_len 0 (length nodes);
+  entries = refl;
+  moved = λ v lt.
+      subst (λ (r : ℕ). IsMoved ranks (node_at nodes v) (node_at nodes r)) (sym (itself ranks v same_ranks lt))
+      (record {
+        priority = refl;
+        owner = refl;
+        successors = sym (map_same (λ w. get_or ranks w 0) (successors_at nodes v) (λ w edge. itself ranks w same_ranks (closed v w lt edge)));
+      });
+}
+  where
+    itself : (xs : List ℕ) (i : ℕ) → xs ≡ range_with_len 0 (length nodes) → i < length nodes → get_or xs i 0 ≡ i
+    itself xs i same lt = ap (λ (ys : List ℕ). get_or ys i 0) same ∙ (get_or-range_with_len 0 (length nodes) i 0 lt ∙ omega arith)
+
+    leads_back : (xs ys : List ℕ) (i : ℕ) → xs ≡ range_with_len 0 (length nodes) → ys ≡ range_with_len 0 (length nodes) → i < length xs → LeadsBack xs ys i
+    leads_back xs ys i same_xs same_ys lt =
+        let below : i < length nodes = omega (arith, ap (λ (zs : List ℕ). length zs) same_xs, length-range_with_len 0 (length nodes)) in (
+          omega (arith, below, itself xs i same_xs below, ap (λ (zs : List ℕ). length zs) same_ys, length-range_with_len 0 (length nodes)),
+          ap (λ (j : ℕ). get_or ys j 0) (itself xs i same_xs below) ∙ itself ys i same_ys below,
+        )
+
+-- a table is too wide for one exactly if it is for the other
+pub widths_same : (nodes other : List Node) (ranks places : List ℕ) → IsRenaming nodes other ranks places → (player : Player)
+    → is_too_wide player (priorities other) ≡ is_too_wide player (priorities nodes)
+widths_same nodes other ranks places renaming player =
+    let sizes : length (priorities other) ≡ length (priorities nodes) =
+    omega (arith, length-map nodes (λ (node : Node). node.priority), length-map other (λ (node : Node). node.priority), renaming.entries) in
+    ap₂ (λ (count width : ℕ). nat_lt most_cells (count * width)) sizes
+    (ap (λ (qs : List ℕ). length qs) (sym ((alike nodes other ranks places renaming).losing player)))
+
+-- so that what refuses a table for one refuses it for the other
+pub refusals_same : {A : Type 0} (nodes other : List Node) (ranks places : List ℕ) → IsRenaming nodes other ranks places → (player : Player) (result : Result A Refusal)
+    → IfErr result (IsPrepareRefusal player (priorities other)) → IfErr result (IsPrepareRefusal player (priorities nodes))
+refusals_same nodes other ranks places renaming player (Ok made) refused = tt
+refusals_same nodes other ranks places renaming player (Err (Task fault)) refused = (refused.0, sym (widths_same nodes other ranks places renaming player) ∙ refused.1)
+refusals_same nodes other ranks places renaming player (Err Memory) refused = tt
+refusals_same nodes other ranks places renaming player (Err (Text fault)) refused = refused
+refusals_same nodes other ranks places renaming player (Err (Game fault)) refused = refused
+refusals_same nodes other ranks places renaming player (Err (Automaton fault)) refused = refused
+refusals_same nodes other ranks places renaming player (Err Io) refused = refused

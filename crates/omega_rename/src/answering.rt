@@ -24,6 +24,7 @@ impl Renaming<'_> {
         ensures fits { IsOk result → is_too_wide player (priorities self.now.given) ≡ false }
         ensures refused { IfErr result (IsPrepareRefusal player (priorities self.now.given)) }
     {
+        self.keeps_nodes();
         let game = self.renamed();
         if self.is_other() {
             Solver::prepare_in_order(alloc, game, player)
@@ -45,6 +46,7 @@ impl Renaming<'_> {
         ensures memory { IsOkUnless result Refusal.Memory }
     {
         headline();
+        self.keeps_nodes();
         let lifts = solver.lifts();
         let answer = solver.answer().unwrap();
         let ranking = self.ranking();

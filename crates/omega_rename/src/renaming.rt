@@ -62,25 +62,32 @@ impl<'g> Renaming<'g> {
     fn as_given(game: &'g Game) -> Renaming<'g>
         ensures given { result.given ≡ game.entry.now }
     {
+        let ranking = Ranking::rising(game.len() as u32);
         Renaming {
             given: game,
-            ranking: Ranking::rising(game.len() as u32),
+            ranking,
             other: None,
         }
     }
 
     /// The game that was given.
     pub fn given(&self) -> &Game
-        ensures given { result.now ≡ self.now.given }
-        ensures renamed { IsRenamed self.now }
-        ensures game { IsGame self.now.given }
+        ensures { result.now ≡ self.now.given }
     {
         self.given
     }
 
+    /// The other game has the nodes of the game, each at its rank. Does nothing: it hands on what each renaming keeps.
+    pub fn keeps_nodes(&self)
+        ensures renamed { IsRenamed self.now }
+        ensures game { IsGame self.now.given }
+    {
+        self.given.keeps_limits();
+    }
+
     /// The game that is solved: the other, or the one given where there is no other.
     pub fn renamed(&self) -> &Game
-        ensures renamed { result.now ≡ self.now.renamed }
+        ensures { result.now ≡ self.now.renamed }
     {
         match &self.other {
             Some(other) => other,
