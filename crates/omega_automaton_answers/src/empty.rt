@@ -16,7 +16,7 @@ use omega_automaton::Automaton;
 use omega_empty::{Verdict, emptiness_game, lasso, verdict_of};
 use omega_game::{Player, Refusal};
 use omega_solve::{Nested, PackedTable, Solver};
-use omega_watch::{Watch, found_watched};
+use omega_watch::{Renaming, Watch, found_watched};
 use std::alloc::Global;
 
 /// An accepting lasso of the automaton that a text stands for, or `empty` where no lasso accepts, by lifting in the
@@ -63,8 +63,9 @@ fn decided<L, W: Watch<L>>(
     ensures told { IsWatched (LiftsAutomaton automaton) (refusal_in result) (W.tells watch.now) (W.pace watch.now) budget listener.old listener.new }
 {
     let game = emptiness_game(alloc, &automaton)?;
-    let solver: Solver<'_, PackedTable, Nested> = Solver::prepare(alloc, &game, Player::Zero)?;
-    let found = found_watched(alloc, solver, &game, Player::Zero, budget, watch, listener)?;
+    let renaming = Renaming::of(alloc, &game)?;
+    let solver: Solver<'_, PackedTable, Nested> = renaming.prepare(alloc, Player::Zero)?;
+    let found = found_watched(alloc, solver, &renaming, Player::Zero, budget, watch, listener)?;
     verdict_of(alloc, &automaton, &game, &found)
 }
 

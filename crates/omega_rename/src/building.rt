@@ -22,7 +22,7 @@ pub(crate) fn renamed_game(
     games_have_no_fault();
     specifications_have_one_game();
     game.keeps_limits();
-    let mut builder = GameBuilder::new(alloc);
+    let mut builder = GameBuilder::with_room(alloc, game.len(), game.edges())?;
     for rank in 0..ranking.len() {
         add_ranked(&mut builder, game, ranking, rank)?;
     }

@@ -1,5 +1,5 @@
 -- What a new solver has done within a budget is what is found, or why nothing is.
-use Rattle.std.proofs.Common.{◌≡◌, ◌↔◌, ◌+◌, ◌≤◌, ◌∙◌, ℕ, Bool, true, List, Option, ap, arith, inl, inr, refl, subst, sym}
+use Rattle.std.proofs.Common.{◌≡◌, ◌↔◌, ◌+◌, ◌≤◌, ◌∙◌, ℕ, Bool, true, List, Option, Result, Ok, Err, IsOkUnless, ap, arith, inl, inr, refl, subst, sym}
 use Rattle.std.proofs.lemmas.Bool.{cases_Bool}
 use Rattle.omega_game.specs.declared.player.Player.{Player}
 use Rattle.omega_game.specs.Bound.{bound_of}
@@ -10,7 +10,14 @@ use Rattle.omega_solve.specs.declared.outcome.Outcome.TheVariants.{Done, Spent}
 use Rattle.omega_solve.specs.Headline.{IsExact, Runs}
 use Rattle.omega_solve.specs.Solver.{HasLiftDue, IsFinished, IsReached, State, lift_bound, start_of}
 use Rattle.omega_solve.specs.Within.{EndsAfter, GoesOnAfter, IsFound, LiftsTo}
+use Rattle.omega_game.specs.Game.{IsGame}
+use Rattle.omega_text.specs.declared.refusal.Refusal.{Refusal}
+use Rattle.omega_text.specs.declared.refusal.Refusal.TheVariants.{Memory}
+use Rattle.omega_rename.specs.Laws.{Follows, RenamingsKeepBounds, RenamingsKeepStates}
+use Rattle.omega_rename.specs.Renaming.{IsRenaming, state_by_place}
 use Rattle.omega_watch.specs.Lifting.{EndsSo, HasLifted}
+use Rattle.omega_watch.specs.Watching.{IsSpent, IsTold, TellsRun, most_of, refusal_in}
+use Rattle.omega_watch.specs.declared.watching.Progress.{Progress}
 
 -- the lifts of a solver lead to its table
 lifts_to : (state : State) → IsReached state → LiftsTo state.nodes state.player state.lifts state.table.measures
@@ -58,27 +65,59 @@ used_up nodes player budget state lifted =
     (subst (λ (p : Player). GoesOnAfter state.nodes p budget) lifted.same_player
     (subst (λ (lifts : ℕ). GoesOnAfter state.nodes state.player lifts) lifted.ended.0 (goes_on_after state lifted.reached lifted.ended.1)))
 
--- an answer that is exact for the solver's game and player, under other names
-exact_for : (nodes others : List Node) (player rival : Player) (won flags : List Bool) (choices places : List (Option ℕ))
-    → nodes ≡ others → player ≡ rival → flags ≡ won → places ≡ choices
-    → IsExact nodes player won choices → IsExact others rival flags places
-exact_for nodes others player rival won flags choices places en ep ew ec exact = rw (ew, ec, ← en, ← ep) exact
+-- how a run of the other game ends, a run of the game itself ends
+ends_by_place : (state other : State) (outcome : Outcome) (budget : ℕ) → Follows state other → other.done ≡ state.done → other.lifts ≡ state.lifts
+    → EndsSo outcome budget state → EndsSo outcome budget other
+ends_by_place state other Done budget follows same_done same_lifts ended = (same_done ∙ ended.0, follows.finished ended.1)
+ends_by_place state other Spent budget follows same_done same_lifts ended = (same_lifts ∙ ended.0, follows.due ended.1)
 
--- what was copied of a solver that is done was found within the budget
-pub found_within : (nodes : List Node) (player : Player) (budget : ℕ) (state : State) (found : Found) (won : List Bool) (choices : List (Option ℕ))
-    → HasLifted nodes player budget Done state → IsExact state.nodes state.player won choices
-    → found.won.items ≡ won → found.choice.items ≡ choices → found.lifts ≡ state.lifts
+-- what a solver of the other game has done, a solver of the game itself has done
+pub lifted_by_place : RenamingsKeepStates → RenamingsKeepBounds → (nodes other : List Node) (ranks places : List ℕ) (player : Player) (budget : ℕ) (outcome : Outcome)
+    (state : State) → IsGame nodes → IsRenaming nodes other ranks places → HasLifted other player budget outcome state
+    → HasLifted nodes player budget outcome (state_by_place nodes ranks state)
+lifted_by_place states bounds nodes other ranks places player budget outcome state game renaming lifted =
+    let here : IsRenaming nodes state.nodes ranks places = subst (λ (n : List Node). IsRenaming nodes n ranks places) (sym lifted.same_nodes) renaming in
+    let follows = states nodes ranks places state game here lifted.reached in
+    record {
+      same_nodes = refl;
+      same_player = lifted.same_player;
+      reached = follows.reached;
+      bounded = subst (λ (bound : ℕ). state.lifts ≤ bound) (bounds nodes other ranks places player renaming) lifted.bounded;
+      within = lifted.within;
+      ended = ends_by_place state (state_by_place nodes ranks state) outcome budget follows refl refl lifted.ended;
+    }
+
+-- what an exact answer says of a solver that is done was found within the budget
+pub found_within : (nodes : List Node) (player : Player) (budget : ℕ) (state : State) (found : Found)
+    → HasLifted nodes player budget Done state → IsExact nodes state.player found.won.items found.choice.items → found.lifts ≡ state.lifts
     → IsFound nodes player budget found
-found_within nodes player budget state found won choices lifted exact ew ec el =
+found_within nodes player budget state found lifted exact el =
     let after : EndsAfter nodes player state.lifts =
     subst (λ (n : List Node). EndsAfter n player state.lifts) lifted.same_nodes
     (subst (λ (p : Player). EndsAfter state.nodes p state.lifts) lifted.same_player (ends_after state lifted.reached lifted.ended.1)) in
     record {
-      exact = exact_for state.nodes nodes state.player player won found.won.items choices found.choice.items
-          lifted.same_nodes lifted.same_player ew ec exact;
+      exact = subst (λ (p : Player). IsExact nodes p found.won.items found.choice.items) lifted.same_player exact;
       ended = record {
         within = omega (arith, el, lifted.within);
         bounded = omega (arith, el, lifted.bounded);
         ended = subst (λ (lifts : ℕ). EndsAfter nodes player lifts) (sym el) after;
       };
     }
+
+-- what was told of a run of the other game was told of a run of the game itself
+pub told_by_place : {L : Type 0} (tells : Progress → L → L → Type 0) (every most : ℕ) (nodes : List Node) (player : Player) (budget : ℕ) (outcome : Outcome) (state : State)
+    (refusal : Option Refusal) (before after : L) → HasLifted nodes player budget outcome state → (outcome ≡ Spent) ↔ IsSpent refusal
+    → most ≡ most_of nodes player budget → IsTold tells player every most state.lifts before after
+    → TellsRun tells every nodes player budget refusal before after
+told_by_place tells every most nodes player budget outcome state refusal before after lifted ended same told = record {
+  outcome = outcome;
+  state = state;
+  lifted = lifted;
+  ended = ended;
+  told = subst (λ (m : ℕ). IsTold tells player every m state.lifts before after) same told;
+}
+
+-- a result that is refused for want of memory alone is not refused for the budget
+pub not_spent : {A : Type 0} (result : Result A Refusal) → IsOkUnless result Memory → (Done ≡ Spent) ↔ IsSpent (refusal_in result)
+not_spent (Ok value) memory = (λ e. cc, λ e. cc)
+not_spent (Err refusal) memory = (λ e. cc, λ e. let same : refusal ≡ Memory = memory in cc)

@@ -3,5 +3,6 @@
 
 mod watching;
 
+pub use omega_rename::Renaming;
 pub use omega_solve::{Found, Game, MeasureTable, Player, Refusal, Schedule, Solver};
 pub use watching::{LIFTS_BETWEEN_REPORTS, Progress, Unwatched, Watch, found_watched};

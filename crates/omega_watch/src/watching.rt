@@ -7,6 +7,7 @@ ghost use Rattle.omega_solve.specs.Solver.{start_of};
 ghost use Rattle.omega_solve.specs.Within.{IsBudgetRefusal, IsFound};
 
 use omega_game::{Game, Player, Refusal, TaskFault, bound};
+use omega_rename::{Renaming, renamings_keep_bounds, renamings_keep_states};
 use omega_solve::{Found, MeasureTable, Outcome, Schedule, Solver};
 use std::alloc::Global;
 
@@ -59,35 +60,32 @@ impl<L> Watch<L> for Unwatched {
     fn report(&self, _listener: &mut L, _progress: Progress) {}
 }
 
-/// What a new solver for a game and a player finds within a budget; the listener is told of its run. 51 or 60.
+/// What a new solver for a game and a player finds within a budget, by the places that the game was given with; the listener
+/// is told of its run. 51 or 60.
 pub fn found_watched<T: MeasureTable, S: Schedule, L, W: Watch<L>>(
     alloc: Global,
     mut solver: Solver<'_, T, S>,
-    game: &Game,
+    renaming: &Renaming<'_>,
     player: Player,
     budget: u64,
     watch: &W,
     listener: &mut L,
 ) -> Result<Found, Refusal>
-    requires fresh { solver ≡ start_of game.now player }
+    requires fresh { solver ≡ start_of renaming.now.renamed player }
     requires budget { budget ≤ most_lifts }
-    ensures found { IfOk result (IsFound game.now player budget) }
-    ensures refused { IfErr result (IsBudgetRefusal game.now player budget) }
-    ensures told { TellsRun (W.tells watch.now) (W.pace watch.now) game.now player budget (refusal_in result) listener.old listener.new }
-    ensures counted { IfOk result (λ found. IsTold (W.tells watch.now) player (W.pace watch.now) (most_of game.now player budget) found.lifts listener.old listener.new) }
+    ensures found { IfOk result (IsFound renaming.now.given player budget) }
+    ensures refused { IfErr result (IsBudgetRefusal renaming.now.given player budget) }
+    ensures told { TellsRun (W.tells watch.now) (W.pace watch.now) renaming.now.given player budget (refusal_in result) listener.old listener.new }
+    ensures counted { IfOk result (λ found. IsTold (W.tells watch.now) player (W.pace watch.now) (most_of renaming.now.given player budget) found.lifts listener.old listener.new) }
 {
-    let most = most_lifts_of(game, player, budget);
+    renamings_keep_states();
+    renamings_keep_bounds();
+    renaming.keeps_nodes();
+    let most = most_lifts_of(renaming.given(), player, budget);
+    let game = renaming.renamed();
     match run_watched(&mut solver, game, player, most, budget, watch, listener) {
         Outcome::Spent => Err(Refusal::Task(TaskFault::Budget)),
-        Outcome::Done => {
-            let lifts = solver.lifts();
-            let answer = solver.answer().unwrap();
-            Ok(Found {
-                won: Vec::from_slice(alloc, answer.won)?,
-                choice: Vec::from_slice(alloc, answer.choice)?,
-                lifts,
-            })
-        }
+        Outcome::Done => renaming.found_by(alloc, &solver),
     }
 }
 

@@ -8,11 +8,12 @@ ghost use Rattle.omega_game_answers.specs.steps.Winners.{winners_of};
 ghost use Rattle.omega_game_answers.specs.Watching.{LiftsGame};
 ghost use Rattle.omega_watch.specs.Watching.{IsWatched, refusal_in};
 
-use omega_game::{Game, Player, Refusal, Seq, Strategy};
+use omega_game::{Game, Player, Refusal, Seq, Strategy, TaskFault};
+use omega_measure::fits;
 use omega_pg::{Solution, write_solution};
 use omega_region::{regions_are_apart, regions_cover};
 use omega_solve::{MeasureTable, Schedule, Solver};
-use omega_watch::{Watch, found_watched};
+use omega_watch::{Renaming, Watch, found_watched};
 use std::alloc::Global;
 
 /// The solution text of a game. 50, 51 or 60.
@@ -32,8 +33,8 @@ pub fn solve_both<T: MeasureTable, S: Schedule, L, W: Watch<L>>(
     write_solution(alloc, game, &solution)
 }
 
-/// The solution of a game. Both solvers are prepared before either runs, so that 50 comes before 51, and each may make
-/// the whole budget of lifts. 50, 51 or 60.
+/// The solution of a game. Whether the tables of both players fit is asked before either solver runs, so that 50 comes before
+/// 51; the first solver is let go before the second is prepared, and each may make the whole budget of lifts. 50, 51 or 60.
 pub fn solution_of<T: MeasureTable, S: Schedule, L, W: Watch<L>>(
     alloc: Global,
     game: &Game,
@@ -49,10 +50,14 @@ pub fn solution_of<T: MeasureTable, S: Schedule, L, W: Watch<L>>(
     regions_are_apart();
     regions_cover();
     game.keeps_limits();
-    let for_zero: Solver<'_, T, S> = Solver::prepare(alloc, game, Player::Zero)?;
-    let for_one: Solver<'_, T, S> = Solver::prepare(alloc, game, Player::One)?;
-    let zero = found_watched(alloc, for_zero, game, Player::Zero, budget, watch, listener)?;
-    let one = found_watched(alloc, for_one, game, Player::One, budget, watch, listener)?;
+    if !fits(game, Player::Zero) || !fits(game, Player::One) {
+        return Err(Refusal::Task(TaskFault::TooWide));
+    }
+    let renaming = Renaming::of(alloc, game)?;
+    let for_zero: Solver<'_, T, S> = renaming.prepare(alloc, Player::Zero)?;
+    let zero = found_watched(alloc, for_zero, &renaming, Player::Zero, budget, watch, listener)?;
+    let for_one: Solver<'_, T, S> = renaming.prepare(alloc, Player::One)?;
+    let one = found_watched(alloc, for_one, &renaming, Player::One, budget, watch, listener)?;
     let winners = winners_of(alloc, zero.won.as_slice())?;
     Ok(Solution {
         winners: Seq::from_vec(winners),

@@ -9,7 +9,7 @@ ghost use Rattle.omega_watch.specs.Watching.{IsWatched, refusal_in};
 use super::answer_text::write_answer;
 use omega_game::{Game, Player, Refusal};
 use omega_solve::{MeasureTable, Schedule, Solver};
-use omega_watch::{Watch, found_watched};
+use omega_watch::{Renaming, Watch, found_watched};
 use std::alloc::Global;
 
 /// The answer text of a player for a game; the listener is told of the run. 50, 51 or 60.
@@ -26,8 +26,9 @@ pub fn solve_one<T: MeasureTable, S: Schedule, L, W: Watch<L>>(
     ensures refused { IfErr result (IsGameRefusal game.now (way.Player player) None budget) }
     ensures told { IsWatched (LiftsGame game.now (way.Player player)) (refusal_in result) (W.tells watch.now) (W.pace watch.now) budget listener.old listener.new }
 {
-    let solver: Solver<'_, T, S> = Solver::prepare(alloc, game, player)?;
-    let found = found_watched(alloc, solver, game, player, budget, watch, listener)?;
+    let renaming = Renaming::of(alloc, game)?;
+    let solver: Solver<'_, T, S> = renaming.prepare(alloc, player)?;
+    let found = found_watched(alloc, solver, &renaming, player, budget, watch, listener)?;
     write_answer(
         alloc,
         game,

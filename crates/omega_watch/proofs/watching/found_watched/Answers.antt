@@ -1,10 +1,7 @@
--- A solver that is done found an exact answer within the budget.
-use Rattle.omega_watch.proofs.Lifting.{found_within}
+-- A solver that is done found an exact answer within the budget, by place.
+use Rattle.std.proofs.Common.{◌≡◌, IfOk, refl, subst, sym}
+use Rattle.omega_solve.specs.declared.outcome.Outcome.TheVariants.{Done, Spent}
+use Rattle.omega_rename.specs.Renaming.{state_by_place}
+use Rattle.omega_watch.proofs.Lifting.{found_within, lifted_by_place, not_spent, told_by_place, used_up}
 use Rattle.omega_watch.proofs.watching.found_watched.Goals as goal
 
-pub returns-clause-found : goal.returns-clause-found
-returns-clause-found g c =
-    let answer = c.unwrap-answer.result in
-    found_within c.args.game.now c.args.player c.args.budget c.run_watched.new.solver _ answer.won.now answer.choice.now c.in-Done.ensures.lifted
-    (rw c.unwrap-answer.ensures at c.answer.ensures.exact) c.in_ok-from_slice-in-Done.ensures.items
-    c.in_ok-from_slice-in-Done-2.ensures.items c.lifts-lifts.ensures.count
