@@ -1,5 +1,5 @@
 -- What a new solver has done within a budget is what is found, or why nothing is.
-use Rattle.std.proofs.Common.{◌≡◌, ◌↔◌, ◌+◌, ◌≤◌, ◌∙◌, ℕ, Bool, true, List, Option, Result, Ok, Err, IsOkUnless, ap, arith, inl, inr, refl, subst, sym}
+use Rattle.std.proofs.Common.{◌≡◌, ◌↔◌, ◌+◌, ◌≤◌, ◌∙◌, ℕ, Bool, true, List, Option, Result, Ok, Err, IfOk, IsOkUnless, ap, arith, inl, inr, refl, subst, sym}
 use Rattle.std.proofs.lemmas.Bool.{cases_Bool}
 use Rattle.omega_game.specs.declared.player.Player.{Player}
 use Rattle.omega_game.specs.Bound.{bound_of}
@@ -88,7 +88,7 @@ lifted_by_place states bounds nodes other ranks places player budget outcome sta
     }
 
 -- what an exact answer says of a solver that is done was found within the budget
-pub found_within : (nodes : List Node) (player : Player) (budget : ℕ) (state : State) (found : Found)
+found_within : (nodes : List Node) (player : Player) (budget : ℕ) (state : State) (found : Found)
     → HasLifted nodes player budget Done state → IsExact nodes state.player found.won.items found.choice.items → found.lifts ≡ state.lifts
     → IsFound nodes player budget found
 found_within nodes player budget state found lifted exact el =
@@ -103,6 +103,13 @@ found_within nodes player budget state found lifted exact el =
         ended = subst (λ (lifts : ℕ). EndsAfter nodes player lifts) (sym el) after;
       };
     }
+
+-- whatever exact answer a solver that is done gives was found within the budget
+pub answer_within : (nodes : List Node) (player : Player) (budget : ℕ) (state : State) (result : Result Found Refusal) → HasLifted nodes player budget Done state
+    → IfOk result (λ found. found.lifts ≡ state.lifts) → IfOk result (λ found. IsExact nodes state.player found.won.items found.choice.items)
+    → IfOk result (IsFound nodes player budget)
+answer_within nodes player budget state (Ok found) lifted counted exact = found_within nodes player budget state found lifted exact counted
+answer_within nodes player budget state (Err refusal) lifted counted exact = tt
 
 -- what was told of a run of the other game was told of a run of the game itself
 pub told_by_place : {L : Type 0} (tells : Progress → L → L → Type 0) (every most : ℕ) (nodes : List Node) (player : Player) (budget : ℕ) (outcome : Outcome) (state : State)
