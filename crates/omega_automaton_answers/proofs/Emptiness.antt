@@ -13,6 +13,7 @@ use Rattle.omega_measure.specs.Table.{IsPrepareRefusal, is_too_wide}
 use Rattle.omega_solve.specs.Within.{IsBudgetRefusal}
 use Rattle.omega_hoa.specs.Alone.{IsAutomatonRefusal, IsAutomatonText}
 use Rattle.omega_automaton_answers.specs.empty.Answer.{IsEmptyRefusal}
+use Rattle.omega_automaton_answers.specs.steps.Solving.{IsSolvingRefusal}
 
 -- the refusal of the text is one of deciding emptiness
 pub refused-text : (text : List ℕ) (budget : ℕ) (refusal : Refusal) → or_memory (IsAutomatonRefusal text) refusal
@@ -34,28 +35,36 @@ refused-automaton text budget automaton (Automaton fault) read h = inr (record {
 refused-automaton text budget automaton (Task fault) read h = inr (record { automaton = automaton; read = read; refused = h })
 refused-automaton text budget automaton Io read h = inr (record { automaton = automaton; read = read; refused = h })
 
--- so is what refuses preparing a solver of its emptiness game
-pub refused-prepare : (automaton : Description) (budget : ℕ) (game : List Node) (refusal : Refusal) → IsGiven automaton
-    → IsEmptinessGame automaton game → IsPrepareRefusal Zero (priorities game) refusal → IsEmptinessRefusal automaton budget refusal
-refused-prepare automaton budget game (Task fault) given game_is (e, wide) =
-    rw e (inr (record { given = given; game = game; game_is = game_is; fault_there = wide }))
-refused-prepare automaton budget game Memory given game_is h = tt
-refused-prepare automaton budget game (Text fault) given game_is h = h
-refused-prepare automaton budget game (Game fault) given game_is h = absurd h
-refused-prepare automaton budget game (Automaton fault) given game_is h = h
-refused-prepare automaton budget game Io given game_is h = h
+-- so is that of solving its emptiness game
+pub refused-solving : (automaton : Description) (budget : ℕ) (game : List Node) (refusal : Refusal) → IsGiven automaton
+    → IsEmptinessGame automaton game → IsSolvingRefusal budget game refusal → IsEmptinessRefusal automaton budget refusal
+refused-solving automaton budget game (Task fault) given game_is h =
+    inr (record { given = given; game = game; game_is = game_is; fault_there = h })
+refused-solving automaton budget game Memory given game_is h = tt
+refused-solving automaton budget game (Text fault) given game_is h = h
+refused-solving automaton budget game (Game fault) given game_is h = absurd h
+refused-solving automaton budget game (Automaton fault) given game_is h = h
+refused-solving automaton budget game Io given game_is h = h
 
--- and so is that the budget of lifts is used up
-pub refused-lifts : (automaton : Description) (budget : ℕ) (game : List Node) (refusal : Refusal) → IsGiven automaton
-    → IsEmptinessGame automaton game → is_too_wide Zero (priorities game) ≡ false → IsBudgetRefusal game Zero budget refusal
-    → IsEmptinessRefusal automaton budget refusal
-refused-lifts automaton budget game (Task fault) given game_is narrow (e, unfinished) =
-    rw e (inr (record { given = given; game = game; game_is = game_is; fault_there = (narrow, unfinished) }))
-refused-lifts automaton budget game Memory given game_is narrow h = tt
-refused-lifts automaton budget game (Text fault) given game_is narrow h = h
-refused-lifts automaton budget game (Game fault) given game_is narrow h = absurd h
-refused-lifts automaton budget game (Automaton fault) given game_is narrow h = h
-refused-lifts automaton budget game Io given game_is narrow h = h
+-- what refuses preparing a solver of a game refuses solving it
+pub refused-prepare : (budget : ℕ) (game : List Node) (refusal : Refusal) → IsPrepareRefusal Zero (priorities game) refusal
+    → IsSolvingRefusal budget game refusal
+refused-prepare budget game (Task fault) (e, wide) = rw e wide
+refused-prepare budget game Memory h = tt
+refused-prepare budget game (Text fault) h = h
+refused-prepare budget game (Game fault) h = h
+refused-prepare budget game (Automaton fault) h = h
+refused-prepare budget game Io h = h
+
+-- and so does that the budget of lifts is used up
+pub refused-lifts : (budget : ℕ) (game : List Node) (refusal : Refusal) → is_too_wide Zero (priorities game) ≡ false
+    → IsBudgetRefusal game Zero budget refusal → IsSolvingRefusal budget game refusal
+refused-lifts budget game (Task fault) narrow (e, unfinished) = rw e (narrow, unfinished)
+refused-lifts budget game Memory narrow h = tt
+refused-lifts budget game (Text fault) narrow h = h
+refused-lifts budget game (Game fault) narrow h = h
+refused-lifts budget game (Automaton fault) narrow h = h
+refused-lifts budget game Io narrow h = h
 
 -- a refusal of which something holds is one of which all holds that follows
 pub refused_so : {T : Type 0} (result : Result T Refusal) (Was Why : Refusal → Type 0) → IsErrAnd result Was

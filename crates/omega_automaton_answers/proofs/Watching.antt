@@ -1,13 +1,15 @@
--- What is told of the run of `empty`, where it goes on to be refused.
-use Rattle.std.proofs.Common.{◌≢◌, ℕ, List, None, Some, inl, inr}
+-- What is told of the run of `empty`, also where it goes on to be refused.
+use Rattle.std.proofs.Common.{◌≢◌, ℕ, List, Option, None, Some, inl, inr, subst, sym}
 use Rattle.omega_text.specs.declared.refusal.Refusal.{Refusal}
 use Rattle.omega_text.specs.declared.refusal.Refusal.TheVariants.{Task}
 use Rattle.omega_text.specs.declared.refusal.task.TaskFault.TheVariants.{Budget}
 use Rattle.omega_automaton.specs.Automaton.{Description}
+use Rattle.omega_empty.specs.EmptinessGame.{IsEmptinessGame}
 use Rattle.omega_game.specs.Game.{Node}
 use Rattle.omega_game.specs.declared.player.Player.{Player}
 use Rattle.omega_hoa.specs.Alone.{IsAutomatonRefusal}
 use Rattle.omega_automaton_answers.specs.Watching.{LiftsAutomaton, LiftsAutomatonText}
+use Rattle.omega_automaton_answers.specs.steps.Solving.{LiftsGame}
 use Rattle.omega_watch.proofs.Watched.{made_refused}
 
 -- no text of an automaton is refused for the budget
@@ -32,3 +34,8 @@ text_refused text refusal other nodes players lifted = record {
   read = lifted.read;
   lifts = automaton_refused lifted.automaton refusal other nodes players lifted.lifts;
 }
+
+-- a run in an emptiness game of the automaton is one of the automaton
+pub automaton_lifted : (automaton : Description) (game : List Node) (refusal : Option Refusal) → IsEmptinessGame automaton game
+    → (nodes : List Node) (players : List Player) → LiftsGame game refusal nodes players → LiftsAutomaton automaton refusal nodes players
+automaton_lifted automaton game refusal is nodes players lifted = (subst (IsEmptinessGame automaton) (sym lifted.0) is, lifted.1)

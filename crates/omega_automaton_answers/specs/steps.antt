@@ -1,2 +1,3 @@
 -- What stands between an automaton and its answer: cited by private contracts alone.
 pub mod Drawn
+pub mod Solving

@@ -1,6 +1,11 @@
-ghost use Rattle.std.specs.Prelude.{◌≡◌, ◌≤◌, IfOk, IfErr, IsOkUnless, None};
+ghost use Rattle.std.specs.Prelude.{◌≡◌, ◌≤◌, IfOk, IfErr, IsOk, IsOkUnless, None, false, true};
+ghost use Rattle.omega_game.specs.declared.player.Player.{Player};
+ghost use Rattle.omega_game.specs.Game.{priorities};
+ghost use Rattle.omega_measure.specs.Table.{is_too_wide};
+ghost use Rattle.omega_text.specs.declared.refusal.task.TaskFault.TheVariants.{TooWide};
+ghost use Rattle.omega_game_answers.specs.solve.Refusing.{IsTooWide};
 ghost use Rattle.omega_solve.specs.Limits.{most_lifts};
-ghost use Rattle.omega_text.specs.declared.refusal.Refusal.TheVariants.{Memory};
+ghost use Rattle.omega_text.specs.declared.refusal.Refusal.TheVariants.{Memory, Task};
 ghost use Rattle.omega_game_answers.specs.declared.solve.asked.Asked.TheVariants.{Both};
 ghost use Rattle.omega_game_answers.specs.solve.Solution.{IsRight, IsSolutionOf};
 ghost use Rattle.omega_game_answers.specs.steps.GameRefusal.{IsGameRefusal};
@@ -47,17 +52,34 @@ pub fn solution_of<T: MeasureTable, S: Schedule, L, W: Watch<L>>(
     ensures refused { IfErr result (IsGameRefusal game.now Both None budget) }
     ensures told { IsWatched (LiftsGame game.now Both) (refusal_in result) (W.tells watch.now) (W.pace watch.now) budget listener.old listener.new }
 {
+    fits_both(game)?;
+    let renaming = Renaming::of(alloc, game)?;
+    lifted_solution::<T, S, L, W>(alloc, game, &renaming, budget, watch, listener)
+}
+
+/// The solution of a game that is too wide for neither player, by lifting for one player and then for the other. 51 or 60.
+fn lifted_solution<T: MeasureTable, S: Schedule, L, W: Watch<L>>(
+    alloc: Global,
+    game: &Game,
+    renaming: &Renaming<'_>,
+    budget: u64,
+    watch: &W,
+    listener: &mut L,
+) -> Result<Solution, Refusal>
+    requires budget { budget ≤ most_lifts }
+    requires given { renaming.now.given ≡ game.now }
+    requires narrow { (player : Player) → is_too_wide player (priorities game.now) ≡ false }
+    ensures right { IfOk result (IsRight game.now budget) }
+    ensures refused { IfErr result (IsGameRefusal game.now Both None budget) }
+    ensures told { IsWatched (LiftsGame game.now Both) (refusal_in result) (W.tells watch.now) (W.pace watch.now) budget listener.old listener.new }
+{
     regions_are_apart();
     regions_cover();
     game.keeps_limits();
-    if !fits(game, Player::Zero) || !fits(game, Player::One) {
-        return Err(Refusal::Task(TaskFault::TooWide));
-    }
-    let renaming = Renaming::of(alloc, game)?;
     let for_zero: Solver<'_, T, S> = renaming.prepare(alloc, Player::Zero)?;
-    let zero = found_watched(alloc, for_zero, &renaming, Player::Zero, budget, watch, listener)?;
+    let zero = found_watched(alloc, for_zero, renaming, Player::Zero, budget, watch, listener)?;
     let for_one: Solver<'_, T, S> = renaming.prepare(alloc, Player::One)?;
-    let one = found_watched(alloc, for_one, &renaming, Player::One, budget, watch, listener)?;
+    let one = found_watched(alloc, for_one, renaming, Player::One, budget, watch, listener)?;
     let winners = winners_of(alloc, zero.won.as_slice())?;
     Ok(Solution {
         winners: Seq::from_vec(winners),
@@ -68,6 +90,27 @@ pub fn solution_of<T: MeasureTable, S: Schedule, L, W: Watch<L>>(
             choice: Seq::from_vec(one.choice),
         },
     })
+}
+
+/// Refuses a game that is too wide for either player. 50 alone.
+fn fits_both(game: &Game) -> Result<(), Refusal>
+    ensures narrow { IsOk result → (player : Player) → is_too_wide player (priorities game.now) ≡ false }
+    ensures refused { IfErr result (λ refusal. (refusal ≡ Task TooWide) × IsTooWide game.now Both) }
+{
+    fits_for(game, Player::Zero)?;
+    fits_for(game, Player::One)
+}
+
+/// Refuses a game that is too wide for a player. 50 alone.
+fn fits_for(game: &Game, player: Player) -> Result<(), Refusal>
+    ensures narrow { IsOk result → is_too_wide player (priorities game.now) ≡ false }
+    ensures refused { IfErr result (λ refusal. (refusal ≡ Task TooWide) × (is_too_wide player (priorities game.now) ≡ true)) }
+{
+    if fits(game, player) {
+        Ok(())
+    } else {
+        Err(Refusal::Task(TaskFault::TooWide))
+    }
 }
 
 /// The winner of each node, of which player 0 wins these.

@@ -1,32 +1,24 @@
 -- `decided`: what is told is told of the run in the emptiness game, and behind it there is want of memory alone.
-use Rattle.std.proofs.Common.{◌≡◌, None, refl}
+use Rattle.std.proofs.Common.{◌≡◌, None, Some}
 use Rattle.std.proofs.lemmas.Result.{IfErr-weaker}
-use Rattle.omega_game.specs.declared.player.Player.TheVariants.{Zero}
 use Rattle.omega_empty.specs.Verdict.{IsEmptinessRefusal}
-use Rattle.omega_automaton_answers.proofs.Emptiness.{refused-lifts, refused-prepare, refused_so}
+use Rattle.omega_automaton_answers.proofs.Emptiness.{refused-solving, refused_so}
 use Rattle.omega_empty.specs.Refusing.{IsGameRefusal}
-use Rattle.omega_game.specs.Game.{priorities}
-use Rattle.omega_measure.specs.Table.{IsPrepareRefusal}
 use Rattle.omega_text.specs.declared.refusal.Refusal.TheVariants.{Memory}
-use Rattle.omega_automaton_answers.proofs.Watching.{automaton_refused}
-use Rattle.omega_watch.proofs.Watched.{none_watched, one_made, one_watched, spares, watched_alike, watched_behind}
+use Rattle.omega_automaton_answers.specs.Watching.{LiftsAutomaton}
+use Rattle.omega_automaton_answers.specs.steps.Solving.{LiftsGame}
+use Rattle.omega_automaton_answers.proofs.Watching.{automaton_lifted, automaton_refused}
+use Rattle.omega_watch.proofs.Watched.{none_watched, spares, watched_alike, watched_as, watched_behind}
 use Rattle.omega_automaton_answers.proofs.empty.decided.Goals as goal
 
 pub returns-clause-refused : goal.returns-clause-refused
 returns-clause-refused g c = IfErr-weaker c.verdict_of.result _ _ (λ refusal e. rw e tt) c.verdict_of.ensures.memory
 
-pub returns-in_err-solver-clause-refused : goal.returns-in_err-solver-clause-refused
-returns-in_err-solver-clause-refused g c =
-    let refused : IsEmptinessRefusal c.args.automaton c.args.budget c.in_err-solver.field-0.0 =
-    refused-prepare c.args.automaton c.args.budget c.in_ok-game.game _ c.in_ok-game.ensures.given c.in_ok-game.ensures.game
-    c.in_err-solver.ensures.refused in
-    refused_so c.from_residual-in_err-solver.result _ _ c.from_residual-in_err-solver.ensures.1 (λ refusal e. rw e refused)
-
 pub returns-in_err-found-clause-refused : goal.returns-in_err-found-clause-refused
 returns-in_err-found-clause-refused g c =
     let refused : IsEmptinessRefusal c.args.automaton c.args.budget c.in_err-found.field-0.0 =
-    refused-lifts c.args.automaton c.args.budget c.in_ok-game.game _ c.in_ok-game.ensures.given c.in_ok-game.ensures.game
-    (c.in_ok-solver.ensures.fits refl) c.in_err-found.ensures.refused in
+    refused-solving c.args.automaton c.args.budget c.in_ok-game.game _ c.in_ok-game.ensures.given c.in_ok-game.ensures.game
+    c.in_err-found.ensures.refused in
     refused_so c.from_residual-in_err-found.result _ _ c.from_residual-in_err-found.ensures.1 (λ refusal e. rw e refused)
 
 pub returns-in_err-game-clause-told : goal.returns-in_err-game-clause-told
@@ -34,22 +26,17 @@ returns-in_err-game-clause-told g c =
     watched_alike _ _ _ _ c.from_residual.result _ c.in_err-game.field-0.0 _ _ c.from_residual.ensures.1 (λ e same. same)
     (none_watched _ _ _ _ _ _ (spares (IsGameRefusal c.args.automaton) _ c.in_err-game.ensures.refused (λ no. no)))
 
-pub returns-in_err-solver-clause-told : goal.returns-in_err-solver-clause-told
-returns-in_err-solver-clause-told g c =
-    watched_alike _ _ _ _ c.from_residual-in_err-solver.result _ c.in_err-solver.field-0.0 _ _ c.from_residual-in_err-solver.ensures.1
-    (λ e same. same)
-    (none_watched _ _ _ _ _ _ (spares (IsPrepareRefusal Zero (priorities c.in_ok-game.game)) _ c.in_err-solver.ensures.refused
-    (λ no. (let e = no.0 in cc))))
-
 pub returns-in_err-found-clause-told : goal.returns-in_err-found-clause-told
 returns-in_err-found-clause-told g c =
     watched_alike _ _ _ _ c.from_residual-in_err-found.result _ c.in_err-found.field-0.0 _ _ c.from_residual-in_err-found.ensures.1 (λ e same. same)
-    (one_watched _ _ _ c.in_ok-game.game Zero c.args.budget _ _ _ (c.in_ok-game.ensures.game, one_made Zero _)
-    (rw c.in_err-found.was at c.found_watched.ensures.told))
+    (watched_as (LiftsGame c.in_ok-game.game) (LiftsAutomaton c.args.automaton) _ _ _ _ _ _
+    (automaton_lifted c.args.automaton c.in_ok-game.game (Some c.in_err-found.field-0.0) c.in_ok-game.ensures.game)
+    (rw c.in_err-found.was at c.found_in.ensures.told))
 
 pub returns-clause-told : goal.returns-clause-told
 returns-clause-told g c =
     watched_behind _ _ _ _ c.verdict_of.result (λ refusal. refusal ≡ Memory) _ _ c.verdict_of.ensures.memory (λ e. cc)
     (λ refusal other. automaton_refused c.args.automaton refusal other)
-    (one_watched _ _ _ c.in_ok-game.game Zero c.args.budget None _ _ (c.in_ok-game.ensures.game, one_made Zero None)
-    (rw c.in_ok-found.was at c.found_watched.ensures.told))
+    (watched_as (LiftsGame c.in_ok-game.game) (LiftsAutomaton c.args.automaton) _ _ _ _ _ _
+    (automaton_lifted c.args.automaton c.in_ok-game.game None c.in_ok-game.ensures.game)
+    (rw c.in_ok-found.was at c.found_in.ensures.told))

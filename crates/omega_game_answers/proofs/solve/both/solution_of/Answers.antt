@@ -1,73 +1,25 @@
--- `solution_of`: what was found for both players is a right solution, and what was refused is a fault of the game.
-use Rattle.std.proofs.Common.{◌≡◌, None, refl, ap, ◌∙◌, rules}
-use Rattle.omega_game.specs.declared.player.Player.TheVariants.{One, Zero}
+-- `solution_of`: a game that is too wide for neither player is solved in its other places.
+use Rattle.std.proofs.Common.{◌≡◌, None, refl, rules}
+use Rattle.omega_text.specs.declared.refusal.Refusal.TheVariants.{Memory}
 use Rattle.omega_game_answers.specs.declared.solve.asked.Asked.TheVariants.{Both}
 use Rattle.omega_game_answers.specs.steps.GameRefusal.{IsGameRefusal}
-use Rattle.omega_game_answers.specs.steps.Winners.{winners_of}
-use Rattle.omega_game_answers.proofs.Solving.{refused-budget}
-use Rattle.omega_game_answers.proofs.Solutions.{by_player, right_solution}
-use Rattle.omega_game.specs.Game.{priorities}
-use Rattle.omega_measure.specs.Table.{IsPrepareRefusal}
-use Rattle.omega_text.specs.declared.refusal.Refusal.TheVariants.{Memory}
-use Rattle.omega_watch.proofs.Watched.{first_made, none_watched, one_watched, run_refused, spares, two_made, two_watched, watched_alike}
+use Rattle.omega_game_answers.proofs.Solving.{refused-wide}
+use Rattle.omega_watch.proofs.Watched.{none_watched, spares, watched_alike}
 use Rattle.omega_game_answers.proofs.solve.both.solution_of.Goals as goal
 
-pub returns-in_err-zero-clause-refused : goal.returns-in_err-zero-clause-refused
-returns-in_err-zero-clause-refused g c =
-    let narrow = by_player c.args.game.now (c.in_ok-for_zero.ensures.fits refl) (c.in_ok-for_one.ensures.fits refl) in
-    let refused : IsGameRefusal c.args.game.now Both None c.args.budget c.in_err-zero.field-0.0 =
-    refused-budget c.args.game.now Both Zero c.args.budget _ (λ other _. narrow other) tt c.in_err-zero.ensures.refused in
+pub returns-in_err-fits_both-clause-refused : goal.returns-in_err-fits_both-clause-refused
+returns-in_err-fits_both-clause-refused g c =
+    let refused : IsGameRefusal c.args.game.now Both None c.args.budget c.in_err-fits_both.field-0.0 =
+    refused-wide c.args.game.now Both c.args.budget _ c.in_err-fits_both.ensures.refused in
     search rules
 
-pub returns-in_err-one-clause-refused : goal.returns-in_err-one-clause-refused
-returns-in_err-one-clause-refused g c =
-    let narrow = by_player c.args.game.now (c.in_ok-for_zero.ensures.fits refl) (c.in_ok-for_one.ensures.fits refl) in
-    let refused : IsGameRefusal c.args.game.now Both None c.args.budget c.in_err-one.field-0.0 =
-    refused-budget c.args.game.now Both One c.args.budget _ (λ other _. narrow other) tt c.in_err-one.ensures.refused in
-    search rules
+pub returns-in_err-fits_both-clause-told : goal.returns-in_err-fits_both-clause-told
+returns-in_err-fits_both-clause-told g c =
+    watched_alike _ _ _ _ c.from_residual.result _ c.in_err-fits_both.field-0.0 _ _ c.from_residual.ensures.1 (λ e same. same)
+    (none_watched _ _ _ _ _ _ (λ e. let same = c.in_err-fits_both.ensures.refused.0 in cc))
 
-pub returns-clause-right : goal.returns-clause-right
-returns-clause-right g c =
-    right_solution c.args.game.now c.args.budget c.in_ok-zero.zero c.in_ok-one.one _ c.keeps_limits.ensures.game
-    (c.in_ok-for_zero.ensures.fits refl) (c.in_ok-for_one.ensures.fits refl) c.in_ok-zero.ensures.found c.in_ok-one.ensures.found
-    (c.from_vec.ensures ∙ c.in_ok-winners.ensures.winners ∙ ap winners_of c.as_slice.ensures.value) c.from_vec-2.ensures
-    c.from_vec-3.ensures c.regions_are_apart.ensures c.regions_cover.ensures
+pub returns-in_err-renaming-clause-told : goal.returns-in_err-renaming-clause-told
+returns-in_err-renaming-clause-told g c =
+    watched_alike _ _ _ _ c.from_residual-in_err-renaming.result _ c.in_err-renaming.field-0.0 _ _ c.from_residual-in_err-renaming.ensures.1 (λ e same. same)
+    (none_watched _ _ _ _ _ _ (spares (λ refusal. refusal ≡ Memory) _ c.in_err-renaming.ensures.memory (λ e. cc)))
 
-pub returns-in_err-for_zero-clause-told : goal.returns-in_err-for_zero-clause-told
-returns-in_err-for_zero-clause-told g c =
-    watched_alike _ _ _ _ c.from_residual.result _ c.in_err-for_zero.field-0.0 _ _ c.from_residual.ensures.1 (λ e same. same)
-    (none_watched _ _ _ _ _ _ (spares (IsPrepareRefusal Zero (priorities c.args.game.now)) _ c.in_err-for_zero.ensures.refused
-    (λ no. (let e = no.0 in cc))))
-
-pub returns-in_err-for_one-clause-told : goal.returns-in_err-for_one-clause-told
-returns-in_err-for_one-clause-told g c =
-    watched_alike _ _ _ _ c.from_residual-in_err-for_one.result _ c.in_err-for_one.field-0.0 _ _ c.from_residual-in_err-for_one.ensures.1
-    (λ e same. same)
-    (none_watched _ _ _ _ _ _ (spares (IsPrepareRefusal One (priorities c.args.game.now)) _ c.in_err-for_one.ensures.refused
-    (λ no. (let e = no.0 in cc))))
-
-pub returns-in_err-zero-clause-told : goal.returns-in_err-zero-clause-told
-returns-in_err-zero-clause-told g c =
-    watched_alike _ _ _ _ c.from_residual-in_err-zero.result _ c.in_err-zero.field-0.0 _ _ c.from_residual-in_err-zero.ensures.1 (λ e same. same)
-    (one_watched _ _ _ c.args.game.now Zero c.args.budget _ _ _ (refl, first_made Zero One _)
-    (rw c.in_err-zero.was at c.found_watched.ensures.told))
-
-pub returns-in_err-one-clause-told : goal.returns-in_err-one-clause-told
-returns-in_err-one-clause-told g c =
-    watched_alike _ _ _ _ c.from_residual-in_err-one.result _ c.in_err-one.field-0.0 _ _ c.from_residual-in_err-one.ensures.1 (λ e same. same)
-    (two_watched _ _ _ c.args.game.now Zero One c.args.budget _ _ _ _ (refl, two_made Zero One _)
-    (rw c.in_ok-zero.was at c.found_watched.ensures.told) (rw c.in_err-one.was at c.found_watched-2.ensures.told))
-
-pub returns-in_err-winners-clause-told : goal.returns-in_err-winners-clause-told
-returns-in_err-winners-clause-told g c =
-    watched_alike _ _ _ _ c.from_residual-in_err-winners.result _ c.in_err-winners.field-0.0 _ _ c.from_residual-in_err-winners.ensures.1
-    (λ e same. same)
-    (two_watched _ _ _ c.args.game.now Zero One c.args.budget _ _ _ _ (refl, two_made Zero One _)
-    (rw c.in_ok-zero.was at c.found_watched.ensures.told)
-    (run_refused _ _ _ _ _ _ _ _ (spares (λ refusal. refusal ≡ Memory) _ c.in_err-winners.ensures.memory (λ e. cc))
-    (rw c.in_ok-one.was at c.found_watched-2.ensures.told)))
-
-pub returns-clause-told : goal.returns-clause-told
-returns-clause-told g c =
-    two_watched _ _ _ c.args.game.now Zero One c.args.budget _ _ _ _ (refl, two_made Zero One None)
-    (rw c.in_ok-zero.was at c.found_watched.ensures.told) (rw c.in_ok-one.was at c.found_watched-2.ensures.told)
