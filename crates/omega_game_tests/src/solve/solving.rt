@@ -4,6 +4,7 @@
 //! and the next one is lent what was prepared.
 use crate::samples::finish;
 use omega_game::{Game, GameBuilder, Player, Refusal, TaskFault, bound};
+use omega_rename::Renaming;
 use omega_solve::{
     Found, MOST_LIFTS, MeasureTable, Nested, Outcome, PackedTable, PlainTable, Schedule, Solver,
     Sweep, Worklist,
@@ -289,12 +290,37 @@ fn solves_by_all<R: Abort>(
     solves::<PackedTable, Nested, R>(rt, alloc, game, row, alike)
 }
 
+/// Asserts what a solver of the game with its places renamed finds, by the places of the row, if it is prepared.
+fn assert_renamed<R: Abort>(rt: &R, alloc: Global, renaming: &Renaming<'_>, row: &Row<'_>) {
+    match renaming.prepare::<PackedTable, Nested>(alloc, row.1) {
+        Ok(mut solver) => {
+            if let Outcome::Done = solver.run(solver.room()) {
+                let found = renaming.found_by(alloc, &solver);
+                let lifts = row.3.unwrap_or(solver.lifts());
+                assert!(rt; is_within(found, lifts, MOST_LIFTS, row.5));
+            } else {
+                assert!(rt; false, "a solver that is done");
+            }
+        }
+        Err(_) => assert!(rt; false, "a solver"),
+    }
+}
+
+/// Asserts that a game is solved with its places renamed.
+fn assert_solved_renamed<R: Abort>(rt: &R, alloc: Global, game: &Game, row: &Row<'_>) {
+    match Renaming::of(alloc, game) {
+        Ok(renaming) => assert_renamed(rt, alloc, &renaming, row),
+        Err(_) => assert!(rt; false, "a renaming"),
+    }
+}
+
 /// Asserts the bound of a row's game, and that it is solved.
 fn assert_solved<R: Abort>(rt: &R, alloc: Global, row: &Row<'_>) {
     match game_of(alloc, row.0) {
         Ok(game) => {
             assert!(rt; bound(&game, row.1) == Some(row.2));
             assert!(rt; solves_by_all(rt, alloc, &game, row).is_ok());
+            assert_solved_renamed(rt, alloc, &game, row);
         }
         Err(_) => assert!(rt; false, "a game"),
     }
