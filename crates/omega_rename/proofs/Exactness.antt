@@ -1,15 +1,15 @@
 -- The answer that a solver of the other game gives, by place, is exact.
-use Rattle.std.proofs.Common.{◌≡◌, ◌≢◌, ℕ, ◌+◌, ◌<◌, ◌≤◌, ◌⊎◌, inl, inr, Bool, true, false, List, [], ◌∷◌, None, Some, Option, Contains, IfSome, IsSome, is_some, length, map, get_or, slice_get, option_map, refl, sym, ap, ap₂, subst, ◌∙◌, arith}
+use Rattle.std.proofs.Common.{◌≡◌, ℕ, ◌<◌, ◌≤◌, ◌⊎◌, inl, inr, Bool, true, false, List, [], ◌∷◌, None, Some, Option, Contains, IfSome, IsSome, is_some, length, map, get_or, slice_get, option_map, refl, sym, ap, ap₂, subst, ◌∙◌, arith}
 use Rattle.std.proofs.lemmas.Bool.{cases_lt}
-use Rattle.std.proofs.lemmas.List.{ext_get_or, get_or-map, get_or_past, length-map}
+use Rattle.std.proofs.lemmas.List.{get_or-map, get_or_past, length-map}
 use Rattle.std.proofs.lemmas.Option.{get_or_from_slice_get, slice_get-get_or, slice_get_past}
 use Rattle.omega_game.specs.declared.player.Player.{Player}
-use Rattle.omega_game.specs.Game.{Node, HasEdge, IsGame, owner_at, priorities, successors_at}
+use Rattle.omega_game.specs.Game.{Node, HasEdge, IsGame, successors_at}
 use Rattle.omega_game.specs.Winning.{Chooses, IsStrategy}
 use Rattle.omega_lift.specs.Allowance.{IsAllowanceOf, measure_at}
 use Rattle.omega_lift.specs.Answer.{AreChoices, IsFirstLeast, won_in}
 use Rattle.omega_lift.specs.Measure.{Measure}
-use Rattle.omega_solve.specs.Headline.{DealsOut, Headline, IsExact, Runs}
+use Rattle.omega_solve.specs.Headline.{DealsOut, Headline, IsExact}
 use Rattle.omega_solve.specs.Solver.{State, IsFinished, IsReached, start_of}
 use Rattle.omega_rename.specs.Laws.{Follows}
 use Rattle.omega_rename.specs.Renaming.{IsRenaming, choices_by_place, measures_by_place, state_by_place}

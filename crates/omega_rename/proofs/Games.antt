@@ -1,10 +1,10 @@
 -- Renamed games: renaming back, their edges, and their priorities.
-use Rattle.std.proofs.Common.{◌≡◌, ℕ, ◌<◌, inl, inr, List, Contains, length, map, get_or, slice_index, refl, sym, ap, ap₂, subst, ◌*◌, nat_lt, Err, IfErr, Ok, Result, ◌∙◌, arith}
+use Rattle.std.proofs.Common.{◌≡◌, ℕ, ◌<◌, inl, inr, List, Contains, length, map, get_or, refl, sym, ap, ap₂, subst, ◌*◌, nat_lt, Err, IfErr, Ok, Result, ◌∙◌, arith}
 use Rattle.std.proofs.lemmas.List.{get_or-map, get_or_past, length-map}
 use Rattle.std.proofs.lemmas.Bool.{cases_lt}
 use Rattle.omega_game.specs.declared.player.Player.{Player}
 use Rattle.omega_game.specs.Bound.{bound_of}
-use Rattle.omega_game.specs.Game.{Node, HasEdge, IsGame, no_node, node_at, owner_at, priorities, priority_at, successors_at}
+use Rattle.omega_game.specs.Game.{Node, HasEdge, no_node, node_at, priorities, successors_at}
 use Rattle.omega_game.proofs.elements.Membership.{Contains-nothing, Contains-under, map-Contains, map-map, map_same}
 use Rattle.std.specs.List.{range_with_len}
 use Rattle.std.proofs.lemmas.List.FromFn.{get_or-range_with_len, length-range_with_len}
@@ -12,7 +12,7 @@ use Rattle.omega_text.specs.declared.refusal.Refusal.{Refusal}
 use Rattle.omega_text.specs.declared.refusal.Refusal.TheVariants.{Automaton, Game, Io, Memory, Task, Text}
 use Rattle.omega_measure.specs.Limits.{most_cells}
 use Rattle.omega_measure.specs.Table.{IsPrepareRefusal, is_too_wide}
-use Rattle.omega_order.specs.Ranking.{AreInverse, LeadsBack}
+use Rattle.omega_order.specs.Ranking.{LeadsBack}
 use Rattle.omega_rename.specs.Renaming.{IsMoved, IsRenaming}
 use Rattle.omega_rename.proofs.Priorities.{AreAlike, alike_renamed, bounds_alike}
 

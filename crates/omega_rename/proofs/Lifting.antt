@@ -1,9 +1,9 @@
 -- Lifts in the other game are lifts in the game itself.
-use Rattle.std.proofs.Common.{◌≡◌, ◌≢◌, ℕ, ◌<◌, ◌⊎◌, inl, inr, List, [], ◌∷◌, None, Some, Contains, length, map, replicate, get_or, set, refl, sym, ap, subst, ◌∙◌, arith}
-use Rattle.std.proofs.lemmas.Bool.{cases_eq, cases_lt}
+use Rattle.std.proofs.Common.{◌≡◌, ℕ, ◌<◌, inl, inr, List, [], ◌∷◌, None, length, map, get_or, set, sym, ap, subst, ◌∙◌, arith}
+use Rattle.std.proofs.lemmas.Bool.{cases_eq}
 use Rattle.std.proofs.lemmas.List.{ext_get_or, get_or-map, get_or-set_other, get_or-set_same, get_or-replicate, length-map, length-replicate, length-set}
 use Rattle.omega_game.specs.declared.player.Player.{Player}
-use Rattle.omega_game.specs.Game.{Node, HasEdge, IsGame, node_at, owner_at, priorities, priority_at}
+use Rattle.omega_game.specs.Game.{Node, IsGame, owner_at, priorities, priority_at}
 use Rattle.omega_lift.specs.Allowance.{IsAllowance, IsAllowanceOf, IsLiftValue, measure_at}
 use Rattle.omega_lift.specs.Measure.{IsAbove, Measure, zero_measure}
 use Rattle.omega_lift.specs.Run.{IsDue, IsRun, IsStable, Lifts, zero_table}
@@ -110,7 +110,7 @@ module _ (nodes other : List Node) (ranks places : List ℕ) (renaming : IsRenam
     place_below nodes other ranks places renaming r lt,
     lifts_at_place old r x lt lifts,
     subst (λ (table : List Measure). IsRun nodes player table (map (λ i. get_or places i 0) ranked) (measures_by_place ranks new)) (set_here old r x long lt)
-    (run_here (set old r x) new ranked (length-set old r x ∙ long) run),
+        (run_here (set old r x) new ranked (length-set old r x ∙ long) run),
   )
 
   -- the all-zero table by place is the all-zero table

@@ -1,5 +1,5 @@
 -- The game that is built of the nodes by rank is the game with each node at its rank.
-use Rattle.std.proofs.Common.{◌≡◌, ℕ, ◌+◌, ◌*◌, ◌<◌, ◌≤◌, All, IfErr, IfOk, IsOkUnless, List, [], ◌∷◌, ◌++◌, None, Result, Ok, Err, Contains, length, map, take, get_or, sum_by, refl, sym, ap, subst, ◌∙◌, arith}
+use Rattle.std.proofs.Common.{◌≡◌, ℕ, ◌+◌, ◌<◌, ◌≤◌, IfErr, IfOk, IsOkUnless, List, [], ◌∷◌, ◌++◌, None, Result, Ok, Err, Contains, length, map, take, get_or, refl, sym, ap, subst, ◌∙◌, arith}
 use Rattle.std.specs.List.{range_with_len}
 use Rattle.std.proofs.lemmas.List.{get_or-map, get_or_default, take_more, length-map, map_more}
 use Rattle.std.proofs.lemmas.List.Elements.{Contains-get_or}
@@ -11,8 +11,8 @@ use Rattle.std.specs.List.Sorted.{IsPermutation}
 use Rattle.omega_game.specs.declared.node_spec.NodeSpec.{NodeSpec}
 use Rattle.omega_game.specs.declared.Refusal.{Refusal}
 use Rattle.omega_game.specs.declared.Refusal.TheVariants.{Memory}
-use Rattle.omega_game.specs.Building.{IsBuildRefusal, IsGameOf, fault_of, specified, with_last, with_successor}
-use Rattle.omega_game.specs.Game.{Node, HasEdge, IsGame, IsWithinLimits, IsWritable, edge_count, identifiers, no_node, node_at, owner_at, priority_at, successors_at}
+use Rattle.omega_game.specs.Building.{IsBuildRefusal, IsGameOf, specified, with_last, with_successor}
+use Rattle.omega_game.specs.Game.{Node, IsGame, IsWithinLimits, IsWritable, identifiers, no_node, node_at, owner_at, priority_at, successors_at}
 use Rattle.omega_game.specs.Laws.{GamesHaveNoFault, SpecificationsHaveOneGame}
 use Rattle.omega_game.proofs.elements.Membership.{map-Contains, map_same}
 use Rattle.omega_game.proofs.parts.PartGames.{memory_alone}
@@ -84,8 +84,12 @@ module _ (nodes : List Node) (ranks places : List ℕ) (game : IsGame nodes) (li
     continued = λ r lt.
         let below : r < length nodes = omega (arith, lt, long) in
         let some = game.continued (get_or places r 0) (place_below r below) in
-        omega (arith, some, length-map (successors_at nodes (get_or places r 0)) (λ w. get_or ranks w 0),
-        ap (λ (node : Node). length node.successors) (at_rank r below));
+        omega (
+          arith,
+          some,
+          length-map (successors_at nodes (get_or places r 0)) (λ w. get_or ranks w 0),
+          ap (λ (node : Node). length node.successors) (at_rank r below),
+        );
     closed = λ r u edge.
         let below : r < length nodes = omega (arith, edge_from by_rank r u edge, long) in
         omega (arith, long, successor_below r u below (subst (λ (node : Node). Contains node.successors u) (at_rank r below) edge));
@@ -119,9 +123,12 @@ module _ (nodes : List Node) (ranks places : List ℕ) (game : IsGame nodes) (li
   pub limits_by_rank : IsWithinLimits by_rank
   limits_by_rank = record {
     few_nodes = omega (arith, limits.few_nodes, long);
-    few_edges = omega (arith, limits.few_edges,
-    sum_fits (λ (node : Node). length node.successors) by_rank nodes no_node places ranks back (placed ∙ sym long) ranked
-    (λ r lt. edges_at r (omega (arith, lt, long))));
+    few_edges = omega (
+      arith,
+      limits.few_edges,
+      sum_fits (λ (node : Node). length node.successors) by_rank nodes no_node places ranks back (placed ∙ sym long) ranked
+          (λ r lt. edges_at r (omega (arith, lt, long))),
+    );
     writable = λ r d lt.
         let below : r < length nodes = omega (arith, lt, long) in
         let old : IsWritable (node_at nodes (get_or places r 0)) = limits.writable (get_or places r 0) no_node (place_below r below) in

@@ -1,11 +1,11 @@
 -- Nodes' priorities in another order: the same are borne, by as many nodes, so that measures and allowances are the same.
-use Rattle.std.proofs.Common.{◌≡◌, ℕ, zero, suc, ◌+◌, ◌*◌, ◌<◌, ◌≤◌, ◌==◌, Bool, true, false, not, cond, IsTrue, List, [], ◌∷◌, None, Some, Option, length, map, max, fold, filter, count_by, replicate, sum_by, get_or, nat_lt, nat_le, take, option_map, refl, sym, ap, ap₂, subst, ◌∙◌, arith}
+use Rattle.std.proofs.Common.{◌≡◌, ℕ, zero, suc, ◌+◌, ◌*◌, ◌<◌, ◌≤◌, ◌==◌, Bool, not, cond, IsTrue, List, [], ◌∷◌, None, Some, length, map, max, fold, filter, count_by, replicate, sum_by, get_or, nat_lt, nat_le, take, option_map, refl, sym, ap, ap₂, subst, ◌∙◌, arith}
 use Rattle.std.specs.Ordering.{is_gt, is_lt}
 use Rattle.omega_game.specs.declared.player.Player.{Player}
 use Rattle.omega_game.specs.Bound.{bearers, below_falling, borne_priorities, bound_of, greatest, losing_priorities, product, product_of}
 use Rattle.omega_game.specs.Player.{loses}
 use Rattle.omega_lift.specs.Allowance.{IsAllowance, suffices}
-use Rattle.omega_lift.specs.Measure.{AreEntries, IsMeasure, Measure, compare, compare_from, entries_from, zero_measure}
+use Rattle.omega_lift.specs.Measure.{IsMeasure, Measure, compare, compare_from, entries_from, zero_measure}
 use Rattle.omega_order.specs.Ranking.{AreInverse}
 use Rattle.omega_rename.proofs.Weights.{sum_fits}
 
@@ -53,18 +53,23 @@ module _ (numbers others ranks places : List ℕ) (inverse : AreInverse ranks pl
 
   sums_same : (f : ℕ → ℕ) → (sum_by f numbers) ≡ (sum_by f others)
   sums_same f =
-      omega (arith, sum_fits f numbers others 0 ranks places inverse ranked (placed ∙ sym entries) (λ v lt. ap f (same v lt)),
-      sum_fits f others numbers 0 places ranks back (placed ∙ sym entries) ranked (λ r lt. ap f (same_back r lt)))
+      omega (
+        arith,
+        sum_fits f numbers others 0 ranks places inverse ranked (placed ∙ sym entries) (λ v lt. ap f (same v lt)),
+        sum_fits f others numbers 0 places ranks back (placed ∙ sym entries) ranked (λ r lt. ap f (same_back r lt)),
+      )
 
   greatest_same : greatest numbers ≡ greatest others
   greatest_same =
-      omega (arith,
+      omega (
+        arith,
         greatest_below 0 numbers (greatest others) (omega arith) (λ i lt.
             let there : get_or ranks i 0 < length others = omega (arith, (inverse.ranked i (omega (arith, lt, ranked))).0, placed, entries) in
             omega (arith, same i lt, below_greatest 0 others (get_or ranks i 0) there)),
         greatest_below 0 others (greatest numbers) (omega arith) (λ r lt.
             let there : get_or places r 0 < length numbers = omega (arith, (inverse.placed r (omega (arith, lt, entries, placed))).0, ranked) in
-            omega (arith, same_back r lt, below_greatest 0 numbers (get_or places r 0) there)))
+            omega (arith, same_back r lt, below_greatest 0 numbers (get_or places r 0) there)),
+      )
 
   borne_same : borne_priorities numbers ≡ borne_priorities others
   borne_same =

@@ -1,5 +1,5 @@
 -- How the other game is built.
-use Rattle.std.specs.Prelude.{ℕ, List, None, length, map, slice_index}
+use Rattle.std.specs.Prelude.{ℕ, List, None, map, slice_index}
 use Rattle.std.specs.List.{range_with_len}
 use Rattle.omega_game.specs.declared.node_spec.NodeSpec.{NodeSpec}
 use Rattle.omega_game.specs.Game.{Node, owner_at, priority_at, successors_at}

@@ -1,13 +1,10 @@
 -- What holds of solvers of renamed games, whatever the code does.
-use Rattle.std.specs.Prelude.{◌≡◌, ℕ, List, Option}
+use Rattle.std.specs.Prelude.{◌≡◌, ℕ, List}
 use Rattle.omega_game.specs.declared.player.Player.{Player}
 use Rattle.omega_game.specs.Bound.{bound_of}
 use Rattle.omega_game.specs.Game.{Node, IsGame, priorities}
-use Rattle.omega_lift.specs.Answer.{AreChoices, won_in}
-use Rattle.omega_measure.specs.Table.{is_too_wide}
-use Rattle.omega_solve.specs.Headline.{IsExact}
 use Rattle.omega_solve.specs.Solver.{State, HasLiftDue, IsFinished, IsReached}
-use Rattle.omega_rename.specs.Renaming.{IsRenaming, choices_by_place, state_by_place}
+use Rattle.omega_rename.specs.Renaming.{IsRenaming, state_by_place}
 
 -- the same lifts were made: a lifting run leads to this table too, and where no lift is due, or one is, so it is here
 pub record Follows (state other : State) : Type 0 where

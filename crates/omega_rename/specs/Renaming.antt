@@ -4,7 +4,6 @@ use Rattle.omega_game.specs.Game.{Node, node_at, priorities}
 use Rattle.omega_lift.specs.Allowance.{measure_at}
 use Rattle.omega_lift.specs.Measure.{Measure}
 use Rattle.omega_order.specs.Ranking.{AreInverse}
-use Rattle.omega_solve.specs.Schedule.{Pending}
 use Rattle.omega_solve.specs.Solver.{State}
 
 -- the same node where each place has a rank: its priority, its owner, and its successors in the order listed

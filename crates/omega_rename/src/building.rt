@@ -10,11 +10,7 @@ use omega_order::Ranking;
 use std::alloc::Global;
 
 /// The game with each node at its rank. 60 alone.
-pub(crate) fn renamed_game(
-    alloc: Global,
-    game: &Game,
-    ranking: &Ranking,
-) -> Result<Game, Refusal>
+pub(crate) fn renamed_game(alloc: Global, game: &Game, ranking: &Ranking) -> Result<Game, Refusal>
     requires ranked { length ranking.now.ranks ≡ length game.now }
     ensures renamed { IfOk result (λ other. IsRenaming game.now other ranking.now.ranks ranking.now.places) }
     ensures memory { IsOkUnless result Refusal.Memory }

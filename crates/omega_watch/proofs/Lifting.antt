@@ -1,5 +1,5 @@
 -- What a new solver has done within a budget is what is found, or why nothing is.
-use Rattle.std.proofs.Common.{◌≡◌, ◌↔◌, ◌+◌, ◌≤◌, ◌∙◌, ℕ, Bool, true, List, Option, Result, Ok, Err, IfOk, IsOkUnless, ap, arith, inl, inr, refl, subst, sym}
+use Rattle.std.proofs.Common.{◌≡◌, ◌↔◌, ◌+◌, ◌≤◌, ◌∙◌, ℕ, true, List, Option, Result, Ok, Err, IfOk, IsOkUnless, ap, arith, inl, inr, refl, subst, sym}
 use Rattle.std.proofs.lemmas.Bool.{cases_Bool}
 use Rattle.omega_game.specs.declared.player.Player.{Player}
 use Rattle.omega_game.specs.Bound.{bound_of}

@@ -77,9 +77,25 @@ fn lifted_solution<T: MeasureTable, S: Schedule, L, W: Watch<L>>(
     regions_cover();
     game.keeps_limits();
     let for_zero: Solver<'_, T, S> = renaming.prepare(alloc, Player::Zero)?;
-    let zero = found_watched(alloc, for_zero, renaming, Player::Zero, budget, watch, listener)?;
+    let zero = found_watched(
+        alloc,
+        for_zero,
+        renaming,
+        Player::Zero,
+        budget,
+        watch,
+        listener,
+    )?;
     let for_one: Solver<'_, T, S> = renaming.prepare(alloc, Player::One)?;
-    let one = found_watched(alloc, for_one, renaming, Player::One, budget, watch, listener)?;
+    let one = found_watched(
+        alloc,
+        for_one,
+        renaming,
+        Player::One,
+        budget,
+        watch,
+        listener,
+    )?;
     let winners = winners_of(alloc, zero.won.as_slice())?;
     Ok(Solution {
         winners: Seq::from_vec(winners),

@@ -1,9 +1,9 @@
 -- The node with a rank is specified with its successors' ranks.
-use Rattle.std.proofs.Common.{◌≡◌, ◌<◌, ◌≤◌, ◌∙◌, ◌++◌, ◌∷◌, [], List, ap, arith, get_or, length, subst, sym, take, ℕ}
+use Rattle.std.proofs.Common.{◌<◌, ◌≤◌, ◌∙◌, ◌++◌, ◌∷◌, [], ap, arith, get_or, length, subst, sym, ℕ}
 use Rattle.omega_game.specs.declared.node_spec.NodeSpec.{NodeSpec}
 use Rattle.omega_game.specs.Building.{with_last, with_successor}
 use Rattle.omega_text.specs.Limits.{most_number}
-use Rattle.omega_rename.proofs.Nodes.{first_ranked, listed_below, rank_is_number, ranked_more, some_listed, with_ranked}
+use Rattle.omega_rename.proofs.Nodes.{first_ranked, listed_below, rank_is_number, ranked_more, some_listed}
 use Rattle.omega_rename.proofs.building.add_ranked.Goals as goal
 
 pub successors-successors-requires : goal.successors-successors-requires
@@ -56,8 +56,12 @@ loop-index-init c =
 
 pub rank-next-requires : goal.rank-next-requires
 rank-next-requires c =
-    omega (arith, c.requires.ranked, listed_below c.args.game.now c.place-place.result c.loop-index.index c.successors-successors.result.now c.requires.game c.successors-successors.ensures
-    (omega (arith, c.loop-index-test.true)))
+    omega (
+      arith,
+      c.requires.ranked,
+      listed_below c.args.game.now c.place-place.result c.loop-index.index c.successors-successors.result.now c.requires.game c.successors-successors.ensures
+          (omega (arith, c.loop-index-test.true)),
+    )
 
 pub add_successor-requires-clause-successor : goal.add_successor-requires-clause-successor
 add_successor-requires-clause-successor c =

@@ -1,5 +1,5 @@
 -- A solver that is done found an exact answer within the budget, by place.
-use Rattle.std.proofs.Common.{◌≡◌, ◌∙◌, List, ap, refl, subst}
+use Rattle.std.proofs.Common.{◌∙◌, List, ap, refl, subst}
 use Rattle.omega_game.specs.Game.{Node}
 use Rattle.omega_solve.specs.declared.outcome.Outcome.TheVariants.{Done, Spent}
 use Rattle.omega_rename.specs.Renaming.{state_by_place}

@@ -1,5 +1,5 @@
 -- `solution_of`: a game that is too wide for neither player is solved in its other places.
-use Rattle.std.proofs.Common.{◌≡◌, None, refl, rules}
+use Rattle.std.proofs.Common.{◌≡◌, None, rules}
 use Rattle.omega_text.specs.declared.refusal.Refusal.TheVariants.{Memory}
 use Rattle.omega_game_answers.specs.declared.solve.asked.Asked.TheVariants.{Both}
 use Rattle.omega_game_answers.specs.steps.GameRefusal.{IsGameRefusal}
@@ -22,4 +22,3 @@ pub returns-in_err-renaming-clause-told : goal.returns-in_err-renaming-clause-to
 returns-in_err-renaming-clause-told g c =
     watched_alike _ _ _ _ c.from_residual-in_err-renaming.result _ c.in_err-renaming.field-0.0 _ _ c.from_residual-in_err-renaming.ensures.1 (λ e same. same)
     (none_watched _ _ _ _ _ _ (spares (λ refusal. refusal ≡ Memory) _ c.in_err-renaming.ensures.memory (λ e. cc)))
-

@@ -1,5 +1,5 @@
 -- `solve_one`: what was found for the player is a right answer, and what was refused is a fault of the game.
-use Rattle.std.proofs.Common.{◌≡◌, None, Some, List, Bool, ap, length, refl, rules, subst, sym, true, ℕ}
+use Rattle.std.proofs.Common.{◌≡◌, None, Some, List, Bool, refl, rules, subst, true}
 use Rattle.std.specs.List.{slice_get}
 use Rattle.std.proofs.lemmas.Result.{IfOk-weaker}
 use Rattle.omega_game.specs.Game.{priorities}

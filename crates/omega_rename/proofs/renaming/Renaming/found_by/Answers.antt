@@ -1,10 +1,8 @@
 -- What is found at ranks, said by place, is an exact answer.
-use Rattle.std.proofs.Common.{◌≡◌, ◌∙◌, Bool, IfSome, List, None, Option, ap, get_or, length, subst, sym, ℕ, ◌<◌}
-use Rattle.omega_game.specs.declared.player.Player.{Player}
+use Rattle.std.proofs.Common.{◌≡◌, ◌∙◌, IfSome, List, None, ap, get_or, length, subst, sym, ℕ, ◌<◌}
 use Rattle.omega_game.specs.Game.{Node}
 use Rattle.omega_game.specs.Winning.{IsStrategy}
-use Rattle.omega_lift.specs.Answer.{AreChoices, won_in}
-use Rattle.omega_solve.specs.Headline.{IsExact}
+use Rattle.omega_lift.specs.Answer.{won_in}
 use Rattle.omega_rename.specs.Renaming.{IsRenaming, choices_by_place, flags_by_place, measures_by_place}
 use Rattle.omega_rename.proofs.Exactness.{choices_below, exact_here, won_here}
 use Rattle.omega_rename.proofs.renaming.Renaming.found_by.Goals as goal
