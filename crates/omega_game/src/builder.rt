@@ -62,8 +62,8 @@ impl GameBuilder {
     }
 
     /// No specification, and room for so many with so many successors in all: adding them asks for no memory, and the room
-    /// is no more than they need. Names have none. `Memory` where a request for memory is refused, as where the room is
-    /// beyond what there is.
+    /// is no more than they need, which is in no contract. Names have none. `Memory` where a request for memory is refused,
+    /// as where the room is beyond what there is.
     pub fn with_room(alloc: Global, nodes: usize, successors: usize) -> Result<Self, Refusal>
         ensures empty { IfOk result (λ builder. builder ≡ []) }
         ensures memory { IsOkUnless result Refusal.Memory }

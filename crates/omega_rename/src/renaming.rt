@@ -1,14 +1,9 @@
-ghost use Rattle.std.specs.Prelude.{◌≡◌, true, false, IfOk, IfErr, IsOk, IsOkUnless};
-ghost use Rattle.omega_game.specs.Game.{IsGame, priorities};
-ghost use Rattle.omega_measure.specs.Table.{IsPrepareRefusal, is_too_wide};
-ghost use Rattle.omega_order.specs.Ranking.{AreInverse};
-ghost use Rattle.omega_solve.specs.Headline.{IsExact};
-ghost use Rattle.omega_solve.specs.Solver.{start_of};
+ghost use Rattle.std.specs.Prelude.{◌≡◌, IfOk, IsOkUnless};
+ghost use Rattle.omega_game.specs.Game.{IsGame};
 
 use crate::building::renamed_game;
-use omega_game::{Game, Player, Refusal};
+use omega_game::{Game, Refusal};
 use omega_order::Ranking;
-use omega_solve::{MeasureTable, Schedule, Solver};
 use std::alloc::Global;
 use std::marker::Model;
 
