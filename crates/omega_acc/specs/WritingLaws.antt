@@ -1,16 +1,16 @@
 -- How written expressions are read back (docs/formats.md, labels and acceptance formulas): the canonical text of a tree is the tokens of one expression as it is written, which means that tree.
 use Rattle.std.specs.Prelude.{◌≡◌, ◌≢◌, ℕ, ◌+◌, ◌≤◌, Bool, false, nat_le, nat_lt, if◌then◌else◌, List, [], ◌∷◌, ◌++◌, Some, codes, drop, length, map, slice_index}
-use Rattle.omega_acc.specs.AccMeaning.{acc_meant}
-use Rattle.omega_acc.specs.AccReading.{IsAccOf, acc_spelled}
-use Rattle.omega_acc.specs.Acceptance.{AccTree}
-use Rattle.omega_acc.specs.Acceptance as acc
-use Rattle.omega_acc.specs.Expanding.{Defined, Entry, Meaning, expansion, replaced}
-use Rattle.omega_acc.specs.Label.{LabelTree, conjunction, constant, disjunction, negation, proposition}
-use Rattle.omega_acc.specs.RawAcc.{RawAccTree, raw_acc_depth}
-use Rattle.omega_acc.specs.RawAcc as raw_acc
-use Rattle.omega_acc.specs.RawLabel.{RawLabelTree, raw_depth}
-use Rattle.omega_acc.specs.RawLabel as raw
-use Rattle.omega_acc.specs.Reading.{IsOf, spelled}
+use Rattle.omega_acc.specs.formula.Meaning.{acc_meant}
+use Rattle.omega_acc.specs.formula.Reading.{IsAccOf, acc_spelled}
+use Rattle.omega_acc.specs.formula.Acceptance.{AccTree}
+use Rattle.omega_acc.specs.formula.Acceptance as acc
+use Rattle.omega_acc.specs.label.Expanding.{Defined, Entry, Meaning, expansion, replaced}
+use Rattle.omega_acc.specs.label.Label.{LabelTree, conjunction, constant, disjunction, negation, proposition}
+use Rattle.omega_acc.specs.formula.Raw.{RawAccTree, raw_acc_depth}
+use Rattle.omega_acc.specs.formula.Raw as raw_acc
+use Rattle.omega_acc.specs.label.Raw.{RawLabelTree, raw_depth}
+use Rattle.omega_acc.specs.label.Raw as raw
+use Rattle.omega_acc.specs.label.Reading.{IsOf, spelled}
 use Rattle.omega_acc.specs.Symbols.{Symbol, disjunctive, symbol_of}
 use Rattle.omega_acc.specs.Writing.{acc_text, label_text}
 use Rattle.omega_text.specs.Cut.{Cuts}

@@ -1,9 +1,24 @@
+//! Labels: read, expanded, held in little memory, and whether they can be true.
+
 ghost use Rattle.std.specs.Prelude.{◌≡◌, ◌<◌, ◌≤◌, Some, length, slice_get, IfErr, IfOk};
 ghost use Rattle.omega_acc.specs.Depth.{IsMemory};
 
-use crate::codes::ROOM;
-use crate::compact::Compact;
-use crate::notation::Notation;
+pub(crate) mod aliases;
+pub(crate) mod codes;
+pub(crate) mod compact;
+pub(crate) mod expansion;
+pub(crate) mod extents;
+pub(crate) mod mentioned;
+pub(crate) mod notation;
+pub(crate) mod raw;
+pub(crate) mod reading;
+pub(crate) mod satisfying;
+pub(crate) mod unfinished;
+pub(crate) mod words;
+
+use crate::label::codes::ROOM;
+use crate::label::compact::Compact;
+use crate::label::notation::Notation;
 use omega_text::{Refusal, Seq};
 use std::alloc::Global;
 use std::marker::Model;
@@ -35,8 +50,8 @@ pub struct Label {
 const _: () = prove!(std::mem::size_of::<Label>() <= 24);
 
 impl Model for Label {
-    ghost use Rattle.omega_acc.specs.Label.{LabelTree};
-    ghost use Rattle.omega_acc.specs.layout.Label.{IsLabel, label_code, tree_of};
+    ghost use Rattle.omega_acc.specs.label.Label.{LabelTree};
+    ghost use Rattle.omega_acc.specs.layout.label.Label.{IsLabel, label_code, tree_of};
 
     ghost Value = { LabelTree };
 
@@ -48,9 +63,9 @@ impl Model for Label {
 }
 
 impl Label {
-    ghost use Rattle.omega_acc.specs.Label.{label_depth, label_size};
+    ghost use Rattle.omega_acc.specs.label.Label.{label_depth, label_size};
     ghost use Rattle.omega_acc.specs.Limits.{most_depth};
-    ghost use Rattle.omega_acc.specs.layout.Label.{IsLabel, postfix, tree_of};
+    ghost use Rattle.omega_acc.specs.layout.label.Label.{IsLabel, postfix, tree_of};
 
     /// The count of its atoms and operators.
     pub fn size(&self) -> usize
@@ -105,7 +120,7 @@ impl PartialEq for Label {
     ghost use Rattle.std.proofs.Common.{rules};
     ghost use Rattle.omega_acc.specs.contracts.label.LabelNodePartialEq.TheImpl as node;
     ghost use Rattle.omega_acc.specs.contracts.label.LabelNodePartialEq.TheImpl.Laws.{laws-law};
-    ghost use Rattle.omega_acc.specs.layout.Label.{postfix};
+    ghost use Rattle.omega_acc.specs.layout.label.Label.{postfix};
 
     ghost eq = { on postfix (pointwise node.ghosts.eq) };
 

@@ -1,8 +1,8 @@
 //! What holds of every kind and of all tokens: each call does nothing and states one law.
 
-ghost use Rattle.omega_acc.specs.AccReading.{FormulasAreOne};
-ghost use Rattle.omega_acc.specs.KindLaws.{BuchiIsEverySet, ParityIsPriority};
-ghost use Rattle.omega_acc.specs.Reading.{LabelsAreOne};
+ghost use Rattle.omega_acc.specs.formula.Reading.{FormulasAreOne};
+ghost use Rattle.omega_acc.specs.formula.KindLaws.{BuchiIsEverySet, ParityIsPriority};
+ghost use Rattle.omega_acc.specs.label.Reading.{LabelsAreOne};
 ghost use Rattle.omega_acc.specs.WritingLaws.{AccTextsAreFormulas, LabelTextsAreLabels, WrittenFormulasAreShallowest, WrittenFormulasMean, WrittenLabelsAreShallowest, WrittenLabelsMean};
 
 use omega_text::HoaKind;

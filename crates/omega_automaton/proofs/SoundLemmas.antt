@@ -4,13 +4,13 @@ use Rattle.std.specs.List.{cons_option, filter_map, list_any, slice_get}
 use Rattle.std.proofs.lemmas.Bool.{false≢true}
 use Rattle.std.proofs.lemmas.List.Folds.{list_any_at}
 use Rattle.omega_text.specs.declared.refusal.automaton.AutomatonFault.TheVariants.{AcceptanceAtom, Alias, Expansion, MissingAcceptance, TooDeep}
-use Rattle.omega_acc.specs.AccMeaning.{acc_meant, fault_of_meant}
-use Rattle.omega_acc.specs.Acceptance.{AccTree}
-use Rattle.omega_acc.specs.Expanding.{Defined, Meaning, expansion}
-use Rattle.omega_acc.specs.Label.{label_size}
+use Rattle.omega_acc.specs.formula.Meaning.{acc_meant, fault_of_meant}
+use Rattle.omega_acc.specs.formula.Acceptance.{AccTree}
+use Rattle.omega_acc.specs.label.Expanding.{Defined, Meaning, expansion}
+use Rattle.omega_acc.specs.label.Label.{label_size}
 use Rattle.omega_acc.specs.Limits.{most_depth, most_size}
-use Rattle.omega_acc.specs.RawAcc.{raw_acc_depth}
-use Rattle.omega_acc.specs.RawLabel.{RawLabelTree}
+use Rattle.omega_acc.specs.formula.Raw.{raw_acc_depth}
+use Rattle.omega_acc.specs.label.Raw.{RawLabelTree}
 use Rattle.omega_raw.specs.declared.raw_automaton.RawAutomaton.{RawAutomaton}
 use Rattle.omega_raw.specs.declared.raw_edge.RawEdge.{RawEdge}
 use Rattle.omega_raw.specs.declared.raw_item.RawItem.{RawItem}

@@ -1,11 +1,11 @@
 -- An automaton that is written means at most one automaton.
 use Rattle.std.proofs.Common.{◌≡◌, ℕ, List, [], ◌∷◌, Option, Some, None, refl, ap, sym, ◌∙◌}
 use Rattle.std.specs.List.{AllZip}
-use Rattle.omega_acc.specs.Acceptance.{AccTree}
-use Rattle.omega_acc.specs.Expanding.{Defined}
-use Rattle.omega_acc.specs.Label.{LabelTree}
-use Rattle.omega_acc.specs.RawLabel.{RawLabelTree}
-use Rattle.omega_acc.specs.declared.acc_name.AccName.{AccName}
+use Rattle.omega_acc.specs.formula.Acceptance.{AccTree}
+use Rattle.omega_acc.specs.label.Expanding.{Defined}
+use Rattle.omega_acc.specs.label.Label.{LabelTree}
+use Rattle.omega_acc.specs.label.Raw.{RawLabelTree}
+use Rattle.omega_acc.specs.declared.formula.name.AccName.{AccName}
 use Rattle.omega_raw.specs.declared.raw_automaton.RawAutomaton.{RawAutomaton}
 use Rattle.omega_raw.specs.declared.raw_edge.RawEdge.{RawEdge}
 use Rattle.omega_raw.specs.declared.raw_state.RawState.{RawState}

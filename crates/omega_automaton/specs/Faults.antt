@@ -6,12 +6,12 @@ use Rattle.std.specs.Str.{bytes_eq}
 use Rattle.omega_text.specs.Limits.{most_number}
 use Rattle.omega_text.specs.declared.refusal.automaton.AutomatonFault.{AutomatonFault}
 use Rattle.omega_text.specs.declared.refusal.automaton.AutomatonFault.TheVariants.{AcceptanceAtom, Alias, Expansion, ImplicitCount, MissingAcceptance, MixedLabels, Proposition, RepeatedHeader, SetRange, StateRange, StateTwice, TooDeep, UnknownHeader, Version}
-use Rattle.omega_acc.specs.AccMeaning.{acc_meant, acc_sets}
-use Rattle.omega_acc.specs.Expanding.{Defined, Entry, Meaning, entries_of, expansion}
-use Rattle.omega_acc.specs.Label.{label_size}
+use Rattle.omega_acc.specs.formula.Meaning.{acc_meant, acc_sets}
+use Rattle.omega_acc.specs.label.Expanding.{Defined, Entry, Meaning, entries_of, expansion}
+use Rattle.omega_acc.specs.label.Label.{label_size}
 use Rattle.omega_acc.specs.Limits.{most_depth, most_size}
-use Rattle.omega_acc.specs.RawAcc.{raw_acc_depth}
-use Rattle.omega_acc.specs.RawLabel.{RawLabelTree, raw_propositions}
+use Rattle.omega_acc.specs.formula.Raw.{raw_acc_depth}
+use Rattle.omega_acc.specs.label.Raw.{RawLabelTree, raw_propositions}
 use Rattle.omega_raw.specs.declared.raw_automaton.RawAutomaton.{RawAutomaton}
 use Rattle.omega_raw.specs.declared.raw_edge.RawEdge.{RawEdge}
 use Rattle.omega_raw.specs.declared.raw_item.RawItem.{RawItem}

@@ -33,7 +33,7 @@ pub struct Automaton {
 
 impl Model for Automaton {
     ghost use Rattle.std.specs.Coded.{codes};
-    ghost use Rattle.omega_acc.specs.contracts.acc.Acc as acc;
+    ghost use Rattle.omega_acc.specs.contracts.formula.Acc as acc;
     ghost use Rattle.omega_acc.specs.contracts.label.Label as label;
     ghost use Rattle.omega_automaton.specs.Automaton.{Description};
 

@@ -6,7 +6,7 @@ use Rattle.std.proofs.lemmas.Fmt.{decimal_by_steps}
 use Rattle.std.proofs.lemmas.List.{append-nil}
 use Rattle.std.proofs.lemmas.List.Elements.{All-contains, All-contains_itself, All-head, All-weaker, Contains-append_left, Contains-append_right}
 use Rattle.std.specs.Prelude.{Contains}
-use Rattle.omega_acc.specs.Label.{LabelTree, conjunction, constant, disjunction, negation, proposition, propositions}
+use Rattle.omega_acc.specs.label.Label.{LabelTree, conjunction, constant, disjunction, negation, proposition, propositions}
 use Rattle.omega_acc.specs.Writing.{bracketed, label_text, truth_text}
 use Rattle.omega_automaton.specs.Automaton.{AreBelow}
 use Rattle.omega_automaton.specs.Limits.{most_propositions}

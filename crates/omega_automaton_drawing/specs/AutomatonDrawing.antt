@@ -1,7 +1,7 @@
 -- The drawing of an automaton, and of an automaton with a lasso. States that nothing defines are drawn where an arrow leads to them.
 use Rattle.std.specs.Prelude.{ℕ, ◌==◌, Bool, if◌then◌else◌, Option, Some, None, List, [], ◌∷◌, ◌++◌, codes, decimal, length, slice_index}
 use Rattle.std.specs.List.{flat_map}
-use Rattle.omega_acc.specs.Label.{LabelTree}
+use Rattle.omega_acc.specs.label.Label.{LabelTree}
 use Rattle.omega_acc.specs.Writing.{acc_text}
 use Rattle.omega_automaton.specs.Automaton.{BodyEdge, Description, edges_of}
 use Rattle.omega_automaton.specs.declared.edge.Edge.{Edge}

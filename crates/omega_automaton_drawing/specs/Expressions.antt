@@ -1,6 +1,6 @@
 -- The text of a label in a drawing: the names of the propositions stand in place of their numbers.
 use Rattle.std.specs.Prelude.{ℕ, nat_le, nat_lt, List, [], ◌++◌, codes, slice_index_or}
-use Rattle.omega_acc.specs.Label.{LabelTree, conjunction, constant, disjunction, negation, proposition}
+use Rattle.omega_acc.specs.label.Label.{LabelTree, conjunction, constant, disjunction, negation, proposition}
 use Rattle.omega_acc.specs.Writing.{bracketed, label_text, truth_text}
 use Rattle.omega_dot.specs.Labels.{escaped}
 

@@ -1,7 +1,7 @@
 //! The names of propositions in place of their numbers.
 
 ghost use Rattle.std.specs.Prelude.{◌≡◌, ◌≤◌, true, ◌++◌, IfOk, IfSome, IsOkUnless, None, OnOk, length};
-ghost use Rattle.omega_acc.specs.Label.{propositions};
+ghost use Rattle.omega_acc.specs.label.Label.{propositions};
 ghost use Rattle.omega_automaton.specs.Automaton.{AreBelow};
 ghost use Rattle.omega_automaton.specs.Limits.{most_propositions};
 ghost use Rattle.omega_text.specs.Bytes.{is_digit};

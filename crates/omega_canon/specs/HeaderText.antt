@@ -1,11 +1,11 @@
 -- The lines of the header in the canonical text of an automaton, in their order.
 use Rattle.std.specs.Prelude.{ℕ, Option, Some, None, List, [], ◌∷◌, ◌++◌, length, codes, decimal}
 use Rattle.std.specs.List.{flat_map}
-use Rattle.omega_acc.specs.Acceptance.{AccTree}
+use Rattle.omega_acc.specs.formula.Acceptance.{AccTree}
 use Rattle.omega_acc.specs.Writing.{acc_text, truth_text}
-use Rattle.omega_acc.specs.declared.acc_name.AccName.{AccName}
-use Rattle.omega_acc.specs.declared.acc_name.Parameter.{Parameter}
-use Rattle.omega_acc.specs.declared.acc_name.Parameter.TheVariants as parameter
+use Rattle.omega_acc.specs.declared.formula.name.AccName.{AccName}
+use Rattle.omega_acc.specs.declared.formula.name.Parameter.{Parameter}
+use Rattle.omega_acc.specs.declared.formula.name.Parameter.TheVariants as parameter
 use Rattle.omega_automaton.specs.Automaton.{Description}
 use Rattle.omega_automaton.specs.declared.header.Header.{Header}
 use Rattle.omega_automaton.specs.declared.tool.Tool.{Tool}

@@ -1,7 +1,7 @@
 -- The parts of lines in the canonical text of an automaton (HOA v1; docs/formats.md, the canonical text of an automaton).
 use Rattle.std.specs.Prelude.{ℕ, Option, Some, None, List, [], ◌∷◌, ◌++◌, codes, decimal}
 use Rattle.std.specs.List.{flat_map}
-use Rattle.omega_acc.specs.Label.{LabelTree}
+use Rattle.omega_acc.specs.label.Label.{LabelTree}
 use Rattle.omega_acc.specs.Writing.{label_text}
 
 -- bytes between quotes

@@ -1,7 +1,7 @@
 -- The automaton as its canonical text writes it: no aliases, parentheses only where an operator needs them, marks only where there are some.
 use Rattle.std.specs.Prelude.{ℕ, Option, Some, None, List, [], ◌∷◌, ◌++◌, codes, length, map, option_map}
 use Rattle.omega_acc.specs.WritingLaws.{acc_written, label_written}
-use Rattle.omega_acc.specs.declared.acc_name.AccName.{AccName}
+use Rattle.omega_acc.specs.declared.formula.name.AccName.{AccName}
 use Rattle.omega_raw.specs.declared.raw_automaton.RawAutomaton.{RawAutomaton}
 use Rattle.omega_raw.specs.declared.raw_edge.RawEdge.{RawEdge}
 use Rattle.omega_raw.specs.declared.raw_item.RawItem.{RawItem}

@@ -2,12 +2,12 @@
 use Rattle.std.proofs.Common.{◌≡◌, ◌≢◌, ◌↔◌, ℕ, ◌+◌, ◌%◌, ◌<◌, ◌≤◌, ◌⊎◌, inl, inr, true, false, eqb, List, [], ◌∷◌, length, map, All, sym, ap, refl, ◌∙◌, arith}
 use Rattle.std.specs.Prelude.{IsTrue}
 use Rattle.std.proofs.lemmas.Bool.{cases_Bool, cases_lt, cases_eq, both_ways, eq-eqb, ne_eqb, or_parts, true_from_ne_false}
-use Rattle.omega_acc.specs.Acceptance.{AccTree, accepts, holds, occurs}
-use Rattle.omega_acc.specs.Kind.{buchi_formula, greatest, parity_formula, priority_of}
-use Rattle.omega_acc.specs.KindLaws.{BuchiIsEverySet, ParityIsPriority}
-use Rattle.omega_acc.specs.declared.kind.AccKind.{AccKind}
-use Rattle.omega_acc.specs.declared.kind.AccKind.TheVariants.{Parity, GenBuchi}
-use Rattle.omega_acc.specs.declared.kind.ParityKind.{ParityKind}
+use Rattle.omega_acc.specs.formula.Acceptance.{AccTree, accepts, holds, occurs}
+use Rattle.omega_acc.specs.formula.Kind.{buchi_formula, greatest, parity_formula, priority_of}
+use Rattle.omega_acc.specs.formula.KindLaws.{BuchiIsEverySet, ParityIsPriority}
+use Rattle.omega_acc.specs.declared.formula.kind.AccKind.{AccKind}
+use Rattle.omega_acc.specs.declared.formula.kind.AccKind.TheVariants.{Parity, GenBuchi}
+use Rattle.omega_acc.specs.declared.formula.kind.ParityKind.{ParityKind}
 use Rattle.omega_empty.specs.Counters.{counter_after, counters, priority_at_counter}
 
 -- the counter behind marks, one after the other

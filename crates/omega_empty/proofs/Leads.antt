@@ -1,6 +1,6 @@
 -- Edges that lead from a state to a state: joined, and in laps.
 use Rattle.std.proofs.Common.{◌≡◌, ℕ, zero, suc, Bool, true, false, ◌||◌, List, [], ◌∷◌, ◌++◌, sym, ap, refl, ◌∙◌, subst}
-use Rattle.omega_acc.specs.Acceptance.{occurs}
+use Rattle.omega_acc.specs.formula.Acceptance.{occurs}
 use Rattle.omega_automaton.specs.Automaton.{Description}
 use Rattle.omega_empty.specs.Lasso.{Leads}
 use Rattle.omega_empty.specs.Runs.{meets}

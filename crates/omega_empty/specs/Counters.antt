@@ -1,9 +1,9 @@
 -- Counters: which set of a generalized Büchi kind is waited for, and the priorities of marks meanwhile.
 use Rattle.std.specs.Prelude.{ℕ, ◌+◌, ◌==◌, ◌&&◌, if◌then◌else◌, List}
-use Rattle.omega_acc.specs.Acceptance.{holds}
-use Rattle.omega_acc.specs.Kind.{priority_of}
-use Rattle.omega_acc.specs.declared.kind.AccKind.{AccKind}
-use Rattle.omega_acc.specs.declared.kind.AccKind.TheVariants.{Parity, GenBuchi}
+use Rattle.omega_acc.specs.formula.Acceptance.{holds}
+use Rattle.omega_acc.specs.formula.Kind.{priority_of}
+use Rattle.omega_acc.specs.declared.formula.kind.AccKind.{AccKind}
+use Rattle.omega_acc.specs.declared.formula.kind.AccKind.TheVariants.{Parity, GenBuchi}
 
 -- how many counters a kind needs: one for each set of a generalized Büchi kind, else one alone
 abbrev pub counters : AccKind → ℕ

@@ -1,9 +1,9 @@
 -- The emptiness game of an automaton, which player 0 owns and wins where the automaton has an accepting lasso (docs/formats.md, emptiness game).
 use Rattle.std.specs.Prelude.{◌≡◌, ◌↔◌, ℕ, ◌+◌, ◌*◌, ◌==◌, ◌&&◌, ◌||◌, Bool, true, false, if◌then◌else◌, nat_lt, List, [], ◌∷◌, ◌++◌, length, map, Some, None, slice_get, slice_index_or}
 use Rattle.std.specs.List.{flat_map, list_any, range_with_len}
-use Rattle.omega_acc.specs.Names.{IsAcceptanceRow}
-use Rattle.omega_acc.specs.declared.acc_name.AccName.{AccName}
-use Rattle.omega_acc.specs.declared.kind.AccKind.{AccKind}
+use Rattle.omega_acc.specs.formula.Names.{IsAcceptanceRow}
+use Rattle.omega_acc.specs.declared.formula.name.AccName.{AccName}
+use Rattle.omega_acc.specs.declared.formula.kind.AccKind.{AccKind}
 use Rattle.omega_automaton.specs.Automaton.{BodyEdge, Description, edge_at, edge_count, edges_of}
 use Rattle.omega_automaton.specs.declared.state.State.{State}
 use Rattle.omega_game.specs.Building.{IsGameOf}

@@ -1,9 +1,9 @@
 -- Accepting lassos of automata: usable edges, their marks, and where they lead (HOA v1; docs/formats.md, automata).
 use Rattle.std.specs.Prelude.{◌≡◌, ℕ, ◌<◌, IsTrue, IfSome, List, [], ◌∷◌, ◌++◌, length, map, option_map, Option, Some, Contains}
 use Rattle.std.specs.Option.{option_or, unwrap_or}
-use Rattle.omega_acc.specs.Acceptance.{accepts}
-use Rattle.omega_acc.specs.Label.{LabelTree}
-use Rattle.omega_acc.specs.Satisfiable.{IsSatisfiable}
+use Rattle.omega_acc.specs.formula.Acceptance.{accepts}
+use Rattle.omega_acc.specs.label.Label.{LabelTree}
+use Rattle.omega_acc.specs.label.Satisfiable.{IsSatisfiable}
 use Rattle.omega_automaton.specs.Automaton.{BodyEdge, Description, edge_at}
 
 -- the label of an edge: that of the state that it leaves, which is the label of each of the state's edges, or else its own

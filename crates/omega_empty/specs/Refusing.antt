@@ -5,10 +5,10 @@ use Rattle.omega_text.specs.declared.refusal.Refusal.{Refusal}
 use Rattle.omega_text.specs.declared.refusal.game.GameFault.TheVariants.{TooManyNodes}
 use Rattle.omega_text.specs.declared.refusal.task.TaskFault.{TaskFault}
 use Rattle.omega_text.specs.declared.refusal.task.TaskFault.TheVariants.{BadSolution, Budget, NotParity, TooManyPropositions, TooWide, UniversalBranch, UnknownNode}
-use Rattle.omega_acc.specs.Label.{LabelTree}
+use Rattle.omega_acc.specs.label.Label.{LabelTree}
 use Rattle.omega_acc.specs.Limits.{most_mentioned}
-use Rattle.omega_acc.specs.Satisfiable.{mentioned}
-use Rattle.omega_acc.specs.declared.kind.AccKind.{AccKind}
+use Rattle.omega_acc.specs.label.Satisfiable.{mentioned}
+use Rattle.omega_acc.specs.declared.formula.kind.AccKind.{AccKind}
 use Rattle.omega_automaton.specs.Automaton.{BodyEdge, Description, edges_of}
 use Rattle.omega_automaton.specs.declared.state.State.{State}
 use Rattle.omega_game.specs.Limits.{most_nodes}

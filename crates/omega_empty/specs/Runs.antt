@@ -1,6 +1,6 @@
 -- Infinite runs of automata, and that accepting runs and accepting lassos are the same question (HOA v1, acceptance).
 use Rattle.std.specs.Prelude.{◌≡◌, ◌⊎◌, ℕ, ◌+◌, ◌≤◌, Bool, not, false, IsTrue, if◌then◌else◌, List}
-use Rattle.omega_acc.specs.Acceptance.{AccTree, conjunction, constant, disjunction, fin, holds, inf}
+use Rattle.omega_acc.specs.formula.Acceptance.{AccTree, conjunction, constant, disjunction, fin, holds, inf}
 use Rattle.omega_automaton.specs.Automaton.{Description}
 use Rattle.omega_empty.specs.Lasso.{IsAcceptingLasso, IsStart, IsStep, marks_at}
 

@@ -1,6 +1,6 @@
 -- Words of automata, and that some word is accepted exactly if there is an accepting lasso (HOA v1, semantics of labels).
 use Rattle.std.specs.Prelude.{◌≡◌, ℕ, Bool, IsTrue, IfSome, List, Some}
-use Rattle.omega_acc.specs.Label.{truth}
+use Rattle.omega_acc.specs.label.Label.{truth}
 use Rattle.omega_automaton.specs.Automaton.{BodyEdge, Description, edge_at}
 use Rattle.omega_empty.specs.Lasso.{IsAcceptingLasso, label_of}
 use Rattle.omega_empty.specs.Runs.{IsAcceptingRun}

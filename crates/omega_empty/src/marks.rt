@@ -1,6 +1,6 @@
 ghost use Rattle.std.specs.Prelude.{◌≡◌, ◌++◌, ◌<◌, ◌≤◌, All};
-ghost use Rattle.omega_acc.specs.Acceptance.{holds};
-ghost use Rattle.omega_acc.specs.Kind.{priority_of};
+ghost use Rattle.omega_acc.specs.formula.Acceptance.{holds};
+ghost use Rattle.omega_acc.specs.formula.Kind.{priority_of};
 ghost use Rattle.omega_acc.specs.Limits.{most_depth};
 ghost use Rattle.omega_text.specs.Limits.{most_number};
 ghost use Rattle.omega_empty.specs.Counters.{counter_after, counters, priority_at_counter};

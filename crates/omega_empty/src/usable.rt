@@ -2,7 +2,7 @@ ghost use Rattle.std.specs.Prelude.{◌≡◌, ◌++◌, ◌↔◌, Bool, List, 
 ghost use Rattle.std.specs.Option.{option_copied};
 ghost use Rattle.omega_text.specs.Cases.{never, or_memory, or_task};
 ghost use Rattle.omega_text.specs.declared.refusal.task.TaskFault.TheVariants.{TooManyPropositions};
-ghost use Rattle.omega_acc.specs.Satisfiable.{IsSatisfiable};
+ghost use Rattle.omega_acc.specs.label.Satisfiable.{IsSatisfiable};
 ghost use Rattle.omega_automaton.specs.Automaton.{edges_from};
 ghost use Rattle.omega_empty.specs.EmptinessGame.{AreUsable};
 ghost use Rattle.omega_empty.specs.Lasso.{IsUsable};

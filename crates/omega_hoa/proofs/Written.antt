@@ -5,10 +5,10 @@ use Rattle.omega_text.specs.declared.hoa.kind.HoaKind.{HoaKind}
 use Rattle.omega_text.specs.declared.refusal.Refusal.{Refusal}
 use Rattle.omega_text.specs.declared.refusal.Refusal.TheVariants.{Automaton as AutomatonRefusal, Text}
 use Rattle.omega_text.specs.declared.refusal.text.TextFault.TheVariants.{Syntax}
-use Rattle.omega_acc.specs.AccReading.{ReadsAcc}
-use Rattle.omega_acc.specs.RawAcc.{RawAccTree}
-use Rattle.omega_acc.specs.RawLabel.{RawLabelTree}
-use Rattle.omega_acc.specs.Reading.{Reads}
+use Rattle.omega_acc.specs.formula.Reading.{ReadsAcc}
+use Rattle.omega_acc.specs.formula.Raw.{RawAccTree}
+use Rattle.omega_acc.specs.label.Raw.{RawLabelTree}
+use Rattle.omega_acc.specs.label.Reading.{Reads}
 use Rattle.omega_acc.specs.Symbols.{EndsThere, seen_as, symbol_of}
 use Rattle.omega_raw.specs.Grammar.{spelled}
 use Rattle.omega_raw.specs.Symbols.{Begins, IsNext, Shows, Spells, Symbol, alias, between_quotes, formula, header, label, number, sign, text, without_last, word}

@@ -2,10 +2,10 @@
 use Rattle.std.proofs.Common.{◌≡◌, ℕ, Bool, true, false, List, Option, refl, sym, ap, ◌∙◌, subst, codes, if◌then◌else◌, Result, Ok, Err}
 use Rattle.std.proofs.lemmas.Slice.Eq.{bytes_eq-Decides}
 use Rattle.std.specs.Str.{bytes_eq}
-use Rattle.omega_acc.specs.RawAcc.{RawAccTree}
-use Rattle.omega_acc.specs.RawLabel.{RawLabelTree}
-use Rattle.omega_acc.specs.declared.acc_name.AccName.{AccName}
-use Rattle.omega_acc.specs.declared.acc_name.Parameter.{Parameter}
+use Rattle.omega_acc.specs.formula.Raw.{RawAccTree}
+use Rattle.omega_acc.specs.label.Raw.{RawLabelTree}
+use Rattle.omega_acc.specs.declared.formula.name.AccName.{AccName}
+use Rattle.omega_acc.specs.declared.formula.name.Parameter.{Parameter}
 use Rattle.omega_raw.specs.steps.Contents.{FindsContent, FindsNamed, FindsUnknown, GivesContent, GivesNamed, GivesUnknown}
 use Rattle.omega_raw.specs.Grammar.{IsItem, content_row, header_named, item_header, item_name}
 use Rattle.omega_raw.specs.steps.Parts.{EndsItem}

@@ -1,6 +1,6 @@
 -- Rows of several parts.
 use Rattle.std.proofs.Common.{◌≡◌, ℕ, List, [], ◌∷◌, Option, sym, ap, ◌∙◌, subst, arith, Result, Ok, Err}
-use Rattle.omega_acc.specs.RawLabel.{RawLabelTree}
+use Rattle.omega_acc.specs.label.Raw.{RawLabelTree}
 use Rattle.std.specs.Prelude.{IfErr, IsErrAnd}
 use Rattle.omega_acc.specs.Depth.{IsMemory}
 use Rattle.omega_acc.specs.Symbols.{IsUnread}

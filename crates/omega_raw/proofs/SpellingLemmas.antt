@@ -3,10 +3,10 @@ use Rattle.std.proofs.Common.{◌≡◌, ◌<◌, ◌≤◌, Bool, true, false, 
 use Rattle.std.specs.Prelude.{IfErr, IfOk, IsErrAnd}
 use Rattle.omega_acc.specs.Depth.{IsMemory}
 use Rattle.omega_acc.specs.Symbols.{IsUnread}
-use Rattle.omega_acc.specs.AccReading.{ReadsAcc}
-use Rattle.omega_acc.specs.RawAcc.{RawAccTree}
-use Rattle.omega_acc.specs.Reading.{Reads}
-use Rattle.omega_acc.specs.RawLabel.{RawLabelTree}
+use Rattle.omega_acc.specs.formula.Reading.{ReadsAcc}
+use Rattle.omega_acc.specs.formula.Raw.{RawAccTree}
+use Rattle.omega_acc.specs.label.Reading.{Reads}
+use Rattle.omega_acc.specs.label.Raw.{RawLabelTree}
 use Rattle.omega_raw.specs.steps.Reading.{Found, NextIs, NextIsNot, NextMayBe}
 use Rattle.omega_raw.specs.Symbols.{FirstIs, IsNext, Shows, Spells, Splits, Symbol, Tokens, alias, formula, header, label, number, sign, text, word}
 use Rattle.omega_text.specs.Lexeme.{Lexeme}

@@ -1,12 +1,12 @@
 -- What the grammar of automata is written in: tokens with what they say, and the expressions of labels and of acceptance.
 use Rattle.std.specs.Prelude.{◌≡◌, ℕ, ◌-◌, List, [], ◌∷◌, length, take, drop}
-use Rattle.omega_acc.specs.RawAcc.{RawAccTree}
-use Rattle.omega_acc.specs.RawLabel.{RawLabelTree}
+use Rattle.omega_acc.specs.formula.Raw.{RawAccTree}
+use Rattle.omega_acc.specs.label.Raw.{RawLabelTree}
 use Rattle.omega_text.specs.Lexeme.{Lexeme}
 use Rattle.omega_text.specs.declared.hoa.kind.HoaKind.{HoaKind}
 use Rattle.omega_text.specs.declared.hoa.kind.HoaKind.TheVariants as kind
-use Rattle.omega_acc.specs.AccReading.{ReadsAcc}
-use Rattle.omega_acc.specs.Reading.{Reads}
+use Rattle.omega_acc.specs.formula.Reading.{ReadsAcc}
+use Rattle.omega_acc.specs.label.Reading.{Reads}
 
 -- the tokens of a text
 abbrev pub Tokens : Type 0

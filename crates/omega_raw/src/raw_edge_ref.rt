@@ -14,7 +14,7 @@ pub struct RawEdgeRef<'a> {
 
 impl<'a> Model for RawEdgeRef<'a> {
     ghost use Rattle.std.specs.Coded.{codes};
-    ghost use Rattle.omega_acc.specs.contracts.raw_label.RawLabel as raw_label;
+    ghost use Rattle.omega_acc.specs.contracts.label.raw.RawLabel as raw_label;
     ghost use Rattle.omega_raw.specs.declared.raw_edge.RawEdge.{RawEdge};
 
     ghost Value = { RawEdge };

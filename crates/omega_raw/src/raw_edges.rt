@@ -40,7 +40,7 @@ pub enum HeldEdges {
 impl Model for RawEdges {
     ghost use Rattle.std.specs.Prelude.{List};
     ghost use Rattle.std.specs.Coded.{codes};
-    ghost use Rattle.omega_acc.specs.contracts.raw_label.RawLabel as raw_label;
+    ghost use Rattle.omega_acc.specs.contracts.label.raw.RawLabel as raw_label;
     ghost use Rattle.omega_raw.specs.declared.raw_edge.RawEdge.{RawEdge};
 
     ghost Value = { List RawEdge };

@@ -4,7 +4,7 @@ use Rattle.omega_acc.specs.declared.pending.Pending.{Pending}
 use Rattle.omega_acc.specs.declared.pending.Pending.TheVariants as pending
 use Rattle.omega_acc.specs.declared.signs.Sign.{Sign}
 use Rattle.omega_acc.specs.declared.signs.Sign.TheVariants.{And, Not, Open, Or}
-use Rattle.omega_acc.specs.layout.Plain.{depths_below, top_depth}
+use Rattle.omega_acc.specs.layout.formula.Plain.{depths_below, top_depth}
 
 -- what waits, by its signs and the depths of its operators, the last first
 abbrev pub pending_in : List Sign → List ℕ → List Pending

@@ -1,8 +1,8 @@
 -- The texts that nodes in postfix order leave, and how they are made from the end.
 use Rattle.std.specs.Prelude.{ℕ, List, [], ◌∷◌, ◌++◌, Option, Some, None, codes, decimal, min, nat_lt}
 use Rattle.omega_acc.specs.Writing.{Text, atom_text, bracketed, joined_text, negated_text, set_text, truth_text}
-use Rattle.omega_acc.specs.declared.acc.AccNode.{AccNode}
-use Rattle.omega_acc.specs.declared.acc.AccNode.TheVariants as acc
+use Rattle.omega_acc.specs.declared.formula.AccNode.{AccNode}
+use Rattle.omega_acc.specs.declared.formula.AccNode.TheVariants as acc
 use Rattle.omega_acc.specs.declared.backward.Backward.{Backward}
 use Rattle.omega_acc.specs.declared.label.LabelNode.{LabelNode}
 use Rattle.omega_acc.specs.declared.label.LabelNode.TheVariants.{Alias, And, Constant, Group, Not, Or, Proposition}

@@ -5,11 +5,11 @@ use Rattle.std.specs.Str.{bytes_eq}
 use Rattle.std.proofs.lemmas.Bool.{and_from, and_parts, ltb-false, ltb-true, not-false}
 use Rattle.std.proofs.lemmas.List.Elements.{All-cons, All-head, All-nil, All-push, All-tail}
 use Rattle.std.proofs.lemmas.List.Folds.{list_all-append}
-use Rattle.omega_acc.specs.Expanding.{Defined, Entry, Meaning, both, entries_of, expansion, fault_of_meaning, in_parentheses, negated, replaced, stands_for}
-use Rattle.omega_acc.specs.Label.{LabelTree, label_size, propositions}
-use Rattle.omega_acc.specs.Label as label
+use Rattle.omega_acc.specs.label.Expanding.{Defined, Entry, Meaning, both, entries_of, expansion, fault_of_meaning, in_parentheses, negated, replaced, stands_for}
+use Rattle.omega_acc.specs.label.Label.{LabelTree, label_size, propositions}
+use Rattle.omega_acc.specs.label.Label as label
 use Rattle.omega_acc.specs.Limits.{most_depth, most_size}
-use Rattle.omega_acc.specs.RawLabel.{RawLabelTree, alias, conjunction, constant, disjunction, group, negation, proposition, raw_propositions}
+use Rattle.omega_acc.specs.label.Raw.{RawLabelTree, alias, conjunction, constant, disjunction, group, negation, proposition, raw_propositions}
 use Rattle.omega_text.specs.declared.refusal.automaton.AutomatonFault.{AutomatonFault}
 use Rattle.omega_text.specs.declared.refusal.automaton.AutomatonFault.TheVariants.{Expansion, TooDeep}
 use Rattle.omega_automaton.specs.Automaton.{AreBelow}

@@ -2,9 +2,9 @@
 use Rattle.std.proofs.Common.{◌≡◌, ℕ, ◌+◌, List, [], ◌∷◌, map, sum_by, Option, Some, None, refl, ap, sym, ◌∙◌}
 use Rattle.std.specs.List.{AllZip}
 use Rattle.std.proofs.lemmas.List.Sums.{sum_by-cons}
-use Rattle.omega_acc.specs.Expanding.{Defined, expansion}
-use Rattle.omega_acc.specs.Label.{LabelTree}
-use Rattle.omega_acc.specs.RawLabel.{RawLabelTree}
+use Rattle.omega_acc.specs.label.Expanding.{Defined, expansion}
+use Rattle.omega_acc.specs.label.Label.{LabelTree}
+use Rattle.omega_acc.specs.label.Raw.{RawLabelTree}
 use Rattle.omega_raw.specs.declared.raw_state.RawState.{RawState}
 use Rattle.omega_automaton.specs.Automaton.{size_of, total_size}
 use Rattle.omega_automaton.specs.Faults.{label_total, size_under}

@@ -2,7 +2,7 @@ ghost use Rattle.std.specs.Prelude.{◌≡◌, ◌≤◌, ◌+◌, Some, false, 
 ghost use Rattle.std.specs.List.{list_any};
 ghost use Rattle.std.specs.Option.{option_copied};
 ghost use Rattle.omega_acc.specs.Depth.{IsMemory};
-ghost use Rattle.omega_acc.specs.Expanding.{expansion};
+ghost use Rattle.omega_acc.specs.label.Expanding.{expansion};
 ghost use Rattle.omega_automaton.specs.Faults.{is_labelled, label_total, passes, size_under};
 ghost use Rattle.omega_automaton.specs.Limits.{most_total_size};
 ghost use Rattle.omega_automaton.specs.layout.Findings.{AreFound, AreJoined, labels_pass};

@@ -1,5 +1,5 @@
 ghost use Rattle.std.specs.Prelude.{◌≡◌, option_and_then, IfErr, IfOk};
-ghost use Rattle.omega_acc.specs.AccMeaning.{acc_meant};
+ghost use Rattle.omega_acc.specs.formula.Meaning.{acc_meant};
 ghost use Rattle.omega_acc.specs.Depth.{IsMemory};
 ghost use Rattle.omega_automaton.specs.layout.Draft.{IsSoundAcceptance};
 

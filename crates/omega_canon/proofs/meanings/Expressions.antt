@@ -5,16 +5,16 @@ use Rattle.std.specs.List.{AllByRecursion, list_any}
 use Rattle.std.proofs.lemmas.Bool.{ltb-false}
 use Rattle.omega_text.specs.declared.refusal.automaton.AutomatonFault.{AutomatonFault}
 use Rattle.omega_text.specs.declared.refusal.automaton.AutomatonFault.TheVariants.{Alias, TooDeep}
-use Rattle.omega_acc.specs.AccMeaning.{acc_meant, acc_sets}
-use Rattle.omega_acc.specs.AccReading.{IsAccOf}
-use Rattle.omega_acc.specs.Acceptance.{AccTree}
-use Rattle.omega_acc.specs.Acceptance as acc
-use Rattle.omega_acc.specs.Expanding.{Defined, IsExpansion, Meaning, expansion, fault_of_meaning}
-use Rattle.omega_acc.specs.Label.{LabelTree, conjunction, constant, disjunction, negation, proposition, propositions}
+use Rattle.omega_acc.specs.formula.Meaning.{acc_meant, acc_sets}
+use Rattle.omega_acc.specs.formula.Reading.{IsAccOf}
+use Rattle.omega_acc.specs.formula.Acceptance.{AccTree}
+use Rattle.omega_acc.specs.formula.Acceptance as acc
+use Rattle.omega_acc.specs.label.Expanding.{Defined, IsExpansion, Meaning, expansion, fault_of_meaning}
+use Rattle.omega_acc.specs.label.Label.{LabelTree, conjunction, constant, disjunction, negation, proposition, propositions}
 use Rattle.omega_acc.specs.Limits.{most_depth}
-use Rattle.omega_acc.specs.RawAcc.{RawAccTree, raw_acc_depth}
-use Rattle.omega_acc.specs.RawLabel.{RawLabelTree, raw_depth, raw_propositions}
-use Rattle.omega_acc.specs.Reading.{IsOf}
+use Rattle.omega_acc.specs.formula.Raw.{RawAccTree, raw_acc_depth}
+use Rattle.omega_acc.specs.label.Raw.{RawLabelTree, raw_depth, raw_propositions}
+use Rattle.omega_acc.specs.label.Reading.{IsOf}
 use Rattle.omega_acc.specs.Symbols.{disjunctive}
 use Rattle.omega_acc.specs.Writing.{acc_text, label_text}
 use Rattle.omega_acc.specs.WritingLaws.{AreExpressions, WrittenFormulasAreShallowest, WrittenLabelsAreShallowest, acc_grouped, acc_written, grouped, label_written}

@@ -7,14 +7,14 @@ use Rattle.std.proofs.lemmas.Bool.{eqb-true, le-ltb, or_from}
 use Rattle.std.proofs.lemmas.List.Elements.{recursion_from_All}
 use Rattle.omega_text.specs.declared.refusal.automaton.AutomatonFault.{AutomatonFault}
 use Rattle.omega_text.specs.declared.refusal.automaton.AutomatonFault.TheVariants.{ImplicitCount, MixedLabels, Proposition, StateRange, UnknownHeader}
-use Rattle.omega_acc.specs.AccMeaning.{acc_meant}
-use Rattle.omega_acc.specs.Expanding.{Defined, Meaning, entries_of, expansion}
-use Rattle.omega_acc.specs.Label.{LabelTree, label_size, propositions}
+use Rattle.omega_acc.specs.formula.Meaning.{acc_meant}
+use Rattle.omega_acc.specs.label.Expanding.{Defined, Meaning, entries_of, expansion}
+use Rattle.omega_acc.specs.label.Label.{LabelTree, label_size, propositions}
 use Rattle.omega_acc.specs.Limits.{most_depth, most_size}
-use Rattle.omega_acc.specs.RawAcc.{raw_acc_depth}
-use Rattle.omega_acc.specs.RawLabel.{RawLabelTree, raw_depth}
+use Rattle.omega_acc.specs.formula.Raw.{raw_acc_depth}
+use Rattle.omega_acc.specs.label.Raw.{RawLabelTree, raw_depth}
 use Rattle.omega_acc.specs.WritingLaws.{WrittenFormulasMean, WrittenLabelsMean, acc_written, label_written}
-use Rattle.omega_acc.specs.declared.acc_name.AccName.{AccName}
+use Rattle.omega_acc.specs.declared.formula.name.AccName.{AccName}
 use Rattle.omega_raw.specs.declared.raw_automaton.RawAutomaton.{RawAutomaton}
 use Rattle.omega_raw.specs.declared.raw_edge.RawEdge.{RawEdge}
 use Rattle.omega_raw.specs.declared.raw_state.RawState.{RawState}

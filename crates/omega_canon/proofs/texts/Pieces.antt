@@ -4,11 +4,11 @@ use Rattle.std.specs.Prelude.{IfSome}
 use Rattle.std.specs.List.{AllByRecursion, flat_map}
 use Rattle.omega_text.specs.declared.hoa.kind.HoaKind.TheVariants as kind
 use Rattle.omega_text.specs.hoa.Forms.{IsQuotable}
-use Rattle.omega_acc.specs.Label.{LabelTree}
+use Rattle.omega_acc.specs.label.Label.{LabelTree}
 use Rattle.omega_acc.specs.Writing.{label_text}
 use Rattle.omega_acc.specs.WritingLaws.{NumbersFit, StandsApart, label_written}
-use Rattle.omega_acc.specs.declared.acc_name.Parameter.{Parameter}
-use Rattle.omega_acc.specs.declared.acc_name.Parameter.TheVariants as parameter
+use Rattle.omega_acc.specs.declared.formula.name.Parameter.{Parameter}
+use Rattle.omega_acc.specs.declared.formula.name.Parameter.TheVariants as parameter
 use Rattle.omega_raw.specs.Grammar.{conj_row, each, int_row, joined_row, label_row, optional, parameter_row, sig_row, string_row, value_row, word_row}
 use Rattle.omega_raw.specs.Symbols.{Symbol, sign}
 use Rattle.omega_raw.specs.declared.header_value.HeaderValue.{HeaderValue}

@@ -7,7 +7,7 @@ use Rattle.omega_text.specs.declared.hoa.kind.HoaKind.TheVariants as kind
 use Rattle.omega_text.specs.hoa.Forms.{IsForm}
 use Rattle.omega_acc.specs.Symbols.{IsNoOperator}
 use Rattle.omega_acc.specs.WritingLaws.{acc_written}
-use Rattle.omega_acc.specs.declared.acc_name.AccName.{AccName}
+use Rattle.omega_acc.specs.declared.formula.name.AccName.{AccName}
 use Rattle.omega_raw.specs.Grammar.{IsEdge, IsItem, IsState, each, item_row, spelled, state_row}
 use Rattle.omega_raw.specs.Symbols.{FirstIs}
 use Rattle.omega_raw.specs.Symbols.{Symbol, sign}

@@ -4,10 +4,10 @@ use Rattle.std.specs.Prelude.{IfSome, slice_get, unwrap_or}
 use Rattle.std.specs.List.{AllByRecursion, AllZip, cons_option, filter_map, flat_map}
 use Rattle.std.proofs.lemmas.List.Elements.{recursion_from_All}
 use Rattle.omega_text.specs.hoa.Forms.{IsQuotable}
-use Rattle.omega_acc.specs.Acceptance.{AccTree}
-use Rattle.omega_acc.specs.Acceptance as acc
-use Rattle.omega_acc.specs.Expanding.{Defined}
-use Rattle.omega_acc.specs.Label.{LabelTree, conjunction, constant, disjunction, negation, proposition, propositions}
+use Rattle.omega_acc.specs.formula.Acceptance.{AccTree}
+use Rattle.omega_acc.specs.formula.Acceptance as acc
+use Rattle.omega_acc.specs.label.Expanding.{Defined}
+use Rattle.omega_acc.specs.label.Label.{LabelTree, conjunction, constant, disjunction, negation, proposition, propositions}
 use Rattle.omega_acc.specs.WritingLaws.{NumbersFit, SetsFit}
 use Rattle.omega_raw.specs.Grammar.{IsItem}
 use Rattle.omega_raw.specs.declared.raw_automaton.RawAutomaton.{RawAutomaton}

@@ -8,8 +8,8 @@ use Rattle.omega_text.specs.declared.hoa.kind.HoaKind.{HoaKind}
 use Rattle.omega_text.specs.declared.hoa.kind.HoaKind.TheVariants as kind
 use Rattle.omega_text.specs.hoa.Forms.{IsForm, IsQuotable}
 use Rattle.omega_text.specs.hoa.Forms as forms
-use Rattle.omega_acc.specs.AccReading.{IsAccOf}
-use Rattle.omega_acc.specs.Reading.{IsOf}
+use Rattle.omega_acc.specs.formula.Reading.{IsAccOf}
+use Rattle.omega_acc.specs.label.Reading.{IsOf}
 use Rattle.omega_acc.specs.Symbols.{disjunctive}
 use Rattle.omega_raw.specs.Symbols.{IsNext, Shows, Spells, Symbol, Tokens, alias, between_quotes, formula, header, label, number, sign, text, without_last, word}
 use Rattle.omega_canon.specs.Writable.{Fits, IsIdentifier}

@@ -1,6 +1,6 @@
 -- A lasso entered where its stem first comes to the cycle: the last edges that both share begin the cycle.
 use Rattle.std.proofs.Common.{◌≡◌, ℕ, zero, suc, ◌+◌, ◌-◌, ◌<◌, Bool, true, false, ◌&&◌, ◌||◌, not, List, [], ◌∷◌, ◌++◌, length, map, drop, slice_index_or, sym, ap, refl, ◌∙◌, subst, arith, length-append}
-use Rattle.omega_acc.specs.Acceptance.{AccTree, accepts, conjunction, constant, disjunction, fin, inf, occurs}
+use Rattle.omega_acc.specs.formula.Acceptance.{AccTree, accepts, conjunction, constant, disjunction, fin, inf, occurs}
 use Rattle.omega_automaton.specs.Automaton.{Description}
 use Rattle.omega_empty.specs.Lasso.{IsAcceptingLasso, Leads, marks_at}
 use Rattle.omega_empty.proofs.Leads.{leads_on, occurs_on}

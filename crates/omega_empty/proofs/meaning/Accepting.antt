@@ -3,11 +3,11 @@ use Rattle.std.proofs.Common.{◌≡◌, ℕ, ◌+◌, ◌%◌, ◌<◌, List, [
 use Rattle.std.specs.Prelude.{slice_index_or}
 use Rattle.std.proofs.lemmas.List.{length-map}
 use Rattle.std.proofs.lemmas.List.Elements.{All-contains, All-head, All-map}
-use Rattle.omega_acc.specs.Acceptance.{accepts}
-use Rattle.omega_acc.specs.Kind.{greatest}
-use Rattle.omega_acc.specs.KindLaws.{BuchiIsEverySet, ParityIsPriority}
-use Rattle.omega_acc.specs.declared.kind.AccKind.{AccKind}
-use Rattle.omega_acc.specs.declared.kind.AccKind.TheVariants as kinds
+use Rattle.omega_acc.specs.formula.Acceptance.{accepts}
+use Rattle.omega_acc.specs.formula.Kind.{greatest}
+use Rattle.omega_acc.specs.formula.KindLaws.{BuchiIsEverySet, ParityIsPriority}
+use Rattle.omega_acc.specs.declared.formula.kind.AccKind.{AccKind}
+use Rattle.omega_acc.specs.declared.formula.kind.AccKind.TheVariants as kinds
 use Rattle.omega_automaton.specs.Automaton.{AreTargets, BodyEdge, Description, IsAutomaton, edge_at}
 use Rattle.omega_game.specs.Game.{Node, identifier_at}
 use Rattle.omega_game.specs.Winning.{IsClosedWalk, end_of, greatest_on}

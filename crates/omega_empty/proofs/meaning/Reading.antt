@@ -1,7 +1,7 @@
 -- Walks of an emptiness game from a state's node: edges of the automaton in order, unless they end in the sink.
 use Rattle.std.proofs.Common.{◌≡◌, ℕ, suc, ◌+◌, ◌<◌, ◌⊎◌, inl, inr, Bool, List, [], ◌∷◌, ◌++◌, length, map, max, Option, Some, sym, ap, refl, ◌∙◌, subst, arith}
-use Rattle.omega_acc.specs.Kind.{greatest}
-use Rattle.omega_acc.specs.declared.kind.AccKind.{AccKind}
+use Rattle.omega_acc.specs.formula.Kind.{greatest}
+use Rattle.omega_acc.specs.declared.formula.kind.AccKind.{AccKind}
 use Rattle.omega_automaton.specs.Automaton.{BodyEdge, Description, IsAutomaton, edge_at}
 use Rattle.omega_game.specs.Building.{IsGameOf}
 use Rattle.omega_game.specs.Game.{Node, priority_at}

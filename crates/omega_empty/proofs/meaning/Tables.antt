@@ -4,7 +4,7 @@ use Rattle.std.specs.List.{flat_map, range_with_len}
 use Rattle.std.proofs.lemmas.Bool.{and_parts, eqb-true}
 use Rattle.std.proofs.lemmas.List.Elements.{Contains-append_left, Contains-append_right}
 use Rattle.std.proofs.lemmas.Option.{none-some, same_Some}
-use Rattle.omega_acc.specs.declared.kind.AccKind.{AccKind}
+use Rattle.omega_acc.specs.declared.formula.kind.AccKind.{AccKind}
 use Rattle.omega_automaton.specs.Automaton.{BodyEdge, Description, edge_at, edges_of}
 use Rattle.omega_game.specs.declared.node_spec.NodeSpec.{NodeSpec}
 use Rattle.omega_empty.specs.Counters.{counters}

@@ -1,8 +1,8 @@
 -- Laps of a cycle: what they bring a counter to, and that they are accepted as the cycle is.
 use Rattle.std.proofs.Common.{◌≡◌, ℕ, zero, suc, ◌+◌, ◌<◌, Bool, not, ◌&&◌, ◌||◌, List, [], ◌∷◌, ◌++◌, length, map, ap, refl, ◌∙◌, arith, append_assoc, length-append}
 use Rattle.std.proofs.lemmas.List.{map-append}
-use Rattle.omega_acc.specs.Acceptance.{AccTree, accepts, conjunction, constant, disjunction, fin, inf, occurs}
-use Rattle.omega_acc.specs.declared.kind.AccKind.{AccKind}
+use Rattle.omega_acc.specs.formula.Acceptance.{AccTree, accepts, conjunction, constant, disjunction, fin, inf, occurs}
+use Rattle.omega_acc.specs.declared.formula.kind.AccKind.{AccKind}
 use Rattle.omega_empty.specs.Counters.{counter_after}
 use Rattle.omega_empty.proofs.Counters.{counter_behind}
 use Rattle.omega_empty.proofs.Leads.{laps, occurs_on, or_false, or_same}

@@ -5,11 +5,11 @@ use Rattle.std.proofs.Math.Nat.{zero-mul}
 use Rattle.std.proofs.lemmas.Bool.{eq-eqb}
 use Rattle.std.proofs.lemmas.List.{length-map, map-append}
 use Rattle.std.proofs.lemmas.List.Elements.{All-map}
-use Rattle.omega_acc.specs.Acceptance.{accepts}
-use Rattle.omega_acc.specs.Kind.{greatest}
-use Rattle.omega_acc.specs.KindLaws.{BuchiIsEverySet, ParityIsPriority}
-use Rattle.omega_acc.specs.declared.kind.AccKind.{AccKind}
-use Rattle.omega_acc.specs.declared.kind.AccKind.TheVariants as kinds
+use Rattle.omega_acc.specs.formula.Acceptance.{accepts}
+use Rattle.omega_acc.specs.formula.Kind.{greatest}
+use Rattle.omega_acc.specs.formula.KindLaws.{BuchiIsEverySet, ParityIsPriority}
+use Rattle.omega_acc.specs.declared.formula.kind.AccKind.{AccKind}
+use Rattle.omega_acc.specs.declared.formula.kind.AccKind.TheVariants as kinds
 use Rattle.omega_automaton.specs.Automaton.{AreBelow, Description, IsAutomaton}
 use Rattle.omega_game.specs.Game.{Node}
 use Rattle.omega_game.specs.Winning.{InRegion, Wins, end_of, greatest_on}

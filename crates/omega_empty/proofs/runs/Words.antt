@@ -1,8 +1,8 @@
 -- The word of a run: at each index, propositions that make the label of the run's edge true.
 use Rattle.std.proofs.Common.{◌≡◌, ℕ, Bool, true, false, Option, None, Some, refl}
 use Rattle.std.specs.Option.{IfSome}
-use Rattle.omega_acc.specs.Label.{LabelTree, truth}
-use Rattle.omega_acc.specs.Satisfiable.{IsSatisfiable}
+use Rattle.omega_acc.specs.label.Label.{LabelTree, truth}
+use Rattle.omega_acc.specs.label.Satisfiable.{IsSatisfiable}
 use Rattle.omega_automaton.specs.Automaton.{Description}
 use Rattle.omega_empty.specs.Runs.{IsAcceptingRun}
 use Rattle.omega_empty.specs.Lasso.{label_of}

@@ -1,8 +1,8 @@
 -- How the edges of a state are judged one by one.
 use Rattle.std.specs.Prelude.{◌≡◌, ◌⊎◌, ◌↔◌, ◌<◌, ◌≤◌, Bool, IsTrue, List, [], ◌∷◌, Contains, length, Option, Some, IfSome}
-use Rattle.omega_acc.specs.Label.{LabelTree}
+use Rattle.omega_acc.specs.label.Label.{LabelTree}
 use Rattle.omega_acc.specs.Limits.{most_mentioned}
-use Rattle.omega_acc.specs.Satisfiable.{mentioned}
+use Rattle.omega_acc.specs.label.Satisfiable.{mentioned}
 use Rattle.omega_automaton.specs.Automaton.{BodyEdge}
 use Rattle.omega_automaton.specs.declared.edge.Edge.{Edge}
 use Rattle.omega_automaton.specs.declared.state.State.{State}

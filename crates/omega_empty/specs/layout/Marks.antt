@@ -1,8 +1,8 @@
 -- Marks of a kind: for a parity kind they are below its count, which is small.
 use Rattle.std.specs.Prelude.{ℕ, ◌<◌, ◌≤◌, All, List}
 use Rattle.omega_acc.specs.Limits.{most_depth}
-use Rattle.omega_acc.specs.declared.kind.AccKind.{AccKind}
-use Rattle.omega_acc.specs.declared.kind.AccKind.TheVariants.{Parity, GenBuchi}
+use Rattle.omega_acc.specs.declared.formula.kind.AccKind.{AccKind}
+use Rattle.omega_acc.specs.declared.formula.kind.AccKind.TheVariants.{Parity, GenBuchi}
 
 -- marks for which a kind has a priority
 abbrev pub AreMarksOf : AccKind → List ℕ → Type 0

@@ -1,6 +1,6 @@
 -- What holds of an automaton once it was judged, before the nodes of its game are made.
 use Rattle.std.specs.Prelude.{◌≡◌, ◌+◌, ◌*◌, ◌<◌, ◌≤◌, Bool, false, List, All, length, slice_index}
-use Rattle.omega_acc.specs.declared.kind.AccKind.{AccKind}
+use Rattle.omega_acc.specs.declared.formula.kind.AccKind.{AccKind}
 use Rattle.omega_automaton.specs.Automaton.{Description, IsAutomaton}
 use Rattle.omega_automaton.specs.declared.edge.Edge.{Edge}
 use Rattle.omega_automaton.specs.declared.state.State.{State}

@@ -1,10 +1,10 @@
 -- Tokens begin with at most one item of a header.
 use Rattle.std.proofs.Common.{◌≡◌, ℕ, List, Option, ◌∷◌, refl, sym, ap, ◌∙◌}
-use Rattle.omega_acc.specs.AccReading.{FormulasAreOne, ReadsAcc}
-use Rattle.omega_acc.specs.RawAcc.{RawAccTree}
-use Rattle.omega_acc.specs.RawLabel.{RawLabelTree}
-use Rattle.omega_acc.specs.Reading.{LabelsAreOne, Reads}
-use Rattle.omega_acc.specs.declared.acc_name.AccName.{AccName}
+use Rattle.omega_acc.specs.formula.Reading.{FormulasAreOne, ReadsAcc}
+use Rattle.omega_acc.specs.formula.Raw.{RawAccTree}
+use Rattle.omega_acc.specs.label.Raw.{RawLabelTree}
+use Rattle.omega_acc.specs.label.Reading.{LabelsAreOne, Reads}
+use Rattle.omega_acc.specs.declared.formula.name.AccName.{AccName}
 use Rattle.omega_raw.proofs.ContentLemmas.{acc_name_same, header_named-item_name, of_acc_name, of_acceptance, of_alias, of_properties, of_propositions, of_start, of_state_count, of_title, of_tool, of_unknown}
 use Rattle.omega_raw.proofs.FollowLemmas.{all_any, parameters_end, some_any, start_ends, strings_end, values_end, words_end}
 use Rattle.omega_raw.proofs.PartLemmas.{IsPart}

@@ -2,8 +2,8 @@
 use Rattle.std.proofs.Common.{◌≡◌, Bool, true, false, List, [], ◌∷◌, Option, Some, None, refl, ap, ◌∙◌, subst}
 use Rattle.std.specs.Prelude.{IfSome}
 use Rattle.std.specs.List.{AllByRecursion}
-use Rattle.omega_acc.specs.declared.acc_name.Parameter.{Parameter}
-use Rattle.omega_acc.specs.declared.acc_name.Parameter.TheVariants as parameter
+use Rattle.omega_acc.specs.declared.formula.name.Parameter.{Parameter}
+use Rattle.omega_acc.specs.declared.formula.name.Parameter.TheVariants as parameter
 use Rattle.omega_raw.proofs.PartLemmas.{IsPart, follows_part}
 use Rattle.omega_raw.proofs.SpellingLemmas.{first_then, next_clash, next_is, next_may}
 use Rattle.omega_raw.proofs.uniqueness.Tokens.{Both, IsToken, token_one}

@@ -1,7 +1,7 @@
 -- That rows begin by the kinds by which they are known: the laws of `Part`, which its impls take from `specs` alone.
 use Rattle.std.specs.Prelude.{◌≡◌, ℕ, true, false, List, [], ◌∷◌, Option, Some, None, refl}
-use Rattle.omega_acc.specs.declared.acc_name.Parameter.{Parameter}
-use Rattle.omega_acc.specs.declared.acc_name.Parameter.TheVariants as parameter
+use Rattle.omega_acc.specs.declared.formula.name.Parameter.{Parameter}
+use Rattle.omega_acc.specs.declared.formula.name.Parameter.TheVariants as parameter
 use Rattle.omega_raw.specs.Grammar.{IsConj, IsEdge, IsItem, IsState, conj_row, edge_row, item_row, label_row, optional, parameter_row, sig_row, state_row, value_row}
 use Rattle.omega_raw.specs.steps.Parts.{EndsEdge, EndsItem, EndsState, is_edge, is_header, is_parameter, is_value}
 use Rattle.omega_raw.specs.steps.Reading.{IsAny}
@@ -10,7 +10,7 @@ use Rattle.omega_raw.specs.declared.header_value.HeaderValue.{HeaderValue}
 use Rattle.omega_raw.specs.declared.raw_edge.RawEdge.{RawEdge}
 use Rattle.omega_raw.specs.declared.raw_item.RawItem.{RawItem}
 use Rattle.omega_raw.specs.declared.raw_state.RawState.{RawState}
-use Rattle.omega_acc.specs.RawLabel.{RawLabelTree}
+use Rattle.omega_acc.specs.label.Raw.{RawLabelTree}
 use Rattle.omega_text.specs.declared.hoa.kind.HoaKind.{HoaKind}
 use Rattle.omega_text.specs.declared.hoa.kind.HoaKind.TheVariants as kind
 use Rattle.omega_raw.specs.declared.header_value.HeaderValue.TheVariants as value

@@ -1,5 +1,5 @@
 -- The tokens of the text are the formula's.
-use Rattle.omega_acc.proofs.WrittenFormulas.{there-formula}
+use Rattle.omega_acc.proofs.written.Formulas.{there-formula}
 use Rattle.omega_acc.proofs.laws.acc_texts_are_formulas.Goals as goal
 
 pub returns : goal.returns

@@ -1,5 +1,5 @@
 -- The tokens of the text are the label's.
-use Rattle.omega_acc.proofs.WrittenLabels.{there-label}
+use Rattle.omega_acc.proofs.written.Labels.{there-label}
 use Rattle.omega_acc.proofs.laws.label_texts_are_labels.Goals as goal
 
 pub returns : goal.returns

@@ -1,5 +1,5 @@
 -- Each formula means itself.
-use Rattle.omega_acc.proofs.WrittenFormulas.{acc-means-itself}
+use Rattle.omega_acc.proofs.written.Formulas.{acc-means-itself}
 use Rattle.omega_acc.proofs.laws.written_formulas_mean.Goals as goal
 
 pub returns : goal.returns

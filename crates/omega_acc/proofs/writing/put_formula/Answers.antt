@@ -2,7 +2,7 @@
 use Rattle.std.proofs.Common.{[], ◌∷◌, ◌++◌, ap, ◌∙◌}
 use Rattle.omega_acc.specs.Writing.{atom_text, set_text}
 use Rattle.omega_acc.specs.layout.Texts.{acc_texts_behind, whole_text}
-use Rattle.omega_acc.proofs.TextLemmas.{acc_texts-last}
+use Rattle.omega_acc.proofs.written.TextLemmas.{acc_texts-last}
 use Rattle.omega_acc.proofs.writing.put_formula.Goals as goal
 
 pub loop-node-preserved-in-Continue-1 : goal.loop-node-preserved-in-Continue-1

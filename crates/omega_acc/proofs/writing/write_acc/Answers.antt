@@ -2,7 +2,7 @@
 use Rattle.std.proofs.Common.{[], ◌++◌, ap, ◌∙◌}
 use Rattle.omega_acc.specs.Writing.{Text}
 use Rattle.omega_acc.specs.layout.Texts.{acc_texts_behind}
-use Rattle.omega_acc.proofs.TextLemmas.{top_of-formula}
+use Rattle.omega_acc.proofs.written.TextLemmas.{top_of-formula}
 use Rattle.omega_acc.proofs.writing.write_acc.Goals as goal
 
 pub returns-clause-ok : goal.returns-clause-ok

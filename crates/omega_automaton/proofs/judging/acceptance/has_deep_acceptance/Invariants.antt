@@ -2,7 +2,7 @@
 use Rattle.std.proofs.Common.{◌≡◌, false, nat_lt, take}
 use Rattle.std.specs.List.{list_any}
 use Rattle.omega_acc.specs.Limits.{most_depth}
-use Rattle.omega_acc.specs.RawAcc.{raw_acc_depth}
+use Rattle.omega_acc.specs.formula.Raw.{raw_acc_depth}
 use Rattle.omega_raw.specs.declared.raw_item.RawItem.{RawItem}
 use Rattle.omega_automaton.specs.Faults.{passes}
 use Rattle.omega_automaton.specs.Items.{acceptance_in}

@@ -1,7 +1,7 @@
 -- What holds in the loop of `any_alias_beyond`: no definition so far mentions a proposition that is not below the count.
 use Rattle.std.proofs.Common.{◌≡◌, false, take}
 use Rattle.std.specs.List.{list_any}
-use Rattle.omega_acc.specs.Expanding.{Defined}
+use Rattle.omega_acc.specs.label.Expanding.{Defined}
 use Rattle.omega_raw.specs.declared.raw_item.RawItem.{RawItem}
 use Rattle.omega_automaton.specs.Faults.{is_beyond, passes}
 use Rattle.omega_automaton.specs.Items.{alias_in}

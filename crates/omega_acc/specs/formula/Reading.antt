@@ -1,0 +1,51 @@
+-- How acceptance formulas as they are written stand in tokens: `&` binds tighter than `|`, and equal operators group to the left (HOA v1).
+use Rattle.std.specs.Prelude.{◌≡◌, ℕ, Bool, true, false, List, [], ◌∷◌, ◌++◌, map}
+use Rattle.omega_acc.specs.formula.Raw.{RawAccTree, atom, conjunction, constant, disjunction, group}
+use Rattle.omega_acc.specs.Symbols.{EndsThere, Rank, Symbol, TakesAnd, TakesOr, conjunctive, disjunctive, number, sign, symbol_of, truth_kind, unary, word}
+use Rattle.omega_text.specs.Lexeme.{Lexeme}
+use Rattle.omega_text.specs.declared.hoa.kind.HoaKind.{HoaKind}
+use Rattle.omega_text.specs.declared.hoa.kind.HoaKind.TheVariants as kind
+
+-- the symbols of a set, with `!` before it or without
+abbrev pub set_spelled : Bool → ℕ → List Symbol
+set_spelled true set = sign kind.Not ∷ number set ∷ []
+set_spelled false set = number set ∷ []
+
+-- the symbols of an atom
+abbrev pub atom_spelled : List ℕ → Bool → ℕ → List Symbol
+atom_spelled name negated set = word name ∷ sign kind.OpenParenthesis ∷ (set_spelled negated set ++ sign kind.CloseParenthesis ∷ [])
+
+-- the symbols of an acceptance formula
+abbrev pub acc_spelled : RawAccTree → List Symbol
+acc_spelled (constant value) = sign (truth_kind value) ∷ []
+acc_spelled (atom name negated set) = atom_spelled name negated set
+acc_spelled (conjunction left right) = acc_spelled left ++ sign kind.And ∷ acc_spelled right
+acc_spelled (disjunction left right) = acc_spelled left ++ sign kind.Or ∷ acc_spelled right
+acc_spelled (group part) = sign kind.OpenParenthesis ∷ (acc_spelled part ++ sign kind.CloseParenthesis ∷ [])
+
+-- the formula is of this case: an or-expression is an and-expression or an or-expression, `|` and an and-expression; an
+-- and-expression is a unary one or an and-expression, `&` and a unary one; a unary one is a constant, an atom, or an or-expression
+-- in parentheses
+abbrev pub IsAccOf : Rank → RawAccTree → Type 0
+IsAccOf rank (constant value) = Unit {0}
+IsAccOf rank (atom name negated set) = Unit {0}
+IsAccOf rank (conjunction left right) = TakesAnd rank × (IsAccOf conjunctive left × IsAccOf unary right)
+IsAccOf rank (disjunction left right) = TakesOr rank × (IsAccOf disjunctive left × IsAccOf conjunctive right)
+IsAccOf rank (group part) = IsAccOf disjunctive part
+
+-- the tokens are a formula's, and then the rest, which does not go on with an operator
+pub record ReadsAcc (tokens : List (Lexeme HoaKind)) (tree : RawAccTree) (rest : List (Lexeme HoaKind)) : Type 0 where
+  pub front : List (Lexeme HoaKind)
+  pub split : tokens ≡ front ++ rest
+  pub spells : map symbol_of front ≡ acc_spelled tree
+  pub is : IsAccOf disjunctive tree
+  pub ends : EndsThere rest
+
+-- no front of the tokens is a formula with no operator behind it
+abbrev pub ReadsNoAcc : List (Lexeme HoaKind) → Type 0
+ReadsNoAcc tokens = (tree : RawAccTree) (rest : List (Lexeme HoaKind)) → ReadsAcc tokens tree rest → ⊥
+
+-- of all tokens at most one formula is read, and at most one rest is left
+abbrev pub FormulasAreOne : Type 0
+FormulasAreOne = (tokens : List (Lexeme HoaKind)) (one other : RawAccTree) (rest left : List (Lexeme HoaKind))
+    → ReadsAcc tokens one rest → ReadsAcc tokens other left → (one ≡ other) × (rest ≡ left)

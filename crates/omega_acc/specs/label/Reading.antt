@@ -1,0 +1,60 @@
+-- How labels as they are written stand in tokens: `!` binds tightest, then `&`, then `|`, and equal operators group to the left (HOA v1).
+use Rattle.std.specs.Prelude.{◌≡◌, ◌<◌, List, [], ◌∷◌, ◌++◌, map}
+use Rattle.omega_acc.specs.label.Raw.{RawLabelTree, alias, conjunction, constant, disjunction, group, negation, proposition, raw_depth}
+use Rattle.omega_acc.specs.Limits.{most_depth}
+use Rattle.omega_acc.specs.Symbols.{EndsThere, IsSyntax, Rank, Symbol, TakesAnd, TakesOr, conjunctive, disjunctive, name, number, sign, symbol_of, truth_kind, unary}
+use Rattle.omega_text.specs.Cases.{never, or_automaton, or_memory, or_text}
+use Rattle.omega_text.specs.Lexeme.{Lexeme}
+use Rattle.omega_text.specs.declared.hoa.kind.HoaKind.{HoaKind}
+use Rattle.omega_text.specs.declared.hoa.kind.HoaKind.TheVariants as kind
+use Rattle.omega_text.specs.declared.refusal.Refusal.{Refusal}
+use Rattle.omega_text.specs.declared.refusal.automaton.AutomatonFault.TheVariants.{TooDeep}
+
+-- the symbols of a label
+abbrev pub spelled : RawLabelTree → List Symbol
+spelled (constant value) = sign (truth_kind value) ∷ []
+spelled (proposition value) = number value ∷ []
+spelled (alias text) = name text ∷ []
+spelled (negation part) = sign kind.Not ∷ spelled part
+spelled (conjunction left right) = spelled left ++ sign kind.And ∷ spelled right
+spelled (disjunction left right) = spelled left ++ sign kind.Or ∷ spelled right
+spelled (group part) = sign kind.OpenParenthesis ∷ (spelled part ++ sign kind.CloseParenthesis ∷ [])
+
+-- the label is of this case: an or-expression is an and-expression or an or-expression, `|` and an and-expression; an
+-- and-expression is a unary one or an and-expression, `&` and a unary one; a unary one is an atom, `!` and a unary one, or an
+-- or-expression in parentheses
+abbrev pub IsOf : Rank → RawLabelTree → Type 0
+IsOf rank (constant value) = Unit {0}
+IsOf rank (proposition value) = Unit {0}
+IsOf rank (alias text) = Unit {0}
+IsOf rank (negation part) = IsOf unary part
+IsOf rank (conjunction left right) = TakesAnd rank × (IsOf conjunctive left × IsOf unary right)
+IsOf rank (disjunction left right) = TakesOr rank × (IsOf disjunctive left × IsOf conjunctive right)
+IsOf rank (group part) = IsOf disjunctive part
+
+-- the tokens are a label's, and then the rest, which does not go on with an operator
+pub record Reads (tokens : List (Lexeme HoaKind)) (tree : RawLabelTree) (rest : List (Lexeme HoaKind)) : Type 0 where
+  pub front : List (Lexeme HoaKind)
+  pub split : tokens ≡ front ++ rest
+  pub spells : map symbol_of front ≡ spelled tree
+  pub is : IsOf disjunctive tree
+  pub ends : EndsThere rest
+
+-- no front of the tokens is a label with no operator behind it
+abbrev pub ReadsNone : List (Lexeme HoaKind) → Type 0
+ReadsNone tokens = (tree : RawLabelTree) (rest : List (Lexeme HoaKind)) → Reads tokens tree rest → ⊥
+
+-- a label is read that is too deep
+pub record ReadsDeep (tokens rest : List (Lexeme HoaKind)) : Type 0 where
+  pub tree : RawLabelTree
+  pub reads : Reads tokens tree rest
+  pub deep : most_depth < raw_depth tree
+
+-- the refusals of reading a label, where none is read, and where one is that is too deep
+abbrev pub IsUnreadLabel : Type 0 → Type 0 → Refusal → Type 0
+IsUnreadLabel none deep = or_text (IsSyntax none) (or_automaton (λ fault. (fault ≡ TooDeep) × deep) (or_memory never))
+
+-- of all tokens at most one label is read, and at most one rest is left
+abbrev pub LabelsAreOne : Type 0
+LabelsAreOne = (tokens : List (Lexeme HoaKind)) (one other : RawLabelTree) (rest left : List (Lexeme HoaKind))
+    → Reads tokens one rest → Reads tokens other left → (one ≡ other) × (rest ≡ left)

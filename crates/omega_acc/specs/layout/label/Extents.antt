@@ -1,0 +1,60 @@
+-- How deep and large meanings are, counted no further than just past the limits.
+use Rattle.std.specs.Prelude.{ℕ, ◌+◌, List, [], ◌∷◌, Option, Some, None, option_map, max, min, take, drop}
+use Rattle.omega_acc.specs.label.Expanding.{Entry, Meaning, stands_for}
+use Rattle.omega_acc.specs.label.Label.{label_size}
+use Rattle.omega_acc.specs.declared.label.extents.Extent.{Extent}
+use Rattle.omega_acc.specs.declared.label.LabelNode.{LabelNode}
+use Rattle.omega_acc.specs.declared.label.LabelNode.TheVariants.{Alias, And, Constant, Group, Not, Or, Proposition}
+
+-- the extent of a meaning
+abbrev pub extent_of : Meaning → Extent
+extent_of meaning = record { depth = min meaning.depth 257; size = min (label_size meaning.tree) 65537 }
+
+-- an atom's extent
+abbrev pub atom_extent : Option Extent
+atom_extent = Some (record { depth = 1; size = 1 })
+
+-- the extent in parentheses
+abbrev pub deeper_extent : Extent → Extent
+deeper_extent part = record { depth = min (part.depth + 1) 257; size = part.size }
+
+-- the extent behind `!`
+abbrev pub negated_extent : Extent → Extent
+negated_extent part = record { depth = min (part.depth + 1) 257; size = min (part.size + 1) 65537 }
+
+-- the extent of two parts and their operator, where there are both
+abbrev pub both_extents : Option Extent → Option Extent → Option Extent
+both_extents None right = None
+both_extents (Some left) None = None
+both_extents (Some left) (Some right) =
+    Some (record { depth = min (max left.depth right.depth + 1) 257; size = min (left.size + right.size + 1) 65537 })
+
+-- the extent on top, none where there is none
+abbrev pub top_extent : List (Option Extent) → Option Extent
+top_extent [] = None
+top_extent (extent ∷ extents) = extent
+
+-- the extents below the top
+abbrev pub extents_below : List (Option Extent) → List (Option Extent)
+extents_below [] = []
+extents_below (extent ∷ extents) = extents
+
+-- the extents that nodes leave of those before them, where these names are left and names have these extents
+abbrev pub extents_behind : (List ℕ → Option Extent) → List (Option Extent) → List ℕ → List LabelNode → List (Option Extent)
+extents_behind named stack names [] = stack
+extents_behind named stack names (Constant value ∷ nodes) = extents_behind named (atom_extent ∷ stack) names nodes
+extents_behind named stack names (Proposition number ∷ nodes) = extents_behind named (atom_extent ∷ stack) names nodes
+extents_behind named stack names (Alias count ∷ nodes) =
+    extents_behind named (option_map deeper_extent (named (take count names)) ∷ stack) (drop count names) nodes
+extents_behind named stack names (Not ∷ nodes) =
+    extents_behind named (option_map negated_extent (top_extent stack) ∷ extents_below stack) names nodes
+extents_behind named stack names (And ∷ nodes) =
+    extents_behind named (both_extents (top_extent (extents_below stack)) (top_extent stack) ∷ extents_below (extents_below stack)) names nodes
+extents_behind named stack names (Or ∷ nodes) =
+    extents_behind named (both_extents (top_extent (extents_below stack)) (top_extent stack) ∷ extents_below (extents_below stack)) names nodes
+extents_behind named stack names (Group ∷ nodes) =
+    extents_behind named (option_map deeper_extent (top_extent stack) ∷ extents_below stack) names nodes
+
+-- the extent of a name among entries
+abbrev pub extent_named : List Entry → List ℕ → Option Extent
+extent_named entries name = option_map extent_of (stands_for entries name)

@@ -1,0 +1,141 @@
+//! Acceptance formulas read from tokens.
+
+ghost use Rattle.std.specs.Prelude.{◌≡◌, ◌<◌, ◌≤◌, List, length, IfErr, IfOk, MatchBool, OnOk};
+ghost use Rattle.omega_acc.specs.formula.Meaning.{IsUnreadAcc, ReadsFaulty, ReadsMeant};
+ghost use Rattle.omega_acc.specs.formula.Reading.{ReadsAcc, ReadsNoAcc};
+ghost use Rattle.omega_acc.specs.Symbols.{IsUnread, conjunctive, unary};
+ghost use Rattle.omega_acc.specs.layout.formula.Building.{HasIn, IsWhole, WantsIn};
+ghost use Rattle.omega_acc.specs.layout.formula.States.{IsStuck, PassesSet, named};
+ghost use Rattle.omega_text.specs.Lexeme.{Lexeme};
+ghost use Rattle.omega_text.specs.declared.hoa.kind.HoaKind.{HoaKind as Kind};
+
+use crate::formula::Acc;
+use crate::formula::raw::{RawAcc, RawAccNode};
+use crate::formula::unfinished::UnfinishedAcc;
+use crate::label::unfinished::deeper;
+use crate::passing::{is_passed, number, pass};
+use crate::pending::Pending;
+use omega_text::{HoaKind, Refusal, TextFault, TokenSource};
+use std::alloc::Global;
+
+/// Reads an acceptance formula as it is written, which is the one front of the tokens that is a formula and has neither `&` nor
+/// `|` behind it (HOA v1, acceptance). Refusal 3 where there is none. Time is linear, and nothing recurs.
+pub fn read_raw_acc<'a, S: TokenSource<'a, HoaKind>>(
+    alloc: Global,
+    source: &mut S,
+) -> Result<RawAcc, Refusal>
+    ensures ok { IfOk result (λ formula. ReadsAcc (S.left source.old) formula (S.left source.new)) }
+    ensures err { IfErr result (IsUnread (ReadsNoAcc (S.left source.old))) }
+{
+    let mut unfinished = UnfinishedAcc::new(alloc);
+    operand(&mut unfinished, source)?;
+    while goes_on(&mut unfinished, source)? {}
+    Ok(RawAcc::of_nodes(unfinished.nodes, unfinished.names, unfinished.depth))
+}
+
+/// Reads an acceptance formula as `read_raw_acc` does, and gives what it means. Refusal 3 where there is none, else 31 where an
+/// atom is neither `Fin` nor `Inf`, else 32 where it is over 256 deep; the tokens behind it are then left.
+pub fn read_acc<'a, S: TokenSource<'a, HoaKind>>(
+    alloc: Global,
+    source: &mut S,
+) -> Result<Acc, Refusal>
+    ensures ok { IfOk result (λ formula. ReadsMeant (S.left source.old) formula (S.left source.new)) }
+    ensures err { IfErr result (IsUnreadAcc (ReadsNoAcc (S.left source.old)) (λ fault. ReadsFaulty (S.left source.old) fault (S.left source.new))) }
+{
+    let raw = read_raw_acc(alloc, source)?;
+    raw.formula(alloc)
+}
+
+/// Reads a unary part, with what stands before it, and joins it to what waits for it before `&`.
+fn operand<'a, S: TokenSource<'a, HoaKind>>(
+    unfinished: &mut UnfinishedAcc,
+    source: &mut S,
+) -> Result<(), Refusal>
+    ensures ok { OnOk result ((whole : List (Lexeme Kind)) → WantsIn whole (S.left source.old) unfinished.old → HasIn conjunctive whole (S.left source.new) unfinished.new) }
+    ensures err { IfErr result (λ refusal. (whole : List (Lexeme Kind)) → WantsIn whole (S.left source.old) unfinished.old → IsUnread (ReadsNoAcc whole) refusal) }
+    ensures less { OnOk result (length (S.left source.new) < length (S.left source.old)) }
+{
+    while is_prefix(unfinished, source)? {}
+    unfinished.bind_tightly()
+}
+
+/// Passes a token where a part is wanted, and says whether one is wanted still.
+fn is_prefix<'a, S: TokenSource<'a, HoaKind>>(
+    unfinished: &mut UnfinishedAcc,
+    source: &mut S,
+) -> Result<bool, Refusal>
+    ensures wants { IfOk result (λ more. (whole : List (Lexeme Kind)) → WantsIn whole (S.left source.old) unfinished.old
+        → MatchBool more (WantsIn whole (S.left source.new) unfinished.new) (HasIn unary whole (S.left source.new) unfinished.new)) }
+    ensures err { IfErr result (λ refusal. (whole : List (Lexeme Kind)) → WantsIn whole (S.left source.old) unfinished.old → IsUnread (ReadsNoAcc whole) refusal) }
+    ensures less { OnOk result (length (S.left source.new) < length (S.left source.old)) }
+{
+    let at = source.place();
+    let Some(token) = source.take() else {
+        return Err(Refusal::Text(TextFault::Syntax { at }));
+    };
+    match token.kind {
+        HoaKind::OpenParenthesis => {
+            unfinished.pending.push(Pending::Open)?;
+            return Ok(true);
+        }
+        HoaKind::True => unfinished.nodes.push(RawAccNode::Constant(true))?,
+        HoaKind::False => unfinished.nodes.push(RawAccNode::Constant(false))?,
+        HoaKind::Identifier => {
+            let (negated, at_set) = set(source)?;
+            unfinished
+                .nodes
+                .push(RawAccNode::Atom(token.text.len(), negated, at_set))?;
+            unfinished.names.extend_from_slice(token.text)?;
+        }
+        _ => return Err(Refusal::Text(TextFault::Syntax { at })),
+    }
+    unfinished.depth = 1;
+    Ok(false)
+}
+
+/// Passes a token behind a part, with the part that it joins, and says whether more may follow; if not, the whole formula is read.
+fn goes_on<'a, S: TokenSource<'a, HoaKind>>(
+    unfinished: &mut UnfinishedAcc,
+    source: &mut S,
+) -> Result<bool, Refusal>
+    ensures more { IfOk result (λ more. (whole : List (Lexeme Kind)) → HasIn conjunctive whole (S.left source.old) unfinished.old
+        → MatchBool more (HasIn conjunctive whole (S.left source.new) unfinished.new) (IsWhole whole (S.left source.new) unfinished.new)) }
+    ensures err { IfErr result (λ refusal. (whole : List (Lexeme Kind)) → HasIn conjunctive whole (S.left source.old) unfinished.old → IsUnread (ReadsNoAcc whole) refusal) }
+    ensures less { IfOk result (λ more. MatchBool more (length (S.left source.new) < length (S.left source.old)) (Unit {0})) }
+{
+    if is_passed(source, HoaKind::And) {
+        unfinished.pending.push(Pending::And(unfinished.depth))?;
+        operand(unfinished, source)?;
+        return Ok(true);
+    }
+    unfinished.bind_loosely()?;
+    if is_passed(source, HoaKind::Or) {
+        unfinished.pending.push(Pending::Or(unfinished.depth))?;
+        operand(unfinished, source)?;
+        return Ok(true);
+    }
+    let Some(_) = unfinished.pending.pop() else {
+        return Ok(false);
+    };
+    if !is_passed(source, HoaKind::CloseParenthesis) {
+        let at = source.place();
+        return Err(Refusal::Text(TextFault::Syntax { at }));
+    }
+    unfinished.nodes.push(RawAccNode::Group)?;
+    unfinished.depth = deeper(unfinished.depth);
+    unfinished.bind_tightly()?;
+    Ok(true)
+}
+
+/// Passes the set of an atom in parentheses, with `!` before it or without.
+fn set<'a, S: TokenSource<'a, HoaKind>>(source: &mut S) -> Result<(bool, u32), Refusal>
+    ensures ok { IfOk result (λ set. PassesSet set.0 set.1 (S.left source.old) (S.left source.new)) }
+    ensures err { IfErr result (IsUnread (IsStuck named (S.left source.old))) }
+    ensures less { OnOk result (length (S.left source.new) < length (S.left source.old)) }
+{
+    pass(source, HoaKind::OpenParenthesis)?;
+    let negated = is_passed(source, HoaKind::Not);
+    let set = number(source)?;
+    pass(source, HoaKind::CloseParenthesis)?;
+    Ok((negated, set))
+}

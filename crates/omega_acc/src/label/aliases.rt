@@ -1,0 +1,284 @@
+ghost use Rattle.std.specs.Prelude.{◌≡◌, ◌<◌, ◌++◌, [], ◌∷◌, drop, false, length, map, option_map, take, IfErr, IfOk, IfSome, OnErr, OnOk};
+ghost use Rattle.std.specs.List.{list_any};
+ghost use Rattle.std.specs.Str.{bytes_eq};
+ghost use Rattle.omega_acc.specs.Depth.{IsMemory};
+ghost use Rattle.omega_acc.specs.label.Expanding.{IsAdded, IsBodyAt, IsRepeated, entries_of, expansion, place_among};
+ghost use Rattle.omega_acc.specs.layout.label.Emitting.{IsKept, IsKeptAt};
+ghost use Rattle.omega_acc.specs.layout.label.Extents.{extent_named, extent_of};
+
+use crate::label::LabelNode;
+use crate::label::codes::ROOM;
+use crate::label::expansion::emit;
+use crate::label::extents::{Extent, Extents, atom, bare, both, in_parentheses, negated};
+use crate::label::raw::RawLabel;
+use indexmap::IndexSet;
+use omega_text::{AutomatonFault, ByteString, Refusal, Seq};
+use std::alloc::Global;
+use std::marker::Model;
+
+/// The most nodes that are kept of one definition once expanded.
+const MOST_KEPT_OF_ONE: u32 = 512;
+
+/// The most nodes that are kept of all definitions once expanded, in half a megabyte.
+const MOST_KEPT: usize = 65_536;
+
+/// An alias: its name, its definition as it is written, and how deep and large that is once expanded, none where it
+/// reaches an undefined alias. Where its nodes once expanded are few they are kept, so that a chain of definitions is not
+/// gone down again for each label that names its end.
+#[derive(Drop)]
+pub(crate) struct Definition {
+    name: ByteString,
+    body: RawLabel,
+    extent: Option<Extent>,
+    expanded: Option<Seq<LabelNode>>,
+}
+
+/// Aliases with their definitions, in the order of their items, kept unexpanded.
+///
+/// An alias inside a definition stands for an earlier definition alone.
+#[derive(Drop)]
+pub struct Aliases {
+    names: IndexSet<Vec<u8>>,
+    definitions: Vec<Definition>,
+    room: usize,
+}
+
+impl Model for Aliases {
+    ghost use Rattle.std.specs.Prelude.{List};
+    ghost use Rattle.std.specs.Coded.{coded_list};
+    ghost use Rattle.omega_acc.specs.label.Expanding.{Defined, defined_code};
+
+    ghost Value = { List Defined };
+
+    ghost coded = { coded_list defined_code };
+
+    ghost use Rattle.omega_acc.specs.layout.label.Aliases.{IsAliases, definitions_of};
+
+    ghost view = { definitions_of };
+
+    ghost invariant = { IsAliases };
+}
+
+impl Aliases {
+    /// No aliases, which takes no memory.
+    pub fn new(alloc: Global) -> Aliases
+        ensures { result ≡ [] }
+    {
+        Aliases {
+            names: IndexSet::new(alloc),
+            definitions: Vec::new(alloc),
+            room: MOST_KEPT,
+        }
+    }
+
+    /// How many there are.
+    pub(crate) fn len(&self) -> usize
+        ensures { result ≡ length self.now }
+    {
+        self.definitions.len()
+    }
+
+    /// The place of a name, or how many there are where it is not among them.
+    pub(crate) fn place(&self, name: &[u8]) -> usize
+        ensures { result ≡ place_among self.now name.now }
+    {
+        match self.names.get_index_of(name) {
+            Some(place) => place,
+            None => self.len(),
+        }
+    }
+
+    /// The definition at a place.
+    pub(crate) fn body(&self, place: usize) -> &RawLabel
+        requires { place < length self.now }
+        ensures { IsBodyAt self.now place result.now }
+    {
+        &self.definitions[place].body
+    }
+
+    /// The nodes of the definition at a place once expanded, where they are kept.
+    pub(crate) fn kept(&self, place: usize) -> Option<&[LabelNode]>
+        requires { place < length self.now }
+        ensures { IfSome result (λ nodes. IsKeptAt self.now place nodes.now) }
+    {
+        match &self.definitions[place].expanded {
+            Some(nodes) => Some(nodes.as_slice()),
+            None => None,
+        }
+    }
+
+    /// The extent of what a name stands for.
+    fn extent(&self, name: &[u8]) -> Option<Extent>
+        ensures { result ≡ extent_named (entries_of [] self.now) name.now }
+    {
+        let place = self.place(name);
+        if place < self.len() {
+            self.definitions[place].extent
+        } else {
+            None
+        }
+    }
+
+    /// The extent of a label once expanded. Refusal 60 alone; a label without aliases takes no memory.
+    pub(crate) fn measure(&self, alloc: Global, raw: &RawLabel) -> Result<Option<Extent>, Refusal>
+        ensures ok { IfOk result (λ extent. extent ≡ option_map extent_of (expansion self.now raw.now)) }
+        ensures err { IfErr result IsMemory }
+    {
+        match raw.bare_size() {
+            Some(size) => Ok(Some(bare(raw.depth(), size))),
+            None => self.measure_nodes(alloc, raw),
+        }
+    }
+
+    /// The same, node by node.
+    fn measure_nodes(&self, alloc: Global, raw: &RawLabel) -> Result<Option<Extent>, Refusal>
+        ensures ok { IfOk result (λ extent. extent ≡ option_map extent_of (expansion self.now raw.now)) }
+        ensures err { IfErr result IsMemory }
+    {
+        let mut stack = Extents::new(alloc);
+        let mut names = raw.names();
+        let mut room = ROOM;
+        let nodes = raw.nodes(&mut room);
+        for node in nodes {
+            let extent = match node {
+                LabelNode::Constant(_) | LabelNode::Proposition(_) => atom(),
+                LabelNode::Alias(count) => {
+                    let extent = self.extent(front(names, *count as usize));
+                    names = behind(names, *count as usize);
+                    in_parentheses(extent)
+                }
+                LabelNode::Not => negated(stack.pop()),
+                LabelNode::Group => in_parentheses(stack.pop()),
+                LabelNode::And | LabelNode::Or => {
+                    let right = stack.pop();
+                    both(stack.pop(), right)
+                }
+            };
+            stack.push(extent)?;
+        }
+        Ok(stack.pop())
+    }
+
+    /// Puts a definition last. Refusal 27 exactly where the name is there; after a refusal all is as before, and the
+    /// definition is given up.
+    pub fn add(&mut self, name: &[u8], body: RawLabel) -> Result<(), Refusal>
+        ensures ok { OnOk result (IsAdded self.old name.now body self.new) }
+        ensures same { OnErr result (self.new ≡ self.old) }
+        ensures err { IfErr result (IsRepeated self.old name.now) }
+    {
+        if self.place(name) < self.len() {
+            return Err(Refusal::Automaton(AutomatonFault::Alias));
+        }
+        let alloc = *self.definitions.allocator();
+        let extent = self.measure(alloc, &body)?;
+        let expanded = self.expanded(alloc, &body, extent)?;
+        let room = self.room_beside(&expanded);
+        put_last(
+            &mut self.names,
+            &mut self.definitions,
+            name,
+            body,
+            extent,
+            expanded,
+        )?;
+        self.room = room;
+        Ok(())
+    }
+
+    /// The nodes of a definition once expanded, where they are few enough to be kept. What it names is kept then too, so
+    /// that no definition is gone down into.
+    fn expanded(
+        &self,
+        alloc: Global,
+        body: &RawLabel,
+        extent: Option<Extent>,
+    ) -> Result<Option<Seq<LabelNode>>, Refusal>
+        requires { extent ≡ option_map extent_of (expansion self.now body.now) }
+        ensures ok { IfOk result (λ kept. IsKept kept (expansion self.now body.now)) }
+        ensures err { IfErr result IsMemory }
+    {
+        let Some(extent) = extent else {
+            return Ok(None);
+        };
+        if extent.size > MOST_KEPT_OF_ONE || extent.size as usize > self.room {
+            return Ok(None);
+        }
+        let mut nodes = Vec::with_capacity(alloc, extent.size as usize)?;
+        emit(self, body, self.len(), &mut nodes)?;
+        Ok(Some(Seq::from_vec(nodes)))
+    }
+
+    /// How many more nodes may be kept beside these.
+    fn room_beside(&self, expanded: &Option<Seq<LabelNode>>) -> usize {
+        match expanded {
+            Some(nodes) => self.room.saturating_sub(nodes.len()),
+            None => self.room,
+        }
+    }
+}
+
+/// Puts a name that is not there and its definition last. After refusal 60 all is as before.
+fn put_last(
+    names: &mut IndexSet<Vec<u8>>,
+    definitions: &mut Vec<Definition>,
+    name: &[u8],
+    body: RawLabel,
+    extent: Option<Extent>,
+    expanded: Option<Seq<LabelNode>>,
+) -> Result<(), Refusal>
+    requires { list_any (λ key. bytes_eq name.now key.items) names.old.keys ≡ false }
+    ensures names { OnOk result (map (λ key. key.items) names.new.keys ≡ map (λ key. key.items) names.old.keys ++ name.now ∷ []) }
+    ensures definitions { OnOk result (definitions.new.items ≡ definitions.old.items ++ record { name = name.now; body = body; extent = extent; expanded = expanded } ∷ []) }
+    ensures same_names { OnErr result (map (λ key. key.items) names.new.keys ≡ map (λ key. key.items) names.old.keys) }
+    ensures same_definitions { OnErr result (definitions.new.items ≡ definitions.old.items) }
+    ensures err { IfErr result IsMemory }
+{
+    let alloc = *definitions.allocator();
+    let key = copied(alloc, name)?;
+    let copy = ByteString::from_slice(alloc, name)?;
+    definitions.push(Definition {
+        name: copy,
+        body,
+        extent,
+        expanded,
+    })?;
+    match names.insert(key) {
+        Ok(_) => Ok(()),
+        Err(_) => {
+            definitions.pop();
+            Err(Refusal::Memory)
+        }
+    }
+}
+
+/// The same bytes.
+fn copied(alloc: Global, bytes: &[u8]) -> Result<Vec<u8>, Refusal>
+    ensures ok { IfOk result (λ copy. copy.items ≡ bytes.now) }
+    ensures err { IfErr result IsMemory }
+{
+    let mut copy = Vec::new(alloc);
+    copy.extend_from_slice(bytes)?;
+    Ok(copy)
+}
+
+/// The first bytes of some, as many as there are up to a count.
+pub(crate) fn front(bytes: &[u8], count: usize) -> &[u8]
+    ensures { result.now ≡ take count bytes.now }
+{
+    if count < bytes.len() {
+        &bytes[..count]
+    } else {
+        bytes
+    }
+}
+
+/// The bytes behind the first ones.
+pub(crate) fn behind(bytes: &[u8], count: usize) -> &[u8]
+    ensures { result.now ≡ drop count bytes.now }
+{
+    if count < bytes.len() {
+        &bytes[count..]
+    } else {
+        &[]
+    }
+}

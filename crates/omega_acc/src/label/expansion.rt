@@ -1,0 +1,142 @@
+ghost use Rattle.std.specs.Prelude.{◌≡◌, ◌≤◌, ◌++◌, [], length, slice_range, take, IfErr, IfOk, IsSome, OnOk};
+ghost use Rattle.omega_acc.specs.Depth.{IsMemory};
+ghost use Rattle.omega_acc.specs.label.Expanding.{IsExpanded, IsExpansion, IsUnexpanded, entries_of, replaced};
+ghost use Rattle.omega_acc.specs.layout.label.Emitting.{nodes_of};
+
+use crate::label::aliases::{Aliases, behind, front};
+use crate::label::codes::ROOM;
+use crate::label::raw::RawLabel;
+use crate::label::{Label, LabelNode};
+use crate::limits::{MOST_DEPTH, MOST_SIZE};
+use omega_text::{AutomatonFault, Refusal};
+use std::alloc::Global;
+
+/// A label with its aliases replaced by their definitions and its parentheses gone.
+///
+/// Refusal 27 where it reaches an undefined alias, else 32 where it is over 256 deep, an alias counting as its definition
+/// between parentheses, else 33 where it has over 65,536 tree nodes; all before anything is copied.
+pub fn expand(alloc: Global, raw: &RawLabel, aliases: &Aliases) -> Result<Label, Refusal>
+    ensures ok { IfOk result (λ label. IsExpansion aliases.now raw.now label) }
+    ensures err { IfErr result (IsUnexpanded aliases.now raw.now) }
+{
+    let size = expanded_size(alloc, raw, aliases)?;
+    replace_aliases(alloc, raw, aliases, size)
+}
+
+/// The same of a label that is let go: one without aliases keeps its memory, and nothing is copied.
+pub fn expand_in_place(alloc: Global, raw: RawLabel, aliases: &Aliases) -> Result<Label, Refusal>
+    ensures ok { IfOk result (λ label. IsExpansion aliases.now raw label) }
+    ensures err { IfErr result (IsUnexpanded aliases.now raw) }
+{
+    let size = expanded_size(alloc, &raw, aliases)?;
+    if raw.has_alias() {
+        replace_aliases(alloc, &raw, aliases, size)
+    } else {
+        Ok(raw.without_parentheses())
+    }
+}
+
+/// The label with its aliases replaced by their definitions and its parentheses gone, which has so many tree nodes.
+fn replace_aliases(
+    alloc: Global,
+    raw: &RawLabel,
+    aliases: &Aliases,
+    size: u32,
+) -> Result<Label, Refusal>
+    requires { IsExpanded aliases.now raw.now size }
+    ensures ok { IfOk result (λ label. IsExpansion aliases.now raw.now label) }
+    ensures err { IfErr result IsMemory }
+{
+    let mut nodes = Vec::with_capacity(alloc, size as usize)?;
+    emit(aliases, raw, aliases.len(), &mut nodes)?;
+    Label::of_nodes(alloc, nodes)
+}
+
+/// How many tree nodes a label has once expanded, with the refusals of `expand` and nothing copied.
+pub fn expanded_size(alloc: Global, raw: &RawLabel, aliases: &Aliases) -> Result<u32, Refusal>
+    ensures ok { IfOk result (λ size. IsExpanded aliases.now raw.now size) }
+    ensures err { IfErr result (IsUnexpanded aliases.now raw.now) }
+{
+    let Some(extent) = aliases.measure(alloc, raw)? else {
+        return Err(Refusal::Automaton(AutomatonFault::Alias));
+    };
+    if extent.depth > MOST_DEPTH {
+        return Err(Refusal::Automaton(AutomatonFault::TooDeep));
+    }
+    if extent.size > MOST_SIZE {
+        return Err(Refusal::Automaton(AutomatonFault::Expansion));
+    }
+    Ok(extent.size)
+}
+
+/// Where the nodes stand that an alias was replaced by.
+#[derive(Clone, Copy)]
+struct Stretch {
+    place: usize,
+    start: usize,
+    end: usize,
+}
+
+/// Appends the nodes of a label with its aliases replaced by the definitions before a place. It goes down at most as far as
+/// the label is deep. An alias whose nodes are kept, or that is the same as the one before it, is copied from there and not
+/// gone down into.
+pub(crate) fn emit(
+    aliases: &Aliases,
+    raw: &RawLabel,
+    before: usize,
+    out: &mut Vec<LabelNode>,
+) -> Result<(), Refusal>
+    requires within { before ≤ length aliases.now }
+    requires defined { IsSome (replaced (take before (entries_of [] aliases.now)) raw.now) }
+    ensures ok { OnOk result (out.new.items ≡ out.old.items ++ nodes_of (replaced (take before (entries_of [] aliases.now)) raw.now)) }
+    ensures err { IfErr result IsMemory }
+{
+    let mut names = raw.names();
+    let mut last = Stretch {
+        place: before,
+        start: 0,
+        end: 0,
+    };
+    let mut room = ROOM;
+    let nodes = raw.nodes(&mut room);
+    for node in nodes {
+        match node {
+            LabelNode::Constant(value) => out.push(LabelNode::Constant(*value))?,
+            LabelNode::Proposition(number) => out.push(LabelNode::Proposition(*number))?,
+            LabelNode::Not => out.push(LabelNode::Not)?,
+            LabelNode::And => out.push(LabelNode::And)?,
+            LabelNode::Or => out.push(LabelNode::Or)?,
+            LabelNode::Group => {}
+            LabelNode::Alias(count) => {
+                let place = aliases.place(front(names, *count as usize));
+                names = behind(names, *count as usize);
+                if place < before {
+                    let body = aliases.body(place);
+                    if let Some(kept) = aliases.kept(place) {
+                        out.extend_from_slice(kept)?;
+                    } else if place == last.place {
+                        repeat(out, last.start, last.end)?;
+                    } else {
+                        let start = out.as_slice().len();
+                        emit(aliases, body, place, out)?;
+                        let end = out.as_slice().len();
+                        last = Stretch { place, start, end };
+                    }
+                }
+            }
+        }
+    }
+    Ok(())
+}
+
+/// Appends nodes that stand there once more.
+fn repeat(out: &mut Vec<LabelNode>, start: usize, end: usize) -> Result<(), Refusal>
+    requires forward { start ≤ end }
+    requires within { end ≤ length out.old.items }
+    ensures ok { OnOk result (out.new.items ≡ out.old.items ++ slice_range out.old.items start end) }
+    ensures err { IfErr result IsMemory }
+{
+    prove!(end <= out.as_slice().len());
+    out.extend_from_within(start..end)?;
+    Ok(())
+}

@@ -1,0 +1,100 @@
+//! Whether a label can be true.
+
+ghost use Rattle.std.specs.Prelude.{◌≡◌, ◌≤◌, ◌-◌, ◌^◌, ◌↔◌, [], length, IfErr, IfOk, IsTrue};
+ghost use Rattle.omega_acc.specs.Limits.{most_mentioned};
+ghost use Rattle.omega_acc.specs.label.Satisfiable.{IsJudged, IsOverMentioned, IsSatisfiable, mentioned};
+ghost use Rattle.omega_acc.specs.layout.label.Words.{peak, top_word, word_among, words_behind};
+
+use crate::label::codes::{MOST_IN_PLACE, ROOM};
+use crate::label::mentioned::Mentioned;
+use crate::label::words::Words;
+use crate::label::{Label, LabelNode};
+use omega_text::{Refusal, TaskFault};
+
+/// Whether some set of propositions makes a label true. Refusal 42 exactly where the label mentions over 12.
+///
+/// Takes no memory. At most 64 passes over the label, one for each 64 sets of the propositions mentioned.
+pub fn satisfiable(label: &Label) -> Result<bool, Refusal>
+    ensures ok { IfOk result (λ possible. IsJudged label.now possible) }
+    ensures err { IfErr result (IsOverMentioned label.now) }
+{
+    let mut room = ROOM;
+    let nodes = label.nodes(&mut room);
+    let mut found = Mentioned::new();
+    for node in nodes {
+        if let LabelNode::Proposition(number) = node {
+            if !found.add(*number) {
+                return Err(Refusal::Task(TaskFault::TooManyPropositions));
+            }
+        }
+    }
+    Ok(is_true_somewhere(label, &found))
+}
+
+/// Whether a label is true under some valuation of the propositions mentioned.
+fn is_true_somewhere(label: &Label, found: &Mentioned) -> bool
+    requires { found.now ≡ mentioned label.now }
+    ensures judged { IsTrue result ↔ IsSatisfiable label.now }
+    ensures within { length (mentioned label.now) ≤ most_mentioned }
+{
+    let mut room = ROOM;
+    let nodes = label.nodes(&mut room);
+    for block in 0..blocks(found.len()) {
+        if word_of(nodes, found, block) != 0 {
+            return true;
+        }
+    }
+    false
+}
+
+/// How many blocks of 64 valuations so many propositions have.
+fn blocks(count: usize) -> u64
+    requires { count ≤ most_mentioned }
+    ensures { result ≡ 2 ^ (count - 6) }
+{
+    1 << count.saturating_sub(6)
+}
+
+/// The word of nodes in postfix order under the valuations of a block.
+fn word_of(nodes: &[LabelNode], found: &Mentioned, block: u64) -> u64
+    requires { peak 0 nodes.now ≤ 256 }
+    ensures { result ≡ top_word (words_behind (word_among block 0 found.now) [] nodes.now) }
+{
+    // Few nodes need little room, and no more is made ready for them.
+    if nodes.len() <= MOST_IN_PLACE {
+        word_within::<21>(nodes, found, block)
+    } else {
+        word_within::<256>(nodes, found, block)
+    }
+}
+
+/// The same, where so many words stand at once at most.
+fn word_within<const MOST: usize>(nodes: &[LabelNode], found: &Mentioned, block: u64) -> u64
+    requires room { MOST ≤ 256 }
+    requires enough { peak 0 nodes.now ≤ MOST }
+    ensures { result ≡ top_word (words_behind (word_among block 0 found.now) [] nodes.now) }
+{
+    let mut words = Words::<MOST>::new();
+    for node in nodes {
+        match node {
+            LabelNode::Constant(value) => words.push(if *value { u64::MAX } else { 0 }),
+            LabelNode::Proposition(number) => words.push(found.word(block, *number)),
+            LabelNode::Not => {
+                let part = words.pop();
+                words.push(part ^ u64::MAX);
+            }
+            LabelNode::And => {
+                let right = words.pop();
+                let left = words.pop();
+                words.push(left & right);
+            }
+            LabelNode::Or => {
+                let right = words.pop();
+                let left = words.pop();
+                words.push(left | right);
+            }
+            LabelNode::Alias(_) | LabelNode::Group => {}
+        }
+    }
+    words.pop()
+}
