@@ -52,3 +52,7 @@ pub record IsLasso (a : Description) (stem cycle : List ℕ) : Type 0 where
 pub record IsAcceptingLasso (a : Description) (stem cycle : List ℕ) : Type 0 where
   pub lasso : IsLasso a stem cycle
   pub accepted : IsTrue (accepts (map (marks_at a) cycle) a.acceptance)
+
+-- an accepting lasso begins at a start: its stem leads from there
+abbrev pub AcceptsFrom : Description → ℕ → List ℕ → List ℕ → Type 0
+AcceptsFrom a start stem cycle = (accepting : IsAcceptingLasso a stem cycle) × (accepting.lasso.start ≡ start)

@@ -1,7 +1,9 @@
--- Infinite runs of automata, and that accepting runs and accepting lassos are the same question (HOA v1, acceptance).
+-- Infinite runs of automata without universal branching, and that accepting runs and accepting lassos are the same question
+-- (HOA v1, acceptance).
 use Rattle.std.specs.Prelude.{◌≡◌, ◌⊎◌, ℕ, ◌+◌, ◌≤◌, Bool, not, false, IsTrue, if◌then◌else◌, List}
 use Rattle.omega_acc.specs.formula.Acceptance.{AccTree, conjunction, constant, disjunction, fin, holds, inf}
 use Rattle.omega_automaton.specs.Automaton.{Description}
+use Rattle.omega_empty.specs.EmptinessGame.{has_branch}
 use Rattle.omega_empty.specs.Lasso.{IsAcceptingLasso, IsStart, IsStep, marks_at}
 
 -- a run: a start, and infinitely many usable edges by their numbers, each leaving the state that the one before enters
@@ -37,11 +39,11 @@ pub record IsAcceptingRun (a : Description) (states edges : ℕ → ℕ) : Type 
 -- an automaton with an accepting run has an accepting lasso
 abbrev pub AcceptingRunsHaveLassos : Type 0
 AcceptingRunsHaveLassos =
-    (a : Description) (states edges : ℕ → ℕ) → IsAcceptingRun a states edges
+    (a : Description) (states edges : ℕ → ℕ) → has_branch a ≡ false → IsAcceptingRun a states edges
     → (stem : List ℕ) × ((cycle : List ℕ) × IsAcceptingLasso a stem cycle)
 
 -- an automaton with an accepting lasso has an accepting run
 abbrev pub LassosAreAcceptingRuns : Type 0
 LassosAreAcceptingRuns =
-    (a : Description) (stem cycle : List ℕ) → IsAcceptingLasso a stem cycle
+    (a : Description) (stem cycle : List ℕ) → has_branch a ≡ false → IsAcceptingLasso a stem cycle
     → (states : ℕ → ℕ) × ((edges : ℕ → ℕ) × IsAcceptingRun a states edges)

@@ -9,7 +9,7 @@ use Rattle.omega_automaton.specs.Automaton.{Description}
 use Rattle.omega_game.specs.Game.{Node, priorities}
 use Rattle.omega_game.specs.declared.player.Player.TheVariants.{Zero}
 use Rattle.omega_measure.specs.Table.{is_too_wide}
-use Rattle.omega_solve.specs.Within.{GoesOnAfter}
+use Rattle.omega_solve.specs.Within.{EndsWithin, GoesOnAfter}
 use Rattle.omega_empty.specs.EmptinessGame.{IsEmptinessGame}
 use Rattle.omega_empty.specs.Lasso.{IsAcceptingLasso}
 use Rattle.omega_empty.specs.Refusing.{IsGiven, IsTaskFault, IsTooLarge}
@@ -26,6 +26,18 @@ abbrev pub IsSolvingFault : ℕ → List Node → TaskFault → Type 0
 IsSolvingFault budget game TooWide = is_too_wide Zero (priorities game) ≡ true
 IsSolvingFault budget game Budget = (is_too_wide Zero (priorities game) ≡ false) × GoesOnAfter game Zero budget
 IsSolvingFault budget game fault = ⊥
+
+-- a game is solved for player 0 within a budget: it is not too wide, and so many lifts, at most the budget, leave none due
+pub record IsSolvedWithin (budget : ℕ) (game : List Node) : Type 0 where
+  pub fits : is_too_wide Zero (priorities game) ≡ false
+  pub lifts : ℕ
+  pub ends : EndsWithin game Zero budget lifts
+
+-- the emptiness of an automaton is decided within a budget: its emptiness game is solved within it
+pub record IsDecidedWithin (budget : ℕ) (a : Description) : Type 0 where
+  pub game : List Node
+  pub game_is : IsEmptinessGame a game
+  pub solved : IsSolvedWithin budget game
 
 -- the automaton has an emptiness game, none of 13, 40, 41 and 42 applies, and solving the game has this fault
 pub record IsUnsolved (a : Description) (budget : ℕ) (fault : TaskFault) : Type 0 where

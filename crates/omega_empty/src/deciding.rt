@@ -1,10 +1,11 @@
-ghost use Rattle.std.specs.Prelude.{◌≡◌, ◌≤◌, IfErr, IfOk, IsOkUnless, drop, length, take};
+ghost use Rattle.std.specs.Prelude.{◌≡◌, ◌≤◌, IfErr, IfOk, IsOkUnless, OnOk, drop, length, take};
 ghost use Rattle.omega_text.specs.Cases.{never, or_memory, or_task};
 ghost use Rattle.omega_game.specs.declared.player.Player.TheVariants.{Zero};
 ghost use Rattle.omega_solve.specs.Headline.{IsExact};
 ghost use Rattle.omega_solve.specs.Limits.{most_lifts};
 ghost use Rattle.omega_empty.specs.EmptinessGame.{IsEmptinessGame};
-ghost use Rattle.omega_empty.specs.Verdict.{IsEmptinessRefusal, IsSolvingFault, IsVerdict};
+ghost use Rattle.omega_empty.specs.Refusing.{IsGiven};
+ghost use Rattle.omega_empty.specs.Verdict.{IsDecidedWithin, IsEmptinessRefusal, IsSolvedWithin, IsSolvingFault, IsVerdict};
 ghost use Rattle.omega_empty.specs.layout.Following.{IsWonStart};
 
 use crate::following::follow_choices;
@@ -24,6 +25,8 @@ use std::alloc::Global;
 pub fn emptiness(alloc: Global, automaton: &Automaton, budget: u64) -> Result<Verdict, Refusal>
     requires { budget ≤ most_lifts }
     ensures verdict { IfOk result (IsVerdict automaton.now) }
+    ensures given { OnOk result (IsGiven automaton.now) }
+    ensures budget { OnOk result (IsDecidedWithin budget automaton.now) }
     ensures refused { IfErr result (IsEmptinessRefusal automaton.now budget) }
 {
     let game = emptiness_game(alloc, automaton)?;
@@ -40,6 +43,7 @@ fn decided(
     requires budget { budget ≤ most_lifts }
     requires game { IsEmptinessGame automaton.now game.now }
     ensures verdict { IfOk result (IsVerdict automaton.now) }
+    ensures solved { OnOk result (IsSolvedWithin budget game.now) }
     ensures refused { IfErr result (or_task (IsSolvingFault budget game.now) (or_memory never)) }
 {
     let found = found_within(alloc, game, budget)?;
@@ -51,6 +55,7 @@ fn decided(
 fn found_within(alloc: Global, game: &Game, budget: u64) -> Result<Found, Refusal>
     requires { budget ≤ most_lifts }
     ensures exact { IfOk result (λ found. IsExact game.now Zero found.won.items found.choice.items) }
+    ensures solved { OnOk result (IsSolvedWithin budget game.now) }
     ensures refused { IfErr result (or_task (IsSolvingFault budget game.now) (or_memory never)) }
 {
     let solver: Solver<'_, PackedTable, Nested> = Solver::prepare(alloc, game, Player::Zero)?;

@@ -1,17 +1,26 @@
-//! Laws of the emptiness game, the other way: what player 0 wins gives accepting lassos.
+//! Laws of the emptiness game, the other way: what player 0 wins gives accepting lassos, start by start.
 
-ghost use Rattle.omega_empty.specs.GameLaws.{UnwonIsEmpty, WonWalksAccept};
+ghost use Rattle.omega_empty.specs.GameLaws.{UnwonIsEmpty, WonStartsAccept, WonWalksAccept};
 
 use omega_acc::{buchi_is_every_set, parity_is_priority};
 use omega_region::regions_cover;
 
 /// A walk from a start's node, at the first counter, to a node that is no edge's, and a closed walk from there whose
-/// greatest priority is even, pass the edges of an accepting lasso.
+/// greatest priority is even, pass the edges of an accepting lasso that begins at this start.
 pub fn won_walks_accept()
     ensures { WonWalksAccept }
 {
     parity_is_priority();
     buchi_is_every_set();
+}
+
+/// Player 0 wins the node of a start, at the first counter, exactly if an accepting lasso begins at this start.
+pub fn won_starts_accept()
+    ensures { WonStartsAccept }
+{
+    parity_is_priority();
+    buchi_is_every_set();
+    regions_cover();
 }
 
 /// Player 0 wins no start's node, at the first counter, exactly if the automaton has no accepting lasso.

@@ -19,7 +19,7 @@ mod usable;
 mod verdict;
 
 pub use deciding::{emptiness, verdict_of};
-pub use game_laws::{unwon_is_empty, won_walks_accept};
+pub use game_laws::{unwon_is_empty, won_starts_accept, won_walks_accept};
 pub use games::emptiness_game;
 pub use laws::{
     accepted_words_have_lassos, accepting_lassos_are_won, accepting_runs_have_lassos,

@@ -2,7 +2,7 @@
 ghost use Rattle.std.specs.Prelude.{◌≡◌, ◌++◌, ◌<◌, [], ◌∷◌, All, IfErr, IfOk, IsOkUnless, None, OnOk, length, replicate};
 ghost use Rattle.omega_empty.specs.EmptinessGame.{IsEmptinessGame};
 ghost use Rattle.omega_empty.specs.GameLaws.{number_at, numbers_on};
-ghost use Rattle.omega_empty.specs.Refusing.{IsGameRefusal};
+ghost use Rattle.omega_empty.specs.Refusing.{IsGameRefusal, IsGiven};
 ghost use Rattle.omega_empty.specs.Verdict.{IsVerdict};
 ghost use Rattle.omega_empty.specs.layout.Starting.{start_places, places_of_start};
 ghost use Rattle.omega_empty.specs.layout.Passing.{PassesLasso};
@@ -21,6 +21,7 @@ use std::alloc::Global;
 /// `counterexample` in the game. Refused as `emptiness_game` refuses, or with 60.
 pub fn lasso(alloc: Global, automaton: &Automaton) -> Result<Verdict, Refusal>
     ensures verdict { IfOk result (IsVerdict automaton.now) }
+    ensures given { OnOk result (IsGiven automaton.now) }
     ensures refused { IfErr result (IsGameRefusal automaton.now) }
 {
     let game = emptiness_game(alloc, automaton)?;

@@ -77,7 +77,7 @@ module _ (a : Description) (game : List Node) (automaton : IsAutomaton a) (is : 
           ap (λ n. n % 2) (turned_greatest game e w rest) ∙ even,
         ) in
         let accepts : IsAcceptingLasso a (numbers_on a game (there ++ w ∷ [])) (numbers_on a game around) =
-        won a game [] start s (there ++ w ∷ []) around automaton is begins below named (walk_last game [] s there w walk closed.walk.0 w_below) behind.0 behind.1 behind.2 in
+        (won a game [] start s (there ++ w ∷ []) around automaton is begins below named (walk_last game [] s there w walk closed.walk.0 w_below) behind.0 behind.1 behind.2).0 in
         let Q : List ℕ → Type 0 = λ stem. IsAcceptingLasso a stem (numbers_on a game around) in
         let R : List ℕ → Type 0 = λ cycle. IsAcceptingLasso a (numbers_on a game there) cycle in
         subst R (numbers_last (rest ++ e ∷ []) w none ∙ sym (numbers_first w (rest ++ e ∷ []) none)) (subst Q (numbers_last there w none) accepts)
@@ -92,7 +92,7 @@ module _ (a : Description) (game : List Node) (automaton : IsAutomaton a) (is : 
         go : Reading is.kind a is.usable game automaton is.usable_are is.game_is s 0 start there
             → IsAcceptingLasso a (numbers_on a game there) (numbers_on a game (onward ++ e ∷ []))
         go (whole read) =
-            won a game [] start s there (onward ++ e ∷ []) automaton is begins below named walk (state_low e _ read.to read.at_end) closed even
+            (won a game [] start s there (onward ++ e ∷ []) automaton is begins below named walk (state_low e _ read.to read.at_end) closed even).0
         go (half c number edge at n long) = from_edge onward c number edge at closed even
         go (sunk sink) = absurd (not_sunk a game automaton is [] e (onward ++ e ∷ []) closed even sink)
 

@@ -1,5 +1,5 @@
 -- What player 0 wins accepts: a walk from a start's node and a closed walk whose greatest priority is even are an accepting lasso.
-use Rattle.std.proofs.Common.{◌≡◌, ℕ, ◌+◌, ◌%◌, ◌<◌, List, [], ◌∷◌, length, map, All, Option, Some, IsTrue, sym, ap, ◌∙◌, subst, arith, zero-add, zero-mul}
+use Rattle.std.proofs.Common.{◌≡◌, ℕ, ◌+◌, ◌%◌, ◌<◌, List, [], ◌∷◌, length, map, All, Option, Some, IsTrue, refl, sym, ap, ◌∙◌, subst, arith, zero-add, zero-mul}
 use Rattle.std.specs.Prelude.{slice_index_or}
 use Rattle.std.proofs.lemmas.List.{length-map}
 use Rattle.std.proofs.lemmas.List.Elements.{All-contains, All-head, All-map}
@@ -15,7 +15,7 @@ use Rattle.omega_game.specs.declared.player.Player.TheVariants.{Zero}
 use Rattle.omega_empty.specs.Counters.{counters}
 use Rattle.omega_empty.specs.EmptinessGame.{HasKind, IsEmptinessGame, span, state_id}
 use Rattle.omega_empty.specs.GameLaws.{WonWalksAccept, numbers_on}
-use Rattle.omega_empty.specs.Lasso.{IsAcceptingLasso, IsStart, Leads, marks_at}
+use Rattle.omega_empty.specs.Lasso.{AcceptsFrom, IsAcceptingLasso, IsStart, Leads, marks_at}
 use Rattle.omega_empty.proofs.Counters.{AreWithin, closed_accepts, counter_behind, formula_of, priorities_from}
 use Rattle.omega_empty.proofs.playing.Places.{marks_low}
 use Rattle.omega_empty.proofs.meaning.Reading.{Reading, half, reading, sink_greatest, sunk, whole}
@@ -90,7 +90,7 @@ module _ (a : Description) (game : List Node) (automaton : IsAutomaton a) (is : 
 
       lasso : (start : ℕ) (stem : List ℕ) → IsStart a start → Leads a start stem state
           → Reading is.kind a is.usable game automaton is.usable_are is.game_is v counter state around
-          → IsAcceptingLasso a stem (numbers_on a game around)
+          → AcceptsFrom a start stem (numbers_on a game around)
       lasso start stem begins leads (half c number edge at' n long) =
           absurd (state_no_edge is.kind a is.usable game automaton is.usable_are is.game_is v counter state c number edge at
           (subst (λ u. AtEdge is.kind a is.usable game automaton is.usable_are is.game_is u c number edge) closed.closed at'))
@@ -113,7 +113,7 @@ module _ (a : Description) (game : List Node) (automaton : IsAutomaton a) (is : 
             };
             accepted = accepted read.numbers longer back.0 (ap (λ n. n % 2) (sym read.greatest_is) ∙ even);
           } in
-          subst (λ numbers. IsAcceptingLasso a stem numbers) (sym read.numbers_are) all
+          subst (λ numbers. AcceptsFrom a start stem numbers) (sym read.numbers_are) (all, refl)
 
 -- the walks are read, one behind the other
 pub won_walks_accept : ParityIsPriority → BuchiIsEverySet → WonWalksAccept
@@ -122,12 +122,12 @@ won_walks_accept parity buchi a game choices start v there around automaton is b
     (at_start a game automaton is start v begins below named) walk)
   where
     go : Reading is.kind a is.usable game automaton is.usable_are is.game_is v 0 start there
-        → IsAcceptingLasso a (numbers_on a game there) (numbers_on a game around)
+        → AcceptsFrom a start (numbers_on a game there) (numbers_on a game around)
     go (whole read) =
         let counter : ℕ = counter_behind is.kind 0 (map (marks_at a) read.numbers) in
         let again = reading is.kind a is.usable game automaton is.usable_are is.game_is (single a game automaton is) Zero choices (end_of v there) counter read.to around
         read.at_end closed.walk in
-        subst (λ stem. IsAcceptingLasso a stem (numbers_on a game around)) (sym read.numbers_are)
+        subst (λ stem. AcceptsFrom a start stem (numbers_on a game around)) (sym read.numbers_are)
         (lasso a game automaton is choices (end_of v there) around closed even parity buchi counter read.to read.at_end start read.numbers begins read.leads again)
     go (half c number edge at n long) =
         absurd (omega (arith, ends, edge_within is.kind a is.usable game automaton is.usable_are is.game_is (end_of v there) c number edge at))

@@ -11,8 +11,8 @@ use Rattle.omega_region.proofs.Following.{choice_at, end-trail, longer_trail, re
 use Rattle.omega_region.proofs.Pigeonhole.{Repeats, repeats}
 use Rattle.omega_region.specs.Laws.{RegionsCover}
 use Rattle.omega_empty.specs.EmptinessGame.{IsEmptinessGame}
-use Rattle.omega_empty.specs.GameLaws.{UnwonIsEmpty, numbers_on, within_counter}
-use Rattle.omega_empty.specs.Lasso.{IsAcceptingLasso, IsStart, marks_at}
+use Rattle.omega_empty.specs.GameLaws.{UnwonIsEmpty, WonStartsAccept, numbers_on, within_counter}
+use Rattle.omega_empty.specs.Lasso.{AcceptsFrom, IsStart, marks_at}
 use Rattle.omega_empty.proofs.Counters.{counter_behind}
 use Rattle.omega_empty.proofs.playing.Winning.{lassos_are_won}
 use Rattle.omega_empty.proofs.meaning.Accepting.{at_start, first_counter, first_id, not_sunk, single, start_below, won_walks_accept}
@@ -32,9 +32,9 @@ even_from q kept = go (cases_eq (q % 2) 1)
     go (inl odd) = absurd (kept (eq-eqb (q % 2) 1 odd))
     go (inr even) = omega arith
 
--- some accepting lasso
-abbrev HasLasso : Description → Type 0
-HasLasso a = (stem : List ℕ) × ((cycle : List ℕ) × IsAcceptingLasso a stem cycle)
+-- some accepting lasso begins at a start
+abbrev HasLasso : Description → ℕ → Type 0
+HasLasso a start = (stem : List ℕ) × ((cycle : List ℕ) × AcceptsFrom a start stem cycle)
 
 module _ (a : Description) (game : List Node) (automaton : IsAutomaton a) (is : IsEmptinessGame a game)
     (parity : ParityIsPriority) (buchi : BuchiIsEverySet)
@@ -63,7 +63,7 @@ module _ (a : Description) (game : List Node) (automaton : IsAutomaton a) (is : 
   ends there around i long closed even (half c number edge at n odd) = absurd (omega (arith, long, odd))
   ends there around i long closed even (sunk sink) = absurd (not_sunk a game automaton is region.choices (end_of v there) around closed even sink)
 
-  found : (i d : ℕ) → 0 < d → reached next v (i + i) ≡ reached next v ((i + i) + (d + d)) → HasLasso a
+  found : (i d : ℕ) → 0 < d → reached next v (i + i) ≡ reached next v ((i + i) + (d + d)) → HasLasso a start
   found i d further same =
       let there : List ℕ = trail next v (i + i) in
       let e : ℕ = end_of v there in
@@ -89,7 +89,7 @@ module _ (a : Description) (game : List Node) (automaton : IsAutomaton a) (is : 
         ),
       )
 
-  at_repeat : Repeats (λ k. reached next v (k + k)) (length game) → HasLasso a
+  at_repeat : Repeats (λ k. reached next v (k + k)) (length game) → HasLasso a start
   at_repeat repeat =
       let i : ℕ = repeat.first in
       let d : ℕ = repeat.second - repeat.first in
@@ -97,7 +97,7 @@ module _ (a : Description) (game : List Node) (automaton : IsAutomaton a) (is : 
       let sum : repeat.second + repeat.second ≡ (i + i) + (d + d) = omega (arith, repeat.later) in
       found i d further (repeat.same ∙ ap (reached next v) sum)
 
-  pub won_start_accepts : HasLasso a
+  pub won_start_accepts : HasLasso a start
   won_start_accepts = at_repeat (repeats (length game) (λ k. reached next v (k + k)) (λ k least. reached_below next (length game) inside (k + k) v region.node))
 
 pub unwon_is_empty : ParityIsPriority → BuchiIsEverySet → RegionsCover → UnwonIsEmpty
@@ -110,5 +110,11 @@ unwon_is_empty parity buchi cover a game automaton is = (
       unwon start stands.0 accepting.lasso.begins stands.1.place named
       (lassos_are_won parity buchi cover a game stem cycle stands.0 automaton is accepting stands.1.place named)),
   λ none start v begins below named region.
-      (let lasso = won_start_accepts a game automaton is parity buchi start v begins named region in none lasso.0 lasso.1.0 lasso.1.1),
+      (let lasso = won_start_accepts a game automaton is parity buchi start v begins named region in none lasso.0 lasso.1.0 lasso.1.1.0),
+)
+
+pub won_starts_accept : ParityIsPriority → BuchiIsEverySet → RegionsCover → WonStartsAccept
+won_starts_accept parity buchi cover a game start v automaton is begins below named = (
+  λ region. won_start_accepts a game automaton is parity buchi start v begins named region,
+  λ lasso. lassos_are_won parity buchi cover a game lasso.0 lasso.1.0 v automaton is lasso.1.1.0 below (named ∙ sym lasso.1.1.1),
 )

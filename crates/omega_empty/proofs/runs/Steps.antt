@@ -93,7 +93,7 @@ module _ (a : Description) (states edges : ℕ → ℕ) (run : IsAcceptingRun a 
       )
 
 pub accepting_runs_have_lassos : AcceptingRunsHaveLassos
-accepting_runs_have_lassos a states edges run =
+accepting_runs_have_lassos a states edges plain run =
     lasso a states edges run
     (repeats (edge_count a) (λ k. edges (cut a states edges run k))
     (λ k least. slice_get_within (edges_of a) (edges (cut a states edges run k)) (run.run.steps (cut a states edges run k)).edge (run.run.steps (cut a states edges run k)).numbered))
@@ -130,6 +130,6 @@ module _ (a : Description) (knot c : ℕ) (cs : List ℕ) (lap : Leads a knot (c
   )
 
 pub lassos_are_accepting_runs : LassosAreAcceptingRuns
-lassos_are_accepting_runs a stem [] lasso = absurd (omega (arith, lasso.lasso.longer))
-lassos_are_accepting_runs a stem (c ∷ cs) lasso =
+lassos_are_accepting_runs a stem [] plain lasso = absurd (omega (arith, lasso.lasso.longer))
+lassos_are_accepting_runs a stem (c ∷ cs) plain lasso =
     run_of a lasso.lasso.knot c cs lasso.lasso.cycle_leads lasso.lasso.start stem lasso.lasso.begins lasso.lasso.stem_leads lasso.accepted

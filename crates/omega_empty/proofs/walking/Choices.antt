@@ -235,10 +235,10 @@ module _ (a : Description) (game : List Node) (automaton : IsAutomaton a) (is : 
         state_within is.kind a is.usable game automaton is.usable_are is.game_is at followed.here.counter followed.here.state followed.here.at,
       ) in
       let all : IsAcceptingLasso a stem cycle =
-      law a game choices start.start v m.before m.after automaton is start.begins start.stands.node start.stands.named m.there
+      (law a game choices start.start v m.before m.after automaton is start.begins start.stands.node start.stands.named m.there
       (subst (λ n. within_counter a game n < a.states) (sym m.ends) node)
       (subst (λ n. IsClosedWalk game Zero choices n m.after) (sym m.ends) closed)
-      (subst (λ n. greatest_on game n m.after % 2 ≡ 0) (sym m.ends) even) in
+      (subst (λ n. greatest_on game n m.after % 2 ≡ 0) (sym m.ends) even)).0 in
       let P : List ℕ → Type 0 = λ list. IsKnotted a list j in
       let Q : ℕ → Type 0 = λ n. IsKnotted a (stem ++ cycle) n in
       let within : length stem ≤ length (stem ++ cycle) = omega (arith, length-append stem cycle) in

@@ -1,5 +1,5 @@
 -- Refusals of deciding: those of the emptiness game, and those of solving it.
-use Rattle.std.proofs.Common.{◌≡◌, ℕ, List, Ok, Err, Result, IfOk, IfErr, IsErrAnd, false, inl, inr, subst, sym}
+use Rattle.std.proofs.Common.{◌≡◌, ℕ, List, Ok, Err, Result, IfOk, IfErr, IsErrAnd, OnOk, false, inl, inr, subst, sym}
 use Rattle.omega_text.specs.Cases.{never, or_memory, or_task}
 use Rattle.omega_text.specs.declared.refusal.Refusal.{Refusal}
 use Rattle.omega_text.specs.declared.refusal.Refusal.TheVariants.{Automaton, Game, Io, Memory, Task, Text}
@@ -13,7 +13,7 @@ use Rattle.omega_solve.specs.Within.{IsBudgetRefusal, IsFound}
 use Rattle.omega_solve.specs.declared.found.Found.{Found}
 use Rattle.omega_empty.specs.EmptinessGame.{IsEmptinessGame}
 use Rattle.omega_empty.specs.Refusing.{IsGameRefusal, IsGiven}
-use Rattle.omega_empty.specs.Verdict.{IsEmptinessRefusal, IsSolvingFault}
+use Rattle.omega_empty.specs.Verdict.{IsEmptinessRefusal, IsSolvedWithin, IsSolvingFault}
 
 -- the refusal of solving an emptiness game
 abbrev IsSolvingRefusal : ℕ → List Node → Refusal → Type 0
@@ -42,6 +42,22 @@ pub found_exact : (solver : State) (budget : ℕ) (game : List Node) (answer : R
     → IfOk answer (IsFound solver.nodes solver.player budget) → IfOk answer (λ found. IsExact game Zero found.won.items found.choice.items)
 found_exact solver budget game (Err refusal) same is = tt
 found_exact solver budget game (Ok found) same is = (subst (λ (s : State). IsFound s.nodes s.player budget found) same is).exact
+
+-- and it is found within the budget, of a game that is not too wide
+pub found_solved : (solver : State) (budget : ℕ) (game : List Node) (answer : Result Found Refusal) → solver ≡ start_of game Zero
+    → is_too_wide Zero (priorities game) ≡ false → IfOk answer (IsFound solver.nodes solver.player budget)
+    → OnOk answer (IsSolvedWithin budget game)
+found_solved solver budget game (Err refusal) same fits is = tt
+found_solved solver budget game (Ok found) same fits is = record {
+  fits = fits;
+  lifts = found.lifts;
+  ends = (subst (λ (s : State). IsFound s.nodes s.player budget found) same is).ended;
+}
+
+-- what holds without the value of an answer holds of each answer
+pub on_ok : {A : Type 0} (answer : Result A Refusal) (wanted : Type 0) → wanted → OnOk answer wanted
+on_ok (Ok value) wanted holds = holds
+on_ok (Err refusal) wanted holds = tt
 
 -- where it is refused, the game is not solved
 pub found_refused : (solver : State) (budget : ℕ) (game : List Node) (answer : Result Found Refusal) → solver ≡ start_of game Zero → is_too_wide Zero (priorities game) ≡ false

@@ -1,6 +1,6 @@
 -- `emptiness`: its refusals are those of the emptiness game and those of solving it
-use Rattle.std.proofs.lemmas.Result.{IfErr-weaker}
-use Rattle.omega_empty.proofs.walking.Refused.{passed_on, ungiven_refused, unsolved_refused}
+use Rattle.std.proofs.lemmas.Result.{IfErr-weaker, on_ok_weaker}
+use Rattle.omega_empty.proofs.walking.Refused.{on_ok, passed_on, ungiven_refused, unsolved_refused}
 use Rattle.omega_empty.proofs.deciding.emptiness.Goals as goal
 
 pub returns-in_err-game-clause-refused : goal.returns-in_err-game-clause-refused
@@ -11,3 +11,10 @@ returns-clause-refused c =
     IfErr-weaker c.decided.result _ _
     (λ refusal is. unsolved_refused c.args.automaton.now c.args.budget c.in_ok-game.game refusal c.in_ok-game.ensures.given c.in_ok-game.ensures.game is)
     c.decided.ensures.refused
+
+pub returns-clause-given : goal.returns-clause-given
+returns-clause-given c = on_ok c.decided.result _ c.in_ok-game.ensures.given
+
+pub returns-clause-budget : goal.returns-clause-budget
+returns-clause-budget c =
+    on_ok_weaker c.decided.result (λ solved. record { game = c.in_ok-game.game; game_is = c.in_ok-game.ensures.game; solved = solved }) c.decided.ensures.solved
