@@ -1,4 +1,3 @@
 -- What runs within budgets come to.
 pub mod Dealing
 pub mod Solved
-pub mod Within

@@ -14,7 +14,6 @@ pub mod Limits
 pub mod Schedule
 pub mod Solver
 pub mod Headline
-pub mod Within
 pub mod Determinacy
 pub mod solving
 pub mod schedules

@@ -3,7 +3,6 @@
 #![tactic(auto)]
 
 mod answer;
-mod found;
 mod laws;
 mod limits;
 mod nested;
@@ -17,7 +16,6 @@ mod wake;
 mod worklist;
 
 pub use answer::AnswerRef;
-pub use found::Found;
 pub use laws::{answers_part_the_game, headline};
 pub use limits::{MOST_LIFTS, lift_limits_are_stated};
 pub use nested::Nested;

@@ -1,0 +1,10 @@
+-- The lemmas of solving within a budget.
+mod Weights
+mod Priorities
+mod Games
+mod Nodes
+mod Lifting
+mod Dealing
+mod Exactness
+mod Within
+pub mod Watched

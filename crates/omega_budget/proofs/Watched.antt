@@ -1,0 +1,140 @@
+-- What a listener was told of runs, put together.
+use Rattle.std.proofs.Common.{◌≡◌, ◌≢◌, ℕ, ◌⊎◌, List, [], ◌∷◌, Option, None, Some, Result, Ok, Err, IfErr, arith, inl, inr, refl, subst}
+use Rattle.std.specs.Result.{IsErrAnd}
+use Rattle.omega_text.specs.declared.refusal.Refusal.{Refusal}
+use Rattle.omega_text.specs.declared.refusal.Refusal.TheVariants.{Task}
+use Rattle.omega_text.specs.declared.refusal.task.TaskFault.TheVariants.{Budget}
+use Rattle.omega_game.specs.declared.player.Player.{Player}
+use Rattle.omega_game.specs.Game.{Node}
+use Rattle.omega_budget.specs.Watching.{AreMade, IsUntried, IsWatched, TellsRun, TellsRuns, refusal_in}
+use Rattle.omega_budget.specs.declared.watching.Progress.{Progress}
+
+-- a refusal of which something holds that does not hold of the budget's
+pub spares : (Why : Refusal → Type 0) (refusal : Refusal) → Why refusal → (Why (Task Budget) → ⊥) → refusal ≢ Task Budget
+spares Why refusal why other e = other (subst Why e why)
+
+-- of no run nothing was told, where it was refused for another reason than the budget
+pub none_watched : {L : Type 0} (Runs : Option Refusal → List Node → List Player → Type 0) (tells : Progress → L → L → Type 0) (every budget : ℕ) (refusal : Refusal)
+    (before : L) → refusal ≢ Task Budget → IsWatched Runs (Some refusal) tells every budget before before
+none_watched Runs tells every budget refusal before other = record {
+  nodes = [];
+  players = [];
+  runs = inl (record { none = refl; refused = λ e. cc; before = λ e. other cc });
+  told = refl;
+}
+
+-- of one run
+pub one_watched : {L : Type 0} (Runs : Option Refusal → List Node → List Player → Type 0) (tells : Progress → L → L → Type 0) (every : ℕ) (game : List Node)
+    (player : Player) (budget : ℕ) (refusal : Option Refusal) (before after : L) → Runs refusal game (player ∷ [])
+    → TellsRun tells every game player budget refusal before after → IsWatched Runs refusal tells every budget before after
+one_watched Runs tells every game player budget refusal before after is told = record {
+  nodes = game;
+  players = player ∷ [];
+  runs = inr is;
+  told = told;
+}
+
+-- of two runs
+pub two_watched : {L : Type 0} (Runs : Option Refusal → List Node → List Player → Type 0) (tells : Progress → L → L → Type 0) (every : ℕ) (game : List Node)
+    (one other : Player) (budget : ℕ) (refusal : Option Refusal) (before between after : L) → Runs refusal game (one ∷ other ∷ [])
+    → TellsRun tells every game one budget None before between → TellsRun tells every game other budget refusal between after
+    → IsWatched Runs refusal tells every budget before after
+two_watched Runs tells every game one other budget refusal before between after are first then = record {
+  nodes = game;
+  players = one ∷ other ∷ [];
+  runs = inr are;
+  told = (between, first, then);
+}
+
+-- a run that ended with no lift due did so, whatever refuses it later but the budget
+pub run_refused : {L : Type 0} (tells : Progress → L → L → Type 0) (every : ℕ) (nodes : List Node) (player : Player) (budget : ℕ) (refusal : Refusal)
+    (before after : L) → refusal ≢ Task Budget → TellsRun tells every nodes player budget None before after
+    → TellsRun tells every nodes player budget (Some refusal) before after
+run_refused tells every nodes player budget refusal before after other run = record {
+  outcome = run.outcome;
+  state = run.state;
+  lifted = run.lifted;
+  ended = (λ spent. (let e = run.ended.0 spent in cc), λ e. absurd (other cc));
+  told = run.told;
+}
+
+runs_refused : {L : Type 0} (tells : Progress → L → L → Type 0) (every : ℕ) (nodes : List Node) (players : List Player) (budget : ℕ) (refusal : Refusal)
+    (before after : L) → refusal ≢ Task Budget → TellsRuns tells every nodes players budget None before after
+    → TellsRuns tells every nodes players budget (Some refusal) before after
+runs_refused tells every nodes [] budget refusal before after other same = same
+runs_refused tells every nodes (player ∷ []) budget refusal before after other run =
+    run_refused tells every nodes player budget refusal before after other run
+runs_refused tells every nodes (player ∷ next ∷ players) budget refusal before after other (between, run, runs) =
+    (between, run, runs_refused tells every nodes (next ∷ players) budget refusal between after other runs)
+
+some_runs : (Runs Others : List Node → List Player → Type 0) (refusal : Option Refusal) (nodes : List Node) (players : List Player)
+    → ((game : List Node) (those : List Player) → Runs game those → Others game those)
+    → IsUntried refusal players ⊎ Runs nodes players → IsUntried refusal players ⊎ Others nodes players
+some_runs Runs Others refusal nodes players wider (inl none) = inl none
+some_runs Runs Others refusal nodes players wider (inr some) = inr (wider nodes players some)
+
+-- what holds of the runs may be said in other words
+pub watched_as : {L : Type 0} (Runs Others : Option Refusal → List Node → List Player → Type 0) (refusal : Option Refusal) (tells : Progress → L → L → Type 0)
+    (every budget : ℕ) (before after : L) → ((game : List Node) (those : List Player) → Runs refusal game those → Others refusal game those)
+    → IsWatched Runs refusal tells every budget before after → IsWatched Others refusal tells every budget before after
+watched_as Runs Others refusal tells every budget before after wider watched = record {
+  nodes = watched.nodes;
+  players = watched.players;
+  runs = some_runs (Runs refusal) (Others refusal) refusal watched.nodes watched.players wider watched.runs;
+  told = watched.told;
+}
+
+made_runs : (Runs : List Node → List Player → Type 0) (nodes : List Node) (players : List Player) → IsUntried None players ⊎ Runs nodes players
+    → Runs nodes players
+made_runs Runs nodes players (inl untried) = absurd (untried.refused refl)
+made_runs Runs nodes players (inr made) = made
+
+-- what was watched up to its end was so, whatever refuses it later but the budget
+pub watched_refused : {L : Type 0} (Runs Others : Option Refusal → List Node → List Player → Type 0) (tells : Progress → L → L → Type 0) (every budget : ℕ)
+    (refusal : Refusal) (before after : L) → refusal ≢ Task Budget
+    → ((game : List Node) (those : List Player) → Runs None game those → Others (Some refusal) game those)
+    → IsWatched Runs None tells every budget before after → IsWatched Others (Some refusal) tells every budget before after
+watched_refused Runs Others tells every budget refusal before after other wider watched = record {
+  nodes = watched.nodes;
+  players = watched.players;
+  runs = inr (wider watched.nodes watched.players (made_runs (Runs None) watched.nodes watched.players watched.runs));
+  told = runs_refused tells every watched.nodes watched.players budget refusal before after other watched.told;
+}
+
+-- what was watched up to its end was so, where it goes on to a result that is not refused for the budget
+pub watched_behind : {A L : Type 0} (Runs : Option Refusal → List Node → List Player → Type 0) (tells : Progress → L → L → Type 0) (every budget : ℕ)
+    (result : Result A Refusal) (Why : Refusal → Type 0) (before after : L) → IfErr result Why → (Why (Task Budget) → ⊥)
+    → ((refusal : Refusal) → refusal ≢ Task Budget → (game : List Node) (those : List Player) → Runs None game those → Runs (Some refusal) game those)
+    → IsWatched Runs None tells every budget before after → IsWatched Runs (refusal_in result) tells every budget before after
+watched_behind Runs tells every budget (Ok value) Why before after why other wider watched = watched
+watched_behind Runs tells every budget (Err refusal) Why before after why other wider watched =
+    let spared : refusal ≢ Task Budget = spares Why refusal why other in
+    watched_refused Runs Runs tells every budget refusal before after spared (wider refusal spared) watched
+
+-- what was watched of one result, of another with its refusal
+pub watched_alike : {A L : Type 0} (Runs : Option Refusal → List Node → List Player → Type 0) (tells : Progress → L → L → Type 0) (every budget : ℕ)
+    (result : Result A Refusal) (Was : Refusal → Type 0) (refusal : Refusal) (before after : L) → IsErrAnd result Was
+    → ((other : Refusal) → Was other → other ≡ refusal)
+    → IsWatched Runs (Some refusal) tells every budget before after → IsWatched Runs (refusal_in result) tells every budget before after
+watched_alike Runs tells every budget (Ok value) Was refusal before after was same watched = absurd was
+watched_alike Runs tells every budget (Err other) Was refusal before after was same watched = rw (same other was) watched
+
+-- all runs that were made stay made, whatever refuses it later but the budget
+pub made_refused : (all players : List Player) (refusal : Refusal) → refusal ≢ Task Budget → AreMade all None players → AreMade all (Some refusal) players
+made_refused all players refusal other made = record {
+  first = made.first;
+  whole = λ e. cc;
+  some = λ e. absurd (other cc);
+}
+
+-- one run, whatever comes of it
+pub one_made : (player : Player) (refusal : Option Refusal) → AreMade (player ∷ []) refusal (player ∷ [])
+one_made player refusal = record { first = (1, refl); whole = λ e. refl; some = λ e. omega arith }
+
+-- two runs, whatever comes of the second
+pub two_made : (one other : Player) (refusal : Option Refusal) → AreMade (one ∷ other ∷ []) refusal (one ∷ other ∷ [])
+two_made one other refusal = record { first = (2, refl); whole = λ e. refl; some = λ e. omega arith }
+
+-- one run of two, which is refused
+pub first_made : (one other : Player) (refusal : Refusal) → AreMade (one ∷ other ∷ []) (Some refusal) (one ∷ [])
+first_made one other refusal = record { first = (1, refl); whole = λ e. cc; some = λ e. omega arith }

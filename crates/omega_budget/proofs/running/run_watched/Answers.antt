@@ -1,0 +1,21 @@
+-- The run ends in one of its slices, with no lift due, or behind the whole ones with the rest of the budget.
+use Rattle.std.proofs.Common.{◌-◌, arith}
+use Rattle.omega_solve.specs.declared.outcome.Outcome.TheVariants.{Done}
+use Rattle.omega_budget.proofs.Within.{run_lifted}
+use Rattle.omega_budget.proofs.running.run_watched.Goals as goal
+
+pub returns-in-Done-clause-lifted : goal.returns-in-Done-clause-lifted
+returns-in-Done-clause-lifted g c =
+    let kept = c.loop-made.invariant in
+    let ran = c.in-Done.ensures in
+    run_lifted c.args.game.now c.args.player c.loop-made.made c.every-every.result c.args.budget c.args.solver.now c.loop-made.solver
+    c.run.new.self Done c.requires.fresh kept.same_nodes kept.same_player kept.counted ran.ran ran.reached ran.bounded ran.told
+    (omega (arith, c.loop-made-test.true, kept.within)) (λ spent. cc)
+
+pub returns-clause-lifted : goal.returns-clause-lifted
+returns-clause-lifted g c =
+    let kept = c.loop-made.invariant in
+    let ran = c.run-2.ensures in
+    run_lifted c.args.game.now c.args.player c.loop-made.made (c.args.budget - c.loop-made.made) c.args.budget c.args.solver.now c.loop-made.solver
+    c.run-2.new.self c.run-2.result c.requires.fresh kept.same_nodes kept.same_player kept.counted ran.ran ran.reached ran.bounded ran.told
+    (omega (arith, kept.within)) (λ spent. omega (arith, kept.within))

@@ -1,0 +1,18 @@
+-- The whole slices so far, each of which was told of.
+use Rattle.std.proofs.Common.{◌≡◌, ◌≤◌, ◌-◌, ◌*◌, ℕ}
+use Rattle.omega_budget.specs.Watching.{TellsEach}
+use Rattle.omega_budget.proofs.running.run_watched.Given as goal
+
+abbrev pub invariant-loop-made : goal.invariant-loop-made
+invariant-loop-made g l = record {
+  same_nodes : l.solver.nodes ≡ l.initial.solver.nodes;
+  same_player : l.solver.player ≡ l.initial.solver.player;
+  counted : l.solver.lifts ≡ l.made;
+  within : l.made ≤ l.budget;
+  told :
+      (times : ℕ) × (l.made ≡ times * l.every)
+      × TellsEach (g.W.Watch.tells l.watch) l.player l.every l.most times l.initial.listener l.listener;
+}
+
+abbrev pub decreases-loop-made : goal.decreases-loop-made
+decreases-loop-made g l = l.budget - l.made

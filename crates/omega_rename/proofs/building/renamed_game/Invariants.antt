@@ -1,7 +1,0 @@
--- The nodes with the ranks so far were added.
-use Rattle.std.proofs.Common.{◌≡◌}
-use Rattle.omega_rename.specs.Building.{specs_below}
-use Rattle.omega_rename.proofs.building.renamed_game.Given as goal
-
-abbrev pub invariant-loop-rank : goal.invariant-loop-rank
-invariant-loop-rank l = l.builder ≡ specs_below l.game l.ranking.ranks l.ranking.places l.rank

@@ -1,3 +1,0 @@
--- Lemmas by theme.
-pub mod Lifting
-pub mod Watched

@@ -1,3 +1,0 @@
--- Runs of a solver that is watched.
-pub mod Lifting
-pub mod Watching
