@@ -3,6 +3,7 @@ pub mod Parts
 pub mod HeaderText
 pub mod BodyText
 pub mod Canonical
+pub mod Stream
 pub mod Written
 pub mod Writable
 pub mod Laws

@@ -1,4 +1,4 @@
-//! The canonical text of omega-automata.
+//! The canonical texts of omega-automata and of streams of them, and that they are read back.
 #![tactic(auto)]
 
 mod body;
@@ -9,6 +9,6 @@ mod parts;
 
 pub use canonical_text::{canonical, write_canonical};
 pub use laws::{
-    automata_of_texts_were_read, canonical_texts_are_read, canonical_texts_are_spelled,
+    canonical_streams_are_read, canonical_texts_are_read, canonical_texts_are_spelled,
     read_automata_are_writable,
 };

@@ -4,6 +4,7 @@ pub mod Cutting
 pub mod Dividing
 pub mod Endings
 pub mod Feeds
+pub mod Filling
 pub mod FirstEnds
 pub mod Neither
 pub mod Ones
@@ -16,6 +17,7 @@ pub mod Results
 pub mod Segments
 pub mod Settling
 pub mod Taking
+pub mod Unended
 pub mod Wholes
 pub mod Writing
 pub mod Written

@@ -1,44 +1,46 @@
 -- An automaton that is written ends with the first token that ends a segment.
-use Rattle.std.proofs.Common.{◌≡◌, true, false, Some, None, List, [], ◌∷◌, ◌++◌, sym, ap, subst, ◌∙◌, append_assoc}
+use Rattle.std.proofs.Common.{◌≡◌, true, false, Some, None, List, [], ◌∷◌, ◌++◌, refl, sym, ap, subst, ◌∙◌, append_assoc}
 use Rattle.omega_text.specs.Lexeme.{Lexeme}
 use Rattle.omega_text.specs.declared.hoa.kind.HoaKind.{HoaKind}
 use Rattle.omega_text.specs.declared.hoa.kind.HoaKind.TheVariants as kind
 use Rattle.omega_acc.specs.declared.formula.name.Parameter.TheVariants as parameter
 use Rattle.omega_raw.specs.Grammar.{ReadsAutomaton, conj_row, content_row, each, edge_row, int_row, item_row, joined_row, label_row, optional, parameter_row, sig_row, spelled, state_row, string_row, value_row, word_row}
-use Rattle.omega_raw.specs.Symbols.{Begins, Spells, Symbol, alias, formula, header, label, number, sign, text, word}
+use Rattle.omega_raw.specs.Symbols.{Spells, Symbol, alias, formula, header, label, number, sign, text, word}
 use Rattle.omega_raw.specs.declared.header_value.HeaderValue.TheVariants as value
 use Rattle.omega_raw.specs.declared.raw_automaton.RawAutomaton.{RawAutomaton}
 use Rattle.omega_raw.specs.declared.raw_item.RawItem.TheVariants as item
 use Rattle.omega_hoa.specs.Segment.{IsRawOf}
 use Rattle.omega_hoa.specs.Stream.{IsOpen, IsSegment, NoneEnds, is_end}
+use Rattle.omega_hoa.proofs.Unended.{MarksNone, stands_before}
 
--- some tokens, then `--END--`, and then the rest
+-- some tokens that end no segment, then `--END--`, and then the rest
 pub record EndsBefore (tokens rest : List (Lexeme HoaKind)) : Type 0 where
   pub front : List (Lexeme HoaKind)
   pub last : Lexeme HoaKind
   pub split : tokens ≡ front ++ last ∷ rest
   pub ends : last.kind ≡ kind.End
+  pub unended : NoneEnds front
 
 -- whatever the symbols spell ends with `--END--`
 abbrev EndSpelled : List Symbol → Type 0
 EndSpelled symbols = (tokens rest : List (Lexeme HoaKind)) → Spells tokens symbols rest → EndsBefore tokens rest
 
--- a symbol's tokens stand in front of what is left
-begun : (symbol : Symbol) (tokens middle : List (Lexeme HoaKind)) → Begins symbol tokens middle → (front : List (Lexeme HoaKind)) × (tokens ≡ front ++ middle)
-begun (label tree) tokens middle begins = (begins.front, begins.split)
-begun (formula tree) tokens middle begins = (begins.front, begins.split)
-begun symbol tokens middle begins = (begins.lexeme ∷ [], begins.next)
+-- tokens of which none ends a segment, and others such
+none_ends : (front back : List (Lexeme HoaKind)) → NoneEnds front → NoneEnds back → NoneEnds (front ++ back)
+none_ends [] back none more = more
+none_ends (lexeme ∷ front) back none more = (none.0, none_ends front back none.1 more)
 
--- a symbol in front changes nothing
-behind : (symbol : Symbol) (symbols : List Symbol) → EndSpelled symbols → EndSpelled (symbol ∷ symbols)
-behind symbol symbols spelled tokens rest spells =
-    let first = begun symbol tokens spells.middle spells.front in
+-- a symbol in front that is no mark of an end changes nothing
+behind : (symbol : Symbol) (symbols : List Symbol) → MarksNone symbol → EndSpelled symbols → EndSpelled (symbol ∷ symbols)
+behind symbol symbols none spelled tokens rest spells =
+    let first = stands_before symbol tokens spells.middle none spells.front in
     let then = spelled spells.middle rest spells.back in
     record {
       front = first.0 ++ then.front;
       last = then.last;
       split = first.1 ∙ ap (λ all. first.0 ++ all) then.split ∙ sym (append_assoc first.0 then.front (then.last ∷ rest));
       ends = then.ends;
+      unended = none_ends first.0 then.front first.2 then.unended;
     }
 
 -- nor does a row
@@ -54,58 +56,58 @@ optional_keeps row keeps None others spelled = spelled
 optional_keeps row keeps (Some it) others spelled = keeps it others spelled
 
 int_keeps : KeepsEnd int_row
-int_keeps n others spelled = behind (number n) others spelled
+int_keeps n others spelled = behind (number n) others tt spelled
 
 string_keeps : KeepsEnd string_row
-string_keeps bytes others spelled = behind (text bytes) others spelled
+string_keeps bytes others spelled = behind (text bytes) others tt spelled
 
 word_keeps : KeepsEnd word_row
-word_keeps bytes others spelled = behind (word bytes) others spelled
+word_keeps bytes others spelled = behind (word bytes) others tt spelled
 
 value_keeps : KeepsEnd value_row
-value_keeps (value.Boolean true) others spelled = behind (sign kind.True) others spelled
-value_keeps (value.Boolean false) others spelled = behind (sign kind.False) others spelled
-value_keeps (value.Number n) others spelled = behind (number n) others spelled
-value_keeps (value.Text bytes) others spelled = behind (text bytes) others spelled
-value_keeps (value.Word bytes) others spelled = behind (word bytes) others spelled
+value_keeps (value.Boolean true) others spelled = behind (sign kind.True) others refl spelled
+value_keeps (value.Boolean false) others spelled = behind (sign kind.False) others refl spelled
+value_keeps (value.Number n) others spelled = behind (number n) others tt spelled
+value_keeps (value.Text bytes) others spelled = behind (text bytes) others tt spelled
+value_keeps (value.Word bytes) others spelled = behind (word bytes) others tt spelled
 
 parameter_keeps : KeepsEnd parameter_row
-parameter_keeps (parameter.Boolean true) others spelled = behind (sign kind.True) others spelled
-parameter_keeps (parameter.Boolean false) others spelled = behind (sign kind.False) others spelled
-parameter_keeps (parameter.Number n) others spelled = behind (number n) others spelled
-parameter_keeps (parameter.Word bytes) others spelled = behind (word bytes) others spelled
+parameter_keeps (parameter.Boolean true) others spelled = behind (sign kind.True) others refl spelled
+parameter_keeps (parameter.Boolean false) others spelled = behind (sign kind.False) others refl spelled
+parameter_keeps (parameter.Number n) others spelled = behind (number n) others tt spelled
+parameter_keeps (parameter.Word bytes) others spelled = behind (word bytes) others tt spelled
 
 joined_keeps : KeepsEnd joined_row
-joined_keeps n others spelled = behind (sign kind.And) (number n ∷ others) (behind (number n) others spelled)
+joined_keeps n others spelled = behind (sign kind.And) (number n ∷ others) refl (behind (number n) others tt spelled)
 
 conj_keeps : KeepsEnd conj_row
 conj_keeps [] others spelled = spelled
-conj_keeps (first ∷ more) others spelled = behind (number first) (each joined_row more others) (each_keeps joined_row joined_keeps more others spelled)
+conj_keeps (first ∷ more) others spelled = behind (number first) (each joined_row more others) tt (each_keeps joined_row joined_keeps more others spelled)
 
 label_keeps : KeepsEnd label_row
 label_keeps tree others spelled =
-    behind (sign kind.OpenBracket) (label tree ∷ sign kind.CloseBracket ∷ others)
-    (behind (label tree) (sign kind.CloseBracket ∷ others) (behind (sign kind.CloseBracket) others spelled))
+    behind (sign kind.OpenBracket) (label tree ∷ sign kind.CloseBracket ∷ others) refl
+    (behind (label tree) (sign kind.CloseBracket ∷ others) tt (behind (sign kind.CloseBracket) others refl spelled))
 
 sig_keeps : KeepsEnd sig_row
 sig_keeps marks others spelled =
-    behind (sign kind.OpenBrace) (each int_row marks (sign kind.CloseBrace ∷ others))
-    (each_keeps int_row int_keeps marks (sign kind.CloseBrace ∷ others) (behind (sign kind.CloseBrace) others spelled))
+    behind (sign kind.OpenBrace) (each int_row marks (sign kind.CloseBrace ∷ others)) refl
+    (each_keeps int_row int_keeps marks (sign kind.CloseBrace ∷ others) (behind (sign kind.CloseBrace) others refl spelled))
 
 content_keeps : KeepsEnd content_row
-content_keeps (item.States count) others spelled = behind (number count) others spelled
+content_keeps (item.States count) others spelled = behind (number count) others tt spelled
 content_keeps (item.Start states) others spelled = conj_keeps states others spelled
-content_keeps (item.Propositions count names) others spelled = behind (number count) (each string_row names others) (each_keeps string_row string_keeps names others spelled)
-content_keeps (item.Alias name definition) others spelled = behind (alias name) (label definition ∷ others) (behind (label definition) others spelled)
-content_keeps (item.Acceptance count tree) others spelled = behind (number count) (formula tree ∷ others) (behind (formula tree) others spelled)
-content_keeps (item.AccName name) others spelled = behind (word name.name) (each parameter_row name.parameters others) (each_keeps parameter_row parameter_keeps name.parameters others spelled)
-content_keeps (item.Tool first second) others spelled = behind (text first) (optional string_row second others) (optional_keeps string_row string_keeps second others spelled)
-content_keeps (item.Name bytes) others spelled = behind (text bytes) others spelled
+content_keeps (item.Propositions count names) others spelled = behind (number count) (each string_row names others) tt (each_keeps string_row string_keeps names others spelled)
+content_keeps (item.Alias name definition) others spelled = behind (alias name) (label definition ∷ others) tt (behind (label definition) others tt spelled)
+content_keeps (item.Acceptance count tree) others spelled = behind (number count) (formula tree ∷ others) tt (behind (formula tree) others tt spelled)
+content_keeps (item.AccName name) others spelled = behind (word name.name) (each parameter_row name.parameters others) tt (each_keeps parameter_row parameter_keeps name.parameters others spelled)
+content_keeps (item.Tool first second) others spelled = behind (text first) (optional string_row second others) tt (optional_keeps string_row string_keeps second others spelled)
+content_keeps (item.Name bytes) others spelled = behind (text bytes) others tt spelled
 content_keeps (item.Properties words) others spelled = each_keeps word_row word_keeps words others spelled
 content_keeps (item.Unknown name values) others spelled = each_keeps value_row value_keeps values others spelled
 
 item_keeps : KeepsEnd item_row
-item_keeps it others spelled = behind (header _) (content_row it others) (content_keeps it others spelled)
+item_keeps it others spelled = behind (header _) (content_row it others) tt (content_keeps it others spelled)
 
 edge_keeps : KeepsEnd edge_row
 edge_keeps edge others spelled =
@@ -117,9 +119,9 @@ state_keeps state others spelled =
     let edges = each edge_row state.edges others in
     let marks = optional sig_row state.marks edges in
     let name = optional string_row state.name marks in
-    behind (header _) (optional label_row state.label (number state.number ∷ name))
+    behind (header _) (optional label_row state.label (number state.number ∷ name)) tt
     (optional_keeps label_row label_keeps state.label (number state.number ∷ name)
-    (behind (number state.number) name
+    (behind (number state.number) name tt
     (optional_keeps string_row string_keeps state.name marks
     (optional_keeps sig_row sig_keeps state.marks edges
     (each_keeps edge_row edge_keeps state.edges others spelled)))))
@@ -130,18 +132,24 @@ end_alone tokens rest spells = record {
   last = spells.front.lexeme;
   split = spells.front.next ∙ ap (λ all. spells.front.lexeme ∷ all) spells.back;
   ends = spells.front.shows;
+  unended = tt;
 }
 
--- an automaton that is written ends with `--END--`
-written_ends : (raw : RawAutomaton) → EndSpelled (spelled raw)
+-- behind `HOA:` an automaton that is written ends with `--END--`
+pub written_ends : (raw : RawAutomaton) → EndSpelled (word raw.version ∷ each item_row raw.items (sign kind.Body ∷ each state_row raw.states (sign kind.End ∷ [])))
 written_ends raw =
     let states = each state_row raw.states (sign kind.End ∷ []) in
     let items = each item_row raw.items (sign kind.Body ∷ states) in
-    behind (header _) (word raw.version ∷ items)
-    (behind (word raw.version) items
+    behind (word raw.version) items tt
     (each_keeps item_row item_keeps raw.items (sign kind.Body ∷ states)
-    (behind (sign kind.Body) states
-    (each_keeps state_row state_keeps raw.states (sign kind.End ∷ []) end_alone))))
+    (behind (sign kind.Body) states refl
+    (each_keeps state_row state_keeps raw.states (sign kind.End ∷ []) end_alone)))
+
+-- so does the whole
+whole_ends : (raw : RawAutomaton) → EndSpelled (spelled raw)
+whole_ends raw =
+    let states = each state_row raw.states (sign kind.End ∷ []) in
+    behind (header _) (word raw.version ∷ each item_row raw.items (sign kind.Body ∷ states)) tt (written_ends raw)
 
 -- the only token that ends a segment is the last
 only_end : (inside front rest : List (Lexeme HoaKind)) (last end : Lexeme HoaKind) → NoneEnds inside → inside ++ last ∷ [] ≡ front ++ end ∷ rest → end.kind ≡ kind.End → rest ≡ []
@@ -163,6 +171,6 @@ open_unended lexemes begun = subst NoneEnds (sym begun.split) (ap is_end begun.o
 -- so an automaton that the tokens of a segment begin with is all of them
 pub nothing_left : (lexemes rest : List (Lexeme HoaKind)) (raw : RawAutomaton) (mark : HoaKind) → IsSegment mark lexemes → ReadsAutomaton lexemes raw rest → IsRawOf lexemes raw
 nothing_left lexemes rest raw mark segment reads =
-    let end = written_ends raw lexemes rest reads.spells in
+    let end = whole_ends raw lexemes rest reads.spells in
     subst (ReadsAutomaton lexemes raw)
     (only_end segment.inside end.front rest segment.last end.last (open_unended segment.inside segment.before) (sym segment.split ∙ end.split) end.ends) reads

@@ -1,14 +1,23 @@
--- What holds of texts of one automaton, of streams, and of streams in pieces, whatever the code does.
-use Rattle.std.specs.Prelude.{◌≡◌, ℕ, ◌⊎◌, List, Option, Some, None, MatchOption}
+-- What holds of texts of one automaton, of streams, of streams in pieces, and of automata in tokens, whatever the code does.
+use Rattle.std.specs.Prelude.{◌≡◌, ℕ, ◌⊎◌, List, ◌++◌, Option, Some, None, MatchOption}
+use Rattle.std.specs.List.{AllByRecursion}
+use Rattle.omega_text.specs.Lexeme.{Lexeme}
+use Rattle.omega_text.specs.Reading.{IsTokenOf}
 use Rattle.omega_text.specs.Refusal.{number_of}
+use Rattle.omega_text.specs.hoa.Format.{hoa_format}
+use Rattle.omega_text.specs.declared.hoa.kind.HoaKind.{HoaKind}
+use Rattle.omega_text.specs.declared.hoa.kind.HoaKind.TheVariants.{End}
 use Rattle.omega_text.specs.declared.refusal.Refusal.{Refusal}
 use Rattle.omega_text.specs.declared.refusal.Refusal.TheVariants.{Text}
 use Rattle.omega_text.specs.declared.refusal.text.TextFault.TheVariants.{TooLong}
+use Rattle.omega_raw.specs.Grammar.{ReadsAutomaton}
+use Rattle.omega_raw.specs.declared.raw_automaton.RawAutomaton.{RawAutomaton}
 use Rattle.omega_automaton.specs.Automaton.{Description}
 use Rattle.omega_hoa.specs.Alone.{IsAutomatonRefusal, IsAutomatonText}
 use Rattle.omega_hoa.specs.Feeding.{IsFed}
 use Rattle.omega_hoa.specs.Kept.{Kept}
-use Rattle.omega_hoa.specs.Stream.{IsStreamFault, IsStreamRefusal, IsStreamText}
+use Rattle.omega_hoa.specs.Segment.{IsRawOf}
+use Rattle.omega_hoa.specs.Stream.{IsSegment, IsStreamFault, IsStreamRefusal, IsStreamText}
 use Rattle.omega_hoa.specs.declared.item.Item.{Item}
 
 -- two refusals are the same, but for the place of 3, which inside a segment is shown by tests alone
@@ -65,3 +74,15 @@ abbrev pub CutsChangeNothing : Type 0
 CutsChangeNothing = (seen : List ℕ) (items others : List Item) (kept left : Kept) (one other : Option Refusal) → IsFed seen items kept → IsFed seen others left
     → (one ≡ Some (Text TooLong) → ⊥) → (other ≡ Some (Text TooLong) → ⊥) → IsAnsweredAtEnd seen items kept one → IsAnsweredAtEnd seen others left other
     → (items ≡ others) × AnswersAreAlike one other
+
+-- the first of the tokens are a whole segment, which ends with `--END--` and is that of this automaton as it is written, and then come the rest
+pub record FillsSegment (tokens : List (Lexeme HoaKind)) (raw : RawAutomaton) (rest : List (Lexeme HoaKind)) : Type 0 where
+  pub segment : List (Lexeme HoaKind)
+  pub split : tokens ≡ segment ++ rest
+  pub whole : IsSegment End segment
+  pub written : IsRawOf segment raw
+
+-- an automaton as it is written that tokens of texts begin with fills a whole segment: no token but its last ends one
+abbrev pub AutomataFillSegments : Type 0
+AutomataFillSegments = (tokens rest : List (Lexeme HoaKind)) (raw : RawAutomaton) → AllByRecursion (IsTokenOf hoa_format) tokens
+    → ReadsAutomaton tokens raw rest → FillsSegment tokens raw rest

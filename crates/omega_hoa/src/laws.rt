@@ -1,5 +1,5 @@
-//! What holds of texts of one automaton and of streams, whatever the code does: each call does nothing and states one law.
-ghost use Rattle.omega_hoa.specs.Laws.{AutomataAreOne, AutomataAreUnrefused, AutomataOrRefused, CutsChangeNothing, RefusalsAreOne, StreamFaultsAreOne, StreamsAreOne, StreamsAreUnrefused, StreamsOrRefused};
+//! What holds of texts of one automaton, of streams and of automata in tokens, whatever the code does: each call does nothing and states one law.
+ghost use Rattle.omega_hoa.specs.Laws.{AutomataAreOne, AutomataAreUnrefused, AutomataFillSegments, AutomataOrRefused, CutsChangeNothing, RefusalsAreOne, StreamFaultsAreOne, StreamsAreOne, StreamsAreUnrefused, StreamsOrRefused};
 
 use omega_automaton::{meanings_are_one, meanings_are_there};
 use omega_raw::raws_are_one;
@@ -91,3 +91,8 @@ pub fn pieces_change_nothing()
     raws_are_one();
     meanings_are_one();
 }
+
+/// An automaton that the tokens of a text begin with fills a whole segment: of its tokens the last alone ends one.
+pub fn automata_fill_segments()
+    ensures { AutomataFillSegments }
+{}

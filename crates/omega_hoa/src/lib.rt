@@ -15,9 +15,9 @@ mod stream;
 pub use alone::read_one;
 pub use item::Item;
 pub use laws::{
-    automata_are_one, automata_are_unrefused, automata_or_refused, pieces_change_nothing,
-    refusals_are_one, stream_faults_are_one, streams_are_one, streams_are_unrefused,
-    streams_or_refused,
+    automata_are_one, automata_are_unrefused, automata_fill_segments, automata_or_refused,
+    pieces_change_nothing, refusals_are_one, stream_faults_are_one, streams_are_one,
+    streams_are_unrefused, streams_or_refused,
 };
 pub use omega_automaton::Automaton;
 pub use omega_text::Refusal;

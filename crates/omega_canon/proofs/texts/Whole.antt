@@ -1,5 +1,5 @@
--- The whole canonical text is the tokens of the automaton as it is written.
-use Rattle.std.proofs.Common.{◌≡◌, ℕ, Option, Some, None, List, [], ◌∷◌, ◌++◌, codes, length, map, append_assoc, refl, sym, subst, arith, lit<}
+-- The whole canonical text is the tokens of the automaton as it is written, whatever comes behind it.
+use Rattle.std.proofs.Common.{◌≡◌, ℕ, Option, Some, None, List, [], ◌∷◌, ◌++◌, codes, length, map, append_assoc, append-nil, refl, sym, subst, arith, lit<}
 use Rattle.std.specs.List.{AllByRecursion, flat_map}
 use Rattle.std.proofs.lemmas.List.Sums.{AllPass-from_list_all}
 use Rattle.omega_text.specs.Bytes.{is_word_byte}
@@ -8,21 +8,21 @@ use Rattle.omega_text.specs.hoa.Forms.{IsForm}
 use Rattle.omega_acc.specs.Symbols.{IsNoOperator}
 use Rattle.omega_acc.specs.WritingLaws.{acc_written}
 use Rattle.omega_acc.specs.declared.formula.name.AccName.{AccName}
-use Rattle.omega_raw.specs.Grammar.{IsEdge, IsItem, IsState, each, item_row, spelled, state_row}
-use Rattle.omega_raw.specs.Symbols.{FirstIs}
-use Rattle.omega_raw.specs.Symbols.{Symbol, sign}
+use Rattle.omega_raw.specs.Grammar.{IsEdge, IsItem, IsState, ReadsAutomaton, each, item_row, spelled, state_row}
+use Rattle.omega_raw.specs.Symbols.{FirstIs, Spells, Symbol, Tokens, sign}
 use Rattle.omega_raw.specs.declared.raw_item.RawItem.{RawItem}
 use Rattle.omega_raw.specs.declared.raw_item.RawItem.TheVariants as item
 use Rattle.omega_automaton.specs.Automaton.{Description}
 use Rattle.omega_automaton.specs.declared.header.Header.{Header}
 use Rattle.omega_automaton.specs.declared.state.State.{State}
 use Rattle.omega_automaton.specs.declared.tool.Tool.{Tool}
-use Rattle.omega_canon.specs.BodyText.{body_text}
+use Rattle.omega_canon.specs.BodyText.{state_text}
 use Rattle.omega_canon.specs.Canonical.{canonical}
 use Rattle.omega_canon.specs.HeaderText.{acc_name_line, acceptance_line, name_line, properties_line, propositions_line, start_line, states_line, tool_line, unknown_line}
-use Rattle.omega_canon.specs.Laws.{IsTextOf}
+use Rattle.omega_canon.specs.Laws.{IsRawText}
 use Rattle.omega_canon.specs.Writable.{AreJoined, IsWritable, IsWritableEdge, IsWritableHeader, IsWritableState}
 use Rattle.omega_canon.specs.Written.{acc_name_item, edge_written, items_written, name_item, properties_item, start_item, state_written, tool_item, unknown_item, written}
+use Rattle.omega_canon.proofs.streams.Behind.{spelled_before}
 use Rattle.omega_canon.proofs.texts.Items.{acc_name-spelled, acceptance-spelled, name-spelled, properties-spelled, propositions-spelled, start-spelled, states-spelled, tool-spelled, unknown-spelled}
 use Rattle.omega_canon.proofs.texts.Lists.{Any, all-append, all-map, all-then, each-append, each-map, each-spelled}
 use Rattle.omega_canon.proofs.texts.Pieces.{apart-line}
@@ -55,36 +55,41 @@ first-item : (items : List RawItem) (symbols : List Symbol) → FirstIs IsNoOper
 first-item [] symbols first = first
 first-item (it ∷ items) symbols first = tt
 
--- the symbols of the body
-abbrev body_symbols : List State → List Symbol
-body_symbols states = sign kind.Body ∷ each state_row (map state_written states) (sign kind.End ∷ [])
+-- the text of the body before other bytes
+abbrev body_before : List State → List ℕ → List ℕ
+body_before states behind = codes "--BODY--\n" ++ (flat_map state_text states ++ (codes "--END--\n" ++ behind))
+
+-- the symbols of the body, and then others
+abbrev body_symbols : List State → List Symbol → List Symbol
+body_symbols states others = sign kind.Body ∷ each state_row (map state_written states) (sign kind.End ∷ others)
 
 -- the body
-body-spelled : Known → (states : List State) → AllByRecursion IsWritableState states → IsSpelled (body_text states) (body_symbols states)
-body-spelled known states all =
+body-spelled : Known → (states : List State) (behind : List ℕ) (others : List Symbol) → AllByRecursion IsWritableState states
+    → IsSpelled behind others → IsSpelled (body_before states behind) (body_symbols states others)
+body-spelled known states behind others all spelled =
     sign-spelled kind.Body (codes "--BODY--") _ _ (refl, refl) (known.closed kind.Body (codes "--BODY--") _ refl refl)
-    (line-spelled (body-states-spelled known states (codes "--END--\n") (sign kind.End ∷ []) all
-    (sign-spelled kind.End (codes "--END--") (10 ∷ []) [] (refl, refl) (known.closed kind.End (codes "--END--") _ refl refl) (line-spelled nothing-spelled))))
+    (line-spelled (body-states-spelled known states (codes "--END--\n" ++ behind) (sign kind.End ∷ others) all
+    (sign-spelled kind.End (codes "--END--") (10 ∷ behind) others (refl, refl) (known.closed kind.End (codes "--END--") _ refl refl) (line-spelled spelled))))
 
 -- the version is an identifier
 is-version : IsForm kind.Identifier (codes "v1")
 is-version = ((lit< tt, refl, AllPass-from_list_all is_word_byte (codes "v1") refl), λ is. cc, λ is. cc)
 
 -- the lines behind the first one
-module _ (known : Known) (a : Description) (is : IsWritable a) where
+module _ (known : Known) (a : Description) (is : IsWritable a) (behind : List ℕ) (others : List Symbol) (spelled-behind : IsSpelled behind others) where
   abbrev symbols : List Symbol
-  symbols = body_symbols a.defined
+  symbols = body_symbols a.defined others
 
   abbrev behind_acceptance : List RawItem
   behind_acceptance = properties_item a.properties ++ map unknown_item a.unknown
 
   abbrev behind_acceptance_text : List ℕ
-  behind_acceptance_text = properties_line a.properties ++ (flat_map unknown_line a.unknown ++ body_text a.defined)
+  behind_acceptance_text = properties_line a.properties ++ (flat_map unknown_line a.unknown ++ body_before a.defined behind)
 
   rest-spelled : IsSpelled behind_acceptance_text (each item_row behind_acceptance symbols)
   rest-spelled =
       items-spelled _ (properties_item a.properties) (map unknown_item a.unknown) symbols
-      (properties-spelled known a.properties _ _ is.properties (headers-spelled known a.unknown _ symbols is.unknown (body-spelled known a.defined is.defined)))
+      (properties-spelled known a.properties _ _ is.properties (headers-spelled known a.unknown _ symbols is.unknown (body-spelled known a.defined behind others is.defined spelled-behind)))
 
   abbrev behind_starts : List RawItem
   behind_starts = item.Propositions (length a.propositions) a.propositions ∷ (acc_name_item a.acc_name ++ (item.Acceptance a.sets (acc_written a.acceptance) ∷ behind_acceptance))
@@ -112,12 +117,13 @@ module _ (known : Known) (a : Description) (is : IsWritable a) where
       (items-spelled _ (map start_item a.starts) behind_starts symbols
       (starts-spelled known a.starts _ _ is.starts back-spelled))))))
 
-  text-apart : canonical a ≡ codes "HOA: v1\n" ++ front_text
+  text-apart : canonical a ++ behind ≡ codes "HOA: v1\n" ++ front_text
   text-apart = simp append_assoc
 
-  whole-spelled : IsSpelled (canonical a) (spelled (written a))
+  -- the text of an automaton before others
+  pub whole-spelled : IsSpelled (canonical a ++ behind) (spelled_before (written a) others)
   whole-spelled =
-      subst (λ text. IsSpelled text (spelled (written a))) (sym text-apart)
+      subst (λ text. IsSpelled text (spelled_before (written a) others)) (sym text-apart)
       (header-spelled known (codes "HOA") _ _ (lit< tt, refl, AllPass-from_list_all is_word_byte (codes "HOA") refl)
       (space-spelled (word-spelled known (codes "v1") (10 ∷ front_text) _ is-version (apart-line front_text) (line-spelled front-spelled))))
 
@@ -160,12 +166,18 @@ written-states states all =
     (λ state is. all-map IsEdge edge_written state.edges (all-then IsWritableEdge (λ edge. IsEdge (edge_written edge)) (λ edge are. are.targets.listed) state.edges is.edges))
     states all)
 
+-- tokens that spell it so are read as the automaton as it is written
+pub written-reads : (a : Description) (tokens rest : Tokens) → IsWritable a → Spells tokens (spelled (written a)) rest → ReadsAutomaton tokens (written a) rest
+written-reads a tokens rest is spells = record { items = written-items a is; states = written-states a.defined is.defined; spells = spells }
+
 -- the canonical text of an automaton is that of the automaton as it is written
-pub canonical-spelled : Known → (a : Description) → IsWritable a → IsTextOf (canonical a) (written a)
+pub canonical-spelled : Known → (a : Description) → IsWritable a → IsRawText (canonical a) (written a)
 canonical-spelled known a is =
-    let there = (whole-spelled known a is).there (canonical a) 0 (omega arith) refl in
+    let whole : IsSpelled (canonical a) (spelled (written a)) =
+    subst (λ text. IsSpelled text (spelled (written a))) (append-nil (canonical a)) (whole-spelled known a is [] [] nothing-spelled) in
+    let there = whole.there (canonical a) 0 (omega arith) refl in
     record {
-      tokens = there.tokens;
+      lexemes = there.tokens;
       cut = record { end = there.end; cuts = there.cuts; rest = there.rest };
-      reads = record { items = written-items a is; states = written-states a.defined is.defined; spells = there.spells };
+      written = written-reads a there.tokens [] is there.spells;
     }

@@ -1,9 +1,10 @@
 -- The canonical text of an automaton that was read is a text of that automaton.
 use Rattle.omega_canon.proofs.meanings.ReadBack.{canonical-read}
+use Rattle.omega_canon.proofs.streams.ReadBack.{read-tokens}
 use Rattle.omega_canon.proofs.laws.canonical_texts_are_read.Goals as goal
 
 pub returns : goal.returns
-returns c =
+returns c = λ a was.
     canonical-read
     (record {
       join = c.cuts_join.ensures;
@@ -24,3 +25,6 @@ returns c =
       no_fault = c.meanings_have_no_fault.ensures;
     })
     c.meanings_are_automata.ensures
+    c.automata_fill_segments.ensures
+    a
+    (read-tokens a was)
