@@ -1,8 +1,10 @@
 """Drawings of games, solutions, automata and lassos, byte for byte by the rules of docs/formats.md; and where `dot` is
-installed, that it makes a picture of each example."""
+installed, that it makes a picture of each example, and draws the bytes of names as the rules say."""
 import glob
+import html
 import os
 import random
+import re
 import shutil
 import subprocess
 
@@ -179,14 +181,58 @@ def drawing_checks():
         yield from picture_checks()
 
 
+def picture_of(drawing):
+    """A picture in SVG, and what `dot` says of it."""
+    made = subprocess.run(["dot", "-Tsvg"], input=drawing, capture_output=True, timeout=SECONDS)
+    return made.stdout if made.returncode == 0 and made.stdout.rstrip().endswith(b"</svg>") else None, made.stderr
+
+
+def named_automaton(name):
+    """An automaton of one state, whose name is such a string; in the string a quote and a backslash need one before them."""
+    quoted = re.sub(rb'(["\\])', rb"\\\1", name)
+    text = b'HOA: v1 name: "%s" States: 1 Acceptance: 0 t --BODY-- State: 0 --END--' % quoted
+    return quoted, output_of(["draw", "--format", "hoa"], text)
+
+
+def lines_of(picture):
+    """The lines of text in a picture, with plain spaces for those that do not break."""
+    texts = re.findall("<text[^>]*>(.*?)</text>", picture.decode(), re.DOTALL)
+    return [html.unescape(text).replace("\xa0", " ") for text in texts]
+
+
+def drawn_name_fault(name):
+    """What a picture shows in place of a name in UTF-8, which must be its lines, with a space for other signs below 32."""
+    quoted, drawing = named_automaton(name)
+    picture, said = picture_of(drawing)
+    if picture is None or said:
+        return shown(said)
+    wanted = ["".join(" " if sign < " " or sign == "\xa0" else sign for sign in line) for line in quoted.decode().split("\n")]
+    came = lines_of(picture)[:len(wanted)]
+    return None if came == wanted else f"{came} for {wanted}"
+
+
+def every_byte():
+    """Each byte that a text in UTF-8 can have, in a name; and each byte whatever, where a picture is all that is wanted."""
+    yield "signs of one byte", drawn_name_fault(bytes(range(128)))
+    # All second bytes of two, and each first byte of two, three and four with the least sign that it begins.
+    longer = [*range(0x80, 0x100), *range(0x100, 0x800, 0x40), 0x800, *range(0x1000, 0xd000, 0x1000), 0xd000,
+              0xe000, 0xf000, 0x10000, 0x40000, 0x80000, 0xc0000, 0x100000]
+    for code in range(0, len(longer), 32):
+        signs = "".join(map(chr, longer[code:code + 32]))
+        yield f"signs of more bytes from {longer[code]}", drawn_name_fault(signs.encode())
+    for first in range(128, 256):
+        picture, said = picture_of(named_automaton(b"x%cy" % first)[1])
+        yield f"the byte {first} alone", None if picture else shown(said)
+
+
 def picture_checks():
-    """Graphviz makes a picture of the drawing of each example."""
+    """Graphviz makes a picture of the drawing of each example, and of names of every byte."""
+    yield from ((f"a picture of {label}", fault) for label, fault in every_byte())
     drawn = [(path, ["draw", "--format", "pg"]) for path in glob.glob(os.path.join(ROOT, "examples", "*.pg"))]
     drawn += [(path, ["draw", "--format", "hoa", *more]) for path in glob.glob(os.path.join(ROOT, "examples", "*.hoa"))
               if "aborted" not in path for more in ([], ["--lasso"])]
     for path, words in sorted(drawn):
         with open(path, "rb") as file:
-            drawing = output_of(words, file.read())
-        made = subprocess.run(["dot", "-Tsvg"], input=drawing, capture_output=True, timeout=SECONDS)
-        good = made.returncode == 0 and not made.stderr and b"</svg>" in made.stdout
-        yield f"a picture of {os.path.basename(path)} by {' '.join(words)}", None if good else shown(made.stderr)
+            picture, said = picture_of(output_of(words, file.read()))
+        good = picture and not said
+        yield f"a picture of {os.path.basename(path)} by {' '.join(words)}", None if good else shown(said)

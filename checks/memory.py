@@ -13,6 +13,8 @@ TWO = b"0 1 0 1; 1 2 1 0;"
 GAPS = b'parity 9; 9 3 1 4; 4 2 0 9,4 "a";'
 CARRY = b"0 1 0 0; 1 0 0 1; 2 3 0 2; 3 1 1 2,0;"
 CHOICE = b"0 0 0 1,2; 1 1 1 0; 2 2 1 0;"
+# Five successors a node, so that the game is solved without being renamed.
+DENSE = b"0 0 0 0,0,0,0,1; 1 1 1 1,1,1,1,0;"
 PARTED = b"0 0 0 1; 1 1 1 1; 2 2 0 0;"
 
 BUCHI = b'HOA: v1 States: 1 Start: 0 AP: 1 "a" acc-name: Buchi Acceptance: 1 Inf(0) --BODY-- State: 0 [0] 0 {0} --END--'
@@ -27,7 +29,7 @@ TWO_SETS = (b"HOA: v1 States: 2 Start: 0 acc-name: generalized-Buchi 2 Acceptanc
 # Words, the text on standard input, and the text in the file that is the last word, where there is one.
 RUNS = [
     *((["solve", *more], text, None)
-      for text in (TWO, GAPS, CARRY, CHOICE)
+      for text in (TWO, GAPS, CARRY, CHOICE, DENSE)
       for more in ([], ["--search"], ["--player", "0"], ["--player", "1"], ["--from", "0"], ["--budget", "3"])),
     *(([name, "--format", "pg"], text, None) for text in (TWO, GAPS, CHOICE) for name in ("show", "check", "canon")),
     *(([name, "--format", "hoa"], text, None) for text in (BUCHI, ABORTED, ALIASES, WRITTEN, BUCHI * 3)

@@ -1,5 +1,6 @@
 """What the pages say, as far as a program can tell: each command is run as it stands there and must write what stands
-below it, each link leads somewhere, each example of docs/library.md stands in the crate that is proved.
+below it, each link leads somewhere, each example of docs/library.md stands in the crate that is proved; and that comments in
+the sources are as narrow as they should be.
 
 A command stands in an indented block, behind `$ `. It goes on with the next line where it ends with a backslash or a
 pipe, or inside single quotes. Up to the next command stands what it writes, on standard output and standard error together. The
@@ -16,6 +17,7 @@ import tempfile
 
 from manual import examples_of_manual, manual_checks
 from program import OMEGA, ROOT, SECONDS, help_of, output_of, subcommands
+from widths import width_checks
 
 MARK = "\x01done\x01"
 SHELL = "sh"
@@ -161,3 +163,4 @@ def page_checks():
         yield from command_checks(f"the help of {name or 'the program'}", indented_blocks(help_of(name), 2))
     yield from command_checks("docs/omega.1", examples_of_manual())
     yield from manual_checks()
+    yield from width_checks()

@@ -128,6 +128,11 @@ def wide_for_one():
     yield long_row("solve --player 0 --budget 0", text, 3, error=used_up)
     yield long_row("solve --from 8193", text, 1, error=unknown)
     yield long_row("solve --from 8192", text, output=b"paritysol 8192;\n8192 1;\n")
+    # The search needs no table, and no lift: each node with an even priority is won by its loop, and the last is lost.
+    solution = b"paritysol 8192;\n" + "".join(f"{node} 0 {node};\n" for node in range(8192)).encode() + b"8192 1;\n"
+    yield long_row("solve --search", text, output=solution)
+    yield long_row("solve --search --budget 0", text, output=solution)
+    yield long_row("solve --search --from 8192", text, output=b"paritysol 8192;\n8192 1;\n")
 
 
 def doubling():
