@@ -15,6 +15,7 @@ import shutil
 import subprocess
 import tempfile
 
+from believing import believing_checks
 from manual import examples_of_manual, manual_checks
 from program import OMEGA, ROOT, SECONDS, help_of, output_of, subcommands
 from widths import width_checks
@@ -164,3 +165,4 @@ def page_checks():
     yield from command_checks("docs/omega.1", examples_of_manual())
     yield from manual_checks()
     yield from width_checks()
+    yield from believing_checks()

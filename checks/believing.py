@@ -1,0 +1,367 @@
+#!/usr/bin/env python3
+"""What has to be read to believe a promise: the definitions that it rests on, counted in the sources.
+
+    checks/believing.py                          writes docs/believe.md
+    checks/believing.py check --format pg        prints the definitions of that promise, in the order of reading
+
+A promise of a subcommand is the rows of `Answers` and of `Refuses` (crates/omega_run/specs/Respond.antt) for what the
+subcommand asks for. From the words of these rows the definitions are followed, each to the words of its body, as the
+`use` lines of its file lead. A file stands after the files that it cites.
+"""
+import glob
+import os
+import re
+import sys
+from dataclasses import dataclass, field
+
+from program import ROOT
+
+PAGE = os.path.join("docs", "believe.md")
+RESPOND = "omega_run.specs.Respond"
+HEADLINE = ("omega_solve.specs.Headline", "Headline")
+
+# Each promise, with the beginnings of the rows that are its own.
+COMMANDS = {
+    "check --format pg": ("Check Pg",),
+    "canon --format pg": ("Canon Pg", "CanonPart"),
+    "show --format pg": ("Show Pg",),
+    "solve": ("Solve",),
+    "solve --search": ("Search",),
+    "verify": ("Verify",),
+    "draw --format pg": ("Draw Pg", "DrawSolution"),
+    "check --format hoa": ("Check Hoa",),
+    "canon --format hoa": ("Canon Hoa",),
+    "show --format hoa": ("Show Hoa",),
+    "empty": ("Empty",),
+    "empty --search": ("EmptySearch",),
+    "game": ("Game",),
+    "draw --format hoa": ("Draw Hoa", "DrawLasso"),
+}
+
+USE = re.compile(r"(?:ghost )?use Rattle\.([\w.]+?)(?:\.\{([^}]*)\}| as (\w+));?$")
+FORM = re.compile(r"(?:(?:abbrev|unfoldable|pub|record|data)\s+)*([^\s(:]+)")
+WORD = re.compile(r"[^\s(){}\[\],;:=λ×→↔¬⊎]+")
+
+
+FRONT = """# What to read to believe it
+
+A proof shows that the code does what the definitions say. It does not show that the definitions say what is meant:
+that is for a reader to judge. This page counts what such a reader has to read, promise by promise. It is made from
+the sources by `checks/believing.py`, and `checks/run pages` fails where it is no longer true.
+
+The promise of a subcommand is its rows of two tables in `crates/omega_run/specs/Respond.antt`: `Answers` says what it
+writes, and `Refuses` when it writes nothing and which refusal comes. The definitions that these rows cite, and those
+that they cite in turn, are all that the promise rests on. A line is a line of a definition or of its comment; `use`
+lines are not counted. The promises share most of their definitions: whoever has read one of them has read the greater
+part of the next.
+
+"""
+
+BEHIND = """The last row is the contract of `obey`, which is all that the program does once its words are read: it contains every
+subcommand, the exit statuses, the lines of refusals, progress, and streams that fail.
+
+**How to read one.** Each section below lists the files of `crates/CRATE/specs/` in an order in which nothing is cited
+before it was read, and how many lines of each file are needed. `checks/believing.py check --format pg` prints just
+these lines, in this order. Types of the code are enums and structs without behaviour of their own; they are declared
+in `src/` of the crates. [definitions.md](definitions.md) says the same in plain words, and [promises.md](promises.md)
+leads from each promise to its clause.
+
+**What lies outside**, and has to be trusted or is tested:
+
+- the toolchain that `omega --version` names: its prover, its compiler, its standard library with the words that
+  contracts cite (`List`, `Option`, numbers), and the crates `indexmap`, `itoa`, `smallvec` and `thiserror`;
+- the way from the words of the command line to what a subcommand asks for. `line_for` is proved: what a subcommand
+  asks for with the texts of its options, by `crates/omega_line/specs/CommandLine.antt`. That the words have these
+  options rests on `clap` and on how `omega_help` describes them to it, and is tested;
+- the texts of help and of faults of the command line, which are tested;
+- `main`, which hands `obey` the machine's streams and files. Of these the toolchain says nothing; which is which is
+  tested.
+
+"""
+
+
+@dataclass
+class Definition:
+    """A definition with its comment: where it stands, its lines, and the names that it may cite."""
+
+    module: str
+    name: str
+    comment: list
+    lines: list
+    names: "Names"
+
+    def size(self):
+        return sum(1 for line in [*self.comment, *self.lines] if line.strip())
+
+    def words(self, only=None):
+        """The words of its body; where rows are asked for, those of the rows for these arguments."""
+        lines = self.lines if only is None else [line for row in self.rows(only) for line in row]
+        return [word.rstrip(".") for line in lines for word in WORD.findall(line.split(" -- ")[0])]
+
+    def rows(self, arguments):
+        """The rows of a definition by cases whose first argument begins so, without their left sides."""
+        row = None
+        for line in self.lines:
+            begun = re.match(rf"{re.escape(self.name)} (?:\(([^)]*)\)|(\S+)) .*?=(.*)", line)
+            if begun:
+                argument = begun.group(1) or begun.group(2)
+                row = [begun.group(3)] if any(f"{argument} ".startswith(f"{one} ") for one in arguments) else None
+                if row:
+                    yield row
+            elif row and line.startswith(" "):
+                row.append(line)
+
+
+@dataclass
+class Names:
+    """What the `use` lines of a file give: a module and a name for each name, and a module for each short name."""
+
+    given: dict = field(default_factory=dict)
+    short: dict = field(default_factory=dict)
+
+    def take(self, line):
+        found = USE.match(line.strip())
+        if found and found.group(3):
+            self.short[found.group(3)] = found.group(1)
+        elif found and found.group(2) is not None:
+            for one in found.group(2).split(","):
+                theirs, _, ours = one.strip().partition(" as ")
+                if theirs:
+                    self.given[ours.strip() or theirs] = (found.group(1), theirs)
+
+    def place_of(self, module, word):
+        """The module and the name that a word stands for."""
+        front, _, behind = word.partition(".")
+        if behind and front in self.short:
+            return self.short[front], behind
+        return self.given.get(word, (module, word))
+
+
+def definitions_in(module, text):
+    """The definitions of a file, each with the comment above it."""
+    names, held, comment, made = Names(), None, [], []
+    for line in text.split("\n"):
+        names.take(line)
+        if line.startswith("--"):
+            held, comment = None, [*comment, line]
+        elif not line.strip() or line.startswith(("use ", "pub mod ", "infix")):
+            held = held if line.startswith(" ") else None
+            comment = []
+        elif line.startswith(" "):
+            if held:
+                held.lines.append(line)
+        else:
+            name = FORM.match(line).group(1)
+            if held is None or held.name != name:
+                held = Definition(module, name, comment, [], names)
+                made.append(held)
+            held.lines.append(line)
+            comment = []
+    return made
+
+
+def module_of(path):
+    return os.path.relpath(path, os.path.join(ROOT, "crates"))[:-len(".antt")].replace(os.sep, ".")
+
+
+def file_of(module):
+    """The file of a module: of a definition's, or of a type's that is declared in the code."""
+    crate, _, rest = module.partition(".specs.")
+    if not rest.startswith("declared."):
+        return f"crates/{crate}/specs/{rest.replace('.', '/')}.antt"
+    stem = f"crates/{crate}/src/{'/'.join(rest.split('.')[1:-1])}"
+    return f"{stem}.rt" if os.path.exists(os.path.join(ROOT, f"{stem}.rt")) else f"{stem}/mod.rt"
+
+
+class Sources:
+    """All definitions of the repository."""
+
+    def __init__(self):
+        self.held, self.parts = {}, {}
+        for path in sorted(glob.glob(os.path.join(ROOT, "crates", "*", "specs", "**", "*.antt"), recursive=True)):
+            with open(path) as file:
+                for one in definitions_in(module_of(path), file.read()):
+                    self.held[one.module, one.name] = one
+                    self.parts |= {(one.module, part): one for part in parts_of(one)}
+
+    def cited(self, definition, only=None):
+        """The definitions and the declared types that a definition cites."""
+        for word in definition.words(only):
+            place = definition.names.place_of(definition.module, word)
+            found = self.held.get(place) or self.parts.get(place)
+            if found and found is not definition:
+                yield found
+            elif ".specs.declared." in place[0]:
+                yield type_of(place[0])
+
+    def reached(self, begun):
+        """All that is cited from these on."""
+        found, waiting = {}, list(begun)
+        while waiting:
+            one = waiting.pop()
+            key = (one.module, one.name) if isinstance(one, Definition) else one
+            if key not in found:
+                found[key] = one
+                waiting += self.cited(one) if isinstance(one, Definition) else []
+        return [one for one in found.values()]
+
+    def rows_cite(self, arguments):
+        """What the rows of the two tables cite for these commands."""
+        for table in ("Answers", "Refuses"):
+            cited = list(self.cited(self.held[RESPOND, table], arguments))
+            if not cited:
+                raise ValueError(f"{table} of {RESPOND} has no row for {arguments}")
+            yield from cited
+
+
+def parts_of(definition):
+    """The constructors of a definition of data: whoever cites one cites the definition."""
+    for line in definition.lines[1:]:
+        found = re.match(r"\s+(?:pub )?([^\s:(]+)\s*:", line)
+        if found:
+            yield found.group(1)
+
+
+def type_of(module):
+    """A type that is declared in the code, by its module."""
+    path = module.removesuffix(".TheVariants")
+    return path, path.rpartition(".")[2]
+
+
+def placed_behind(items, cited):
+    """The items in an order in which each stands behind those that it cites."""
+    ordered, seen = [], set()
+
+    def put(item):
+        if item not in seen:
+            seen.add(item)
+            for other in sorted(cited(item) & items):
+                put(other)
+            ordered.append(item)
+
+    for item in sorted(items):
+        put(item)
+    return ordered
+
+
+def in_order(sources, believed):
+    """The definitions by their crates and files, each crate and each file behind those that it cites."""
+    files = {}
+    for one in believed:
+        if isinstance(one, Definition):
+            files.setdefault(one.module, []).append(one)
+
+    def below(module):
+        cited = [one for held in files[module] for one in sources.cited(held) if isinstance(one, Definition)]
+        return {one.module for one in cited} - {module}
+
+    def crates_below(crate):
+        return {crate_of(other) for module in files if crate_of(module) == crate for other in below(module)} - {crate}
+
+    crates = placed_behind({crate_of(module) for module in files}, crates_below)
+    placed = placed_behind(set(files), below)
+    return [(crate, [(module, files[module]) for module in placed if crate_of(module) == crate]) for crate in crates]
+
+
+def crate_of(module):
+    return module.partition(".")[0]
+
+
+def clause_words(path, function):
+    """A definition that stands for the clauses of a function of the code."""
+    names, lines, is_inside = Names(), [], False
+    with open(os.path.join(ROOT, path)) as file:
+        for line in file.read().split("\n"):
+            names.take(line)
+            is_inside = is_inside or bool(re.match(rf"pub fn {function}\b", line))
+            if is_inside and line.startswith("{"):
+                break
+            if is_inside:
+                lines.append(line)
+    return Definition("", function, [], lines, names)
+
+
+def promises(sources):
+    """Each promise with all that it rests on."""
+    yield "the headline, `Headline` of `omega_solve`", sources.reached([sources.held[HEADLINE]])
+    for label, arguments in COMMANDS.items():
+        yield f"`omega {label}`", sources.reached(sources.rows_cite(arguments))
+    obey = clause_words("crates/omega_run/src/obeying.rt", "obey")
+    yield "the whole program, `obey`", sources.reached(sources.cited(obey))
+
+
+def types_in(believed):
+    """The names of the types that are declared in the code of the repository."""
+    declared = [one for one in believed if not isinstance(one, Definition)]
+    return sorted({name for module, name in declared if os.path.exists(os.path.join(ROOT, "crates", crate_of(module)))})
+
+
+def sizes_of(believed):
+    """How many definitions, lines and files."""
+    held = [one for one in believed if isinstance(one, Definition)]
+    return len(held), sum(one.size() for one in held), len({one.module for one in held})
+
+
+def section_of(sources, label, believed):
+    """What is said of a promise: its files crate by crate, each with its lines."""
+    definitions, lines, files = sizes_of(believed)
+    yield f"## {label[0].upper() + label[1:]}\n\n{definitions} definitions, {lines:,} lines in {files} files:\n\n"
+    for crate, modules in in_order(sources, believed):
+        listed = ", ".join(f"`{module.partition('.specs.')[2].replace('.', '/')}` {sum(one.size() for one in held)}"
+                           for module, held in modules)
+        yield f"- `{crate}`: {listed}\n"
+    types = ", ".join(f"`{name}`" for name in types_in(believed))
+    yield f"\nTypes of the code: {types or 'none'}.\n\n"
+
+
+def unwrapped(text):
+    """The text with a line for each paragraph and for each item of a list."""
+    return re.sub(r"(?<!\n)\n(?! *[-\n#]|\Z) *", " ", text)
+
+
+def page():
+    """The page, as it has to be."""
+    sources = Sources()
+    found = list(promises(sources))
+    yield unwrapped(FRONT)
+    yield "| Promise | Definitions | Lines | Files |\n|---|---|---|---|\n"
+    for label, believed in found:
+        definitions, lines, files = sizes_of(believed)
+        yield f"| {label} | {definitions} | {lines:,} | {files} |\n"
+    yield "\n" + unwrapped(BEHIND)
+    for label, believed in found:
+        yield from section_of(sources, label, believed)
+
+
+def printed(wanted):
+    """The definitions of a promise themselves, in the order of reading."""
+    sources = Sources()
+    for label, believed in promises(sources):
+        if wanted in label.split("`") or f"omega {wanted}" in label.split("`") or wanted == label:
+            for _, modules in in_order(sources, believed):
+                for module, held in modules:
+                    yield f"\n==== {file_of(module)}\n"
+                    for one in held:
+                        yield "\n" + "".join(line + "\n" for line in [*one.comment, *one.lines])
+            return
+    raise SystemExit(f"no promise has the name {wanted}")
+
+
+def believing_checks():
+    """That the page says what is so."""
+    with open(os.path.join(ROOT, PAGE)) as file:
+        came = file.read()
+    good = came == "".join(page())
+    yield PAGE, None if good else "the sources say something else: run checks/believing.py, and read what changed"
+
+
+def main():
+    if len(sys.argv) > 1:
+        print("".join(printed(" ".join(sys.argv[1:]))), end="")
+        return
+    with open(os.path.join(ROOT, PAGE), "w") as file:
+        file.write("".join(page()))
+
+
+if __name__ == "__main__":
+    main()
