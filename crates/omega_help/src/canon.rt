@@ -4,8 +4,8 @@ use clap::Command;
 use std::alloc::{AllocError, Global};
 
 const DETAILS: &str = "\
-Reads a text from standard input and writes the one text that what it stands for has. Two texts stand
-for the same exactly if this writes the same for both.
+Reads a text from standard input and writes the canonical text of the game, or of the automata. Two
+texts stand for the same game, or the same automata, exactly if their canonical texts are the same.
 
 --format pg writes a game: a header with the greatest identifier, then a line for each node in rising
 order of identifiers.
@@ -17,7 +17,7 @@ order of identifiers.
 
 --from ID writes the part of the game that is reached from the node with that identifier, in the same
 form: a game of its own, whose nodes keep their identifiers. It is the game that `omega solve --from ID`
-solves. Where no node has the identifier, 54 UnknownNode is told. It goes with --format pg only.
+solves. If no node has the identifier, the refusal is 54 UnknownNode. It goes with --format pg only.
 
   $ echo '0 0 0 1; 1 1 1 1; 2 2 0 0;' | omega canon --format pg --from 0
   parity 1;
@@ -26,7 +26,7 @@ solves. Where no node has the identifier, 54 UnknownNode is told. It goes with -
 
 --format hoa writes automata, one behind the other: the header of each in a fixed order, then its
 states and edges in the order given, with aliases replaced, only the parentheses that are needed, and
-sets in rising order. What was given up by --ABORT-- is left out. Where there is no automaton, nothing
+sets in rising order. What is stopped by --ABORT-- is left out. Where there is no automaton, nothing
 is written.
 
   $ echo 'HOA: v1 AP: 1 \"a\" Alias: @x 0|t Acceptance: 0 t
@@ -40,7 +40,7 @@ is written.
   [(0|t)&0] 0
   --END--
 
-A text that is refused writes nothing but one line on standard error. `omega check --help` lists the
+If a text is refused, nothing is written but one line on standard error. `omega check --help` lists the
 refusals of both formats.
 
 Exit status: 0 done, 1 the text or the task is refused, 2 the command line is wrong, 4 out of memory, 5
@@ -55,7 +55,7 @@ const OPTIONS: &[OptionHelp] = &[
     },
 ];
 
-/// The subcommand that writes the one text of a value.
+/// The subcommand that writes canonical texts.
 pub fn canon_command<'a>(alloc: Global) -> Result<Command<'a>, AllocError> {
     let about = "Write a game, or automata, in canonical form";
     subcommand(alloc, "canon", about, DETAILS, OPTIONS)

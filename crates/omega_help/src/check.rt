@@ -22,7 +22,7 @@ there or an end that comes too early, 4 TooLong is a text of over 16777216 bytes
 
 Of a game, 10 DuplicateNode is an identifier that is specified twice, 11 UndefinedSuccessor one that
 is not specified, 12 HeaderTooSmall a header whose number is below an identifier, 13 TooManyNodes and
-14 TooManyEdges are games of over 1048576 nodes or 8388608 successors. Of several, 4 is told first,
+14 TooManyEdges are games of over 1048576 nodes or 8388608 successors. Of several, 4 comes first,
 then the first of 1 and 2 in the text, then 3, then the least number of the others.
 
 Of an automaton, 20 Version is another than v1, 21 RepeatedHeader an item that stands twice and may
@@ -34,9 +34,9 @@ defined twice, 29 MixedLabels labels on some edges of a state and not on others,
 edges, 30 ImplicitCount edges without labels that are not one for each set of propositions,
 31 AcceptanceAtom one that is neither Fin nor Inf, 32 TooDeep a formula nested over 256 deep and
 33 Expansion labels that are too large with their aliases replaced. Inside an automaton, from `HOA:`
-to `--END--`, the first of 1 and 2 is told first, then 3, then the least number of the others. The
-first automaton that is refused decides, or the first fault between two if that comes before; but 4 is
-told before all else.
+to `--END--`, the first of 1 and 2 comes first, then 3, then the least number of the others. The
+first automaton that is refused decides, or the first fault between two if that stands before it; but 4
+comes before all else.
 
 Exit status: 0 accepted, 1 the text is refused, 2 the command line is wrong, 4 out of memory, 5 a read
 or a write failed.";

@@ -18,11 +18,11 @@ for player 0 and orange for player 1, and each choice is a bold edge.
 
 --format hoa draws an automaton: above it its name and its acceptance formula, then its states with
 their numbers and names, an arrow into each start, and its edges with their labels, in which
-propositions stand by their names, and their marks in braces. What leads to several states at once, an
-edge or a start, leads to them through a point. A state that the body does not have is drawn where an
+propositions stand by their names, and their marks in braces. An edge or a start that leads to several
+states at once leads to them through a point. A state that the body does not have is drawn where an
 edge or a start leads to it. With --lasso, the accepting lasso that `omega empty --search` writes is
-bold, its cycle red and what is of its stem alone blue; where there is none, the automaton is drawn as
-without.
+bold: its cycle is red, and the edges of the stem alone are blue. If there is no such lasso, the drawing
+is the same as without --lasso.
 
   $ echo 'HOA: v1 States: 2 Start: 0 acc-name: co-Buchi Acceptance: 1 Fin(0)
     --BODY-- State: 0 [t] 0 {0} [t] 1 State: 1 [t] 1 --END--' |
@@ -30,11 +30,11 @@ without.
 
 --solution goes with --format pg only, and --lasso with --format hoa only.
 
-What is wrong with the text is told first; `omega check --help` lists it. A text with --ABORT--, with no
-automaton or with several is no automaton: 3 Syntax is told of it. What is wrong with a game is told
-before what is wrong with its solution, 53 BadSolution among it; a solution that fits the game is drawn,
-right or wrong, since `omega verify` is what judges it. A file that can't be read is told as 61 Io. With
---lasso 13, 40, 41 and 42 are told as by `omega empty --search`.
+Faults of the text come first; `omega check --help` lists them. A text with --ABORT--, with no automaton
+or with several is not one automaton, and is refused as 3 Syntax. Faults of a game come before those of
+its solution, 53 BadSolution among these. A solution that fits the game is drawn, right or wrong, since
+`omega verify` judges it. A file that can't be read is refused as 61 Io. With --lasso the refusals 13,
+40, 41 and 42 come as from `omega empty --search`.
 
 Exit status: 0 done, 1 a text or the task is refused, 2 the command line is wrong, 4 out of memory, 5 a
 read or a write failed.";

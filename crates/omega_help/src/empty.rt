@@ -5,47 +5,46 @@ use std::alloc::{AllocError, Global};
 
 const DETAILS: &str = "\
 Reads one automaton in the Hanoi format from standard input and says whether it accepts anything.
-Writes `empty` where it accepts nothing, and else an accepting lasso: edges that lead from a start to
-a state, the stem, and then edges that lead from there back to it, the cycle. To take the stem once and
-the cycle for ever is a run that the automaton accepts: the acceptance formula holds of the marks of
-the cycle. Each edge of a lasso has a label that some set of propositions makes true, or none.
+Writes `empty` if it accepts nothing, and else an accepting lasso. Its stem is edges that lead from a
+start to a state, and its cycle edges that lead from there back to it. The run that takes the stem once
+and the cycle for ever is accepted: the acceptance formula holds of the marks of the cycle. Each edge of
+a lasso has a label that some set of propositions makes true, or no label.
 
   $ echo 'HOA: v1 States: 2 Start: 0 acc-name: co-Buchi Acceptance: 1 Fin(0)
     --BODY-- State: 0 [t] 0 {0} [t] 1 State: 1 [t] 1 --END--' | omega empty
   stem 1
   cycle 2
 
-An edge is written by its number: the edges of the body are numbered from 0 in the order in which they
-stand in it, those of all states in one row. Here edge 0 leads from state 0 to itself, edge 1 from
+An edge is written as its number. The edges of the body are numbered from 0 in the order of the text,
+through all states. Here edge 0 leads from state 0 to itself, edge 1 from
 state 0 to state 1, and edge 2 from state 1 to itself. A stem without edges is written as `stem` alone.
 
 It is decided for these names in `acc-name:`, with the formula that the Hanoi format gives to each:
 all, none, Buchi, co-Buchi, parity max even K, parity max odd K, parity min even K, parity min odd K,
 and generalized-Buchi K with K from 1 to 16. Every other name, no name, or another formula beside the
-name is told as 40 NotParity. 41 UniversalBranch is told of a start or an edge that lists several
-states joined by &, 42 TooManyPropositions of a label that mentions over 12 propositions, and
-13 TooManyNodes where the numbers of the nodes of the game that `omega game` writes would go beyond
-1048576.
+name is refused as 40 NotParity. A start or an edge that lists several states joined by & is refused as
+41 UniversalBranch, and a label that mentions over 12 propositions as 42 TooManyPropositions. An
+automaton is refused as 13 TooManyNodes if the nodes of the game that `omega game` writes would need
+more than 1048576 numbers.
 
 The automaton is decided by lifting, for player 0, in that game. Where several priorities lose, that can
 take as many lifts as the bound of the game says, far more than there is time for:
-`omega game | omega show --format pg` writes the bound. --budget N gives up after N lifts, writes nothing
-but `omega: 51 Budget` on standard error, and exits with status 3. 50 TooWide is told where the nodes of
-the game times its losing priorities are over 67108864.
+`omega game | omega show --format pg` writes the bound. --budget N stops after N lifts, writes nothing
+but `omega: 51 Budget` on standard error, and exits with status 3. If the nodes of the game times its
+losing priorities are over 67108864, the refusal is 50 TooWide.
 
 --progress writes a line on standard error each time that 67108864 more lifts were made and the game is
 not yet solved, as `player 0: 67108864 lifts of at most 1099511627776`: how many were made, and the bound
-or, if it is less, the budget. What is written on standard output and the exit status are the same without
-it, also where standard error takes no line.
+or, if it is less, the budget. Standard output and the exit status are the same without it, and also if
+standard error cannot be written.
 
---search decides it without lifting: it looks in the game for a cycle whose greatest priority is even,
-in a time that is near-linear in the automaton. Its answers are proved as those of lifting are, though
-the lasso may be another. It has no bound on lifts that is known before the run, and needs none:
-neither --budget nor --progress is given beside it, and 50 and 51 are not told. Take it for large
-automata, and where lifting gives up.
+--search decides without lifting: it looks in the game for a cycle whose greatest priority is even, and
+took time near-linear in the automaton wherever it was measured. Its answers are proved as those of
+lifting are, though the lasso may be another. It makes no lifts, so neither --budget nor --progress is
+given beside it, and 50 and 51 do not come. Take it for large automata, and where lifting takes too long.
 
-What is wrong with the text is told first; `omega check --help` lists it. A text with --ABORT--, with no
-automaton or with several is no automaton: 3 Syntax is told of it. Then 13, 40, 41 and 42 come in this
+Faults of the text come first; `omega check --help` lists them. A text with --ABORT--, with no automaton
+or with several is not one automaton, and is refused as 3 Syntax. Then 13, 40, 41 and 42 come in this
 order, then 50, and then 51.
 
 Exit status: 0 done, 1 the text or the task is refused, 2 the command line is wrong, 3 the budget is
@@ -55,7 +54,7 @@ const OPTIONS: &[OptionHelp] = &[
     OptionHelp {
         name: "search",
         value: Value::None,
-        help: "Decide by a search without lifting, near-linear in the automaton",
+        help: "Decide by a search without lifting, which is quicker on large automata",
     },
     BUDGET,
     PROGRESS,

@@ -4,10 +4,10 @@ use std::alloc::{AllocError, Global};
 
 const DETAILS: &str = "\
 Reads one automaton in the Hanoi format from standard input and writes its emptiness game: a game text
-in which player 0 wins from the node of a start exactly where an accepting lasso begins there: edges
-that lead from the start to a state, the stem, and then edges that lead from there back to it, the
-cycle, where the acceptance formula holds of the marks of the cycle. The automaton accepts nothing where
-no start's node is won.
+in which player 0 wins from the node of some start exactly if the automaton has an accepting lasso:
+edges that lead from a start to a state, the stem, and then edges that lead from there back to it, the
+cycle, where the acceptance formula holds of the marks of the cycle. So the automaton accepts nothing
+exactly if player 0 wins from no start's node.
 
   $ echo 'HOA: v1 States: 2 Start: 0 acc-name: co-Buchi Acceptance: 1 Fin(0)
     --BODY-- State: 0 [t] 0 {0} [t] 1 State: 1 [t] 1 --END--' | omega game
@@ -38,11 +38,11 @@ on lifts: where several priorities lose, solving can take as many lifts as the b
 There is a game for these names in `acc-name:`, with the formula that the Hanoi format gives to each:
 all, none, Buchi, co-Buchi, parity max even K, parity max odd K, parity min even K, parity min odd K,
 and generalized-Buchi K with K from 1 to 16. Every other name, no name, or another formula beside the
-name is told as 40 NotParity. 13 TooManyNodes is told where the numbers of nodes would go beyond 1048576,
-41 UniversalBranch of a start or an edge that lists several states joined by &, and
-42 TooManyPropositions of a label that mentions over 12 propositions: the least that applies, behind
-what is wrong with the text, which `omega check --help` lists. A text with --ABORT--, with no automaton
-or with several is no automaton: 3 Syntax is told of it.
+name is refused as 40 NotParity. 13 TooManyNodes is the refusal if the nodes would need more than 1048576
+numbers, 41 UniversalBranch that of a start or an edge that lists several states joined by &, and
+42 TooManyPropositions that of a label that mentions over 12 propositions. The least that applies comes,
+after the faults of the text, which `omega check --help` lists. A text with --ABORT--, with no automaton
+or with several is not one automaton, and is refused as 3 Syntax.
 
 Exit status: 0 done, 1 the text or the task is refused, 2 the command line is wrong, 4 out of memory, 5
 a read or a write failed.";

@@ -73,7 +73,7 @@ pub const EXPLAIN: OptionHelp = OptionHelp {
 pub const BUDGET: OptionHelp = OptionHelp {
     name: "budget",
     value: Value::Optional("N"),
-    help: "Give up after N lifts, 0 to 1099511627776, which is also the default",
+    help: "Stop after N lifts, 0 to 1099511627776, which is also the default",
 };
 
 /// The option that names the file of a solution.
@@ -90,9 +90,9 @@ pub const LASSO: OptionHelp = OptionHelp {
     help: "Draw an accepting lasso of the automaton too",
 };
 
-/// The flag that asks how far runs have come.
+/// The flag that asks for progress to be reported.
 pub const PROGRESS: OptionHelp = OptionHelp {
     name: "progress",
     value: Value::None,
-    help: "Tell on standard error, every 67108864 lifts, how many were made",
+    help: "Report on standard error, every 67108864 lifts, how many were made",
 };

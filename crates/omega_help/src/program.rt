@@ -28,13 +28,13 @@ A text of the Hanoi format, version 1, holds omega-automata, one behind the othe
   --BODY-- State: 0 [0] 0 {0} [!0] 0 --END--
 
 Here one state has two edges to itself: one where a holds, which is in set 0, and one where it does
-not; what takes the first again and again is accepted. `omega show`, `check` and `canon` read both
+not; a word that takes the first again and again is accepted. `omega show`, `check` and `canon` read both
 formats, and --format says which. `omega empty` and `omega game` read one automaton, and `omega draw`
 draws one automaton or a game.
 
-What is read comes from standard input, and the answer goes to standard output. Where a text or the
-task is refused, one line on standard error says why, as `omega: 3 Syntax at 0` for a text that
-is no game from its first byte on. Bytes are counted from 0.
+Commands read standard input and write standard output. If a text or the task is refused, one line on
+standard error says why, such as `omega: 3 Syntax at 0` for a text that is no game from its first
+byte on. Bytes are counted from 0.
 
 Exit status:
   0  done
@@ -45,7 +45,7 @@ Exit status:
   5  a read or a write failed
   6  the answer of `omega verify` is no
 
-`omega <COMMAND> --help` tells more of a command.";
+`omega <COMMAND> --help` says more about a command.";
 
 /// What `clap` finds in the words of a command line, of which the first is the program's name. Where help or the version
 /// is asked for, the error has the text.

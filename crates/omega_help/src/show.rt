@@ -4,12 +4,13 @@ use clap::Command;
 use std::alloc::{AllocError, Global};
 
 const DETAILS: &str = "\
-Reads a text from standard input and describes what it stands for.
+Reads a text from standard input and describes the game, or the automata.
 
---format pg reads a game, and writes one line with its size, and for each player one with the bound:
-no run of `omega solve` for that player on this game makes more lifts. So the bound tells beforehand
-which --budget is enough. It is the number of nodes times the product, over the priorities in use
-that lose for the player, of one more than the number of nodes of that priority.
+--format pg reads a game. It writes one line with the game's size, and for each player one line with the
+bound: no run of `omega solve` for that player on this game makes more lifts. So a --budget of the bound
+is enough, which is known before anything is solved. The bound is the number of nodes times the product,
+over the priorities in use that lose for the player, of one more than the number of nodes of that
+priority.
 
   $ echo '0 1 0 1; 1 2 1 0;' | omega show --format pg
   game nodes 2 edges 2 greatest 1
@@ -20,15 +21,15 @@ Here `greatest` is the greatest identifier. A bound of 2^128 or more is written 
 `bound over 128 bits`.
 
 --format hoa reads automata, one behind the other, and writes a line for each, numbered from 0: how
-many states, edges, propositions and sets it has, and its acceptance formula. What was begun and then
-given up by --ABORT-- has a line too. Where there is nothing to read, nothing is written.
+many states, edges, propositions and sets it has, and its acceptance formula. What is stopped by
+--ABORT-- has a line too. Where there is nothing to read, nothing is written.
 
   $ echo 'HOA: v1 --ABORT-- HOA: v1 Acceptance: 1 Inf(0)
     --BODY-- State: 0 [t] 0 {0} --END--' | omega show --format hoa
   0 aborted
   1 automaton states 1 edges 1 propositions 0 sets 1 acceptance Inf(0)
 
-A text that is refused writes nothing but one line on standard error. `omega check --help` lists the
+If a text is refused, nothing is written but one line on standard error. `omega check --help` lists the
 refusals of both formats.
 
 Exit status: 0 done, 1 the text is refused, 2 the command line is wrong, 4 out of memory, 5 a read or

@@ -6,8 +6,8 @@ use std::alloc::{AllocError, Global};
 const DETAILS: &str = "\
 Reads a game text from standard input and writes who wins each node, and how: a header with the
 greatest identifier, then a line for each node in rising order of identifiers, with the player who
-wins from it. Where that player owns the node, a successor follows; to move there each time wins
-from all the nodes that are given to the player, whatever the other player does.
+wins from it. Where that player owns the node, a successor follows. If the player always moves there,
+the player wins from all the nodes that the solution gives to that player, whatever the other does.
 
   $ echo '0 0 0 1,2; 1 1 1 0; 2 2 1 0;' | omega solve
   paritysol 2;
@@ -18,8 +18,8 @@ from all the nodes that are given to the player, whatever the other player does.
 Here player 0 wins from all three nodes, moving from node 0 to node 2. `omega verify` checks such a
 text without solving the game.
 
---player P solves the game for that player alone. First comes a line with the number of lifts that
-were made, then a line for each node that the player wins; at a node of the player's own a successor
+--player P solves the game for that player alone. The first line has the number of lifts that were
+made. Then comes a line for each node that the player wins; if the player owns the node, a successor
 follows. The other player wins from all other nodes.
 
   $ echo '0 1 0 1; 1 2 1 0;' | omega solve --player 0
@@ -29,29 +29,31 @@ follows. The other player wins from all other nodes.
 
 Here player 0 wins from both nodes, moving from node 0 to node 1.
 
-A lift is one step of the solver. It makes no more of them for a player than the bound that
+A lift is one step of the solver. For each player it makes at most as many lifts as the bound that
 `omega show --format pg` writes, which is known before anything is solved. A bound may be far above
-what is needed, and a game may need more time than there is: --budget N gives up after N lifts for
-a player, writes nothing but `omega: 51 Budget` on standard error, and exits with status 3.
+what is needed, and a game may need more time than there is: --budget N stops after N lifts for a
+player, writes nothing but `omega: 51 Budget` on standard error, and exits with status 3.
 
 --progress writes a line on standard error each time that 67108864 more lifts were made for a player
 and the game is not yet solved for that player, as `player 0: 67108864 lifts of at most 1099511627776`:
-how many were made, and the bound or, if it is less, the budget. What is written on standard output and
-the exit status are the same without it, also where standard error takes no line.
+how many were made, and the bound or, if it is less, the budget. Standard output and the exit
+status are the same without it, and also if standard error cannot be written.
 
---search finds winners and choices by Zielonka's recursive algorithm, of which nothing is proved. What it
-finds is written only after the proved check that `omega verify` makes: that for each player the choices
-win from all the nodes given to the player. No node is won by both players, so winners that pass are
-right, whatever the search did. Take it for large games; lifting, for a bound that is known before the
-run. The choices may be others than those of lifting. Where the search gives nothing, the game is solved
-by lifting, within the budget; --progress tells of that alone. It is for both players: --player is not
-given beside it.
+--search finds winners and choices by Zielonka's recursive algorithm, which is not proved to find the
+right ones. What it finds is written only after the proved check that `omega verify` makes: for each
+player the choices win from all the nodes given to that player. No node is won by both players, so
+winners that pass the check are right. Take --search for large games, and lifting for a bound that is
+known before the run. The choices may differ from those of lifting. Where the search finds nothing, the
+game is solved by lifting, within the budget; --progress reports on that lifting alone. --search solves
+for both players, so --player is not given beside it.
 
 --from ID solves the part of the game that is reached from the node with that identifier, and writes
-of those nodes alone. Nothing else of the game has a say in who wins them. Where no node has the
-identifier, 54 UnknownNode is told. `omega canon --format pg --from ID` writes the part as a game of its
-own, and `omega verify --from ID` checks a solution of it. 50 TooWide is told of games for which nodes
-times priorities that lose for a player are over 67108864.
+lines for those nodes alone. Who wins them depends on nothing else in the game. If no node has the
+identifier, the refusal is 54 UnknownNode. `omega canon --format pg --from ID` writes the part as a game
+of its own, and `omega verify --from ID` checks a solution of it.
+
+Lifting refuses a game as 50 TooWide if its nodes times the priorities that lose for a player are over
+67108864.
 
 Exit status: 0 done, 1 the text or the task is refused, 2 the command line is wrong, 3 the budget is
 used up, 4 out of memory, 5 a read or a write failed.";

@@ -2,7 +2,7 @@ use crate::options::OptionHelp;
 use clap::Command;
 use std::alloc::{AllocError, Global};
 
-/// The subcommand of this name, with what it does in one line, and what is told of it behind its options.
+/// The subcommand of this name, with one line on what it does, and details after its options.
 pub fn subcommand<'a>(
     alloc: Global,
     name: &'a str,

@@ -20,13 +20,14 @@ for each player the choices of the solution win from all the nodes that it gives
 In the second solution player 0 moves from node 0 to node 1, back to it, and so on, and the greatest
 priority on the way is 1, which is odd.
 
-With --explain three lines follow `no`: the first player whose choices do not win, and the nodes of a
-walk that they leave possible from a node given to that player. From the last node of the cycle the
-walk goes back to the first; the greatest priority on the cycle loses for the player.
+With --explain three lines follow `no`. The first names the first player whose choices do not win. The
+others have the nodes of a walk from a node given to that player, which these choices leave possible.
+From the last node of the cycle the walk goes back to the first; the greatest priority on the cycle
+loses for the player.
 
 --from ID judges a solution of the part of the game that is reached from the node with that identifier,
-as `omega solve --from ID` writes it; the file has the whole game. Where no node has the identifier,
-54 UnknownNode is told.
+as `omega solve --from ID` writes it; the file has the whole game. If no node has the identifier,
+the refusal is 54 UnknownNode.
 
   $ echo '0 0 0 1; 1 1 1 1; 2 2 0 0;' > game.pg
   $ omega solve --from 0 < game.pg | omega verify --game game.pg --from 0
@@ -35,8 +36,8 @@ as `omega solve --from ID` writes it; the file has the whole game. Where no node
 A solution text is what `omega solve` writes: a header with the greatest identifier of the game, or of
 the part, then a line for each node in rising order of identifiers, with the player who wins from it
 and, exactly where that player owns the node, one of its successors. Any other text of this kind is
-refused as 53 BadSolution. What is wrong with the game is told before what is wrong with the solution.
-A file that can't be read is told as 61 Io.
+refused as 53 BadSolution. If both texts are at fault, the fault of the game is reported. A file that
+can't be read is refused as 61 Io.
 
 Exit status: 0 yes, 1 a text or the task is refused, 2 the command line is wrong, 4 out of memory, 5 a
 read or a write failed, 6 no.";
