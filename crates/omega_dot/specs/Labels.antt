@@ -12,7 +12,7 @@ escaped_byte byte =
     else if nat_lt byte 32 then codes " "
     else byte ∷ []
 
--- a name, so that DOT draws its bytes
+-- a name, so that DOT draws it, with spaces for other control bytes
 abbrev pub escaped : List ℕ → List ℕ
 escaped name = flat_map escaped_byte name
 

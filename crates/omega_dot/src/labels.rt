@@ -5,7 +5,7 @@ ghost use Rattle.omega_dot.specs.Labels.{escaped, escaped_byte, name_line};
 
 use omega_text::Refusal;
 
-/// Appends a name so that DOT draws its bytes.
+/// Appends a name so that DOT draws it, with a space for each control byte but a line feed.
 pub fn write_escaped(name: &[u8], out: &mut Vec<u8>) -> Result<(), Refusal>
     ensures ok { OnOk result (out.new.items ≡ out.old.items ++ escaped name.now) }
     ensures memory { IsOkUnless result Refusal.Memory }

@@ -24,7 +24,7 @@ solves. If no node has the identifier, the refusal is 54 UnknownNode. It goes wi
   0 0 0 1;
   1 1 1 1;
 
---format hoa writes automata, one behind the other: the header of each in a fixed order, then its
+--format hoa writes automata, one after the other: the header of each in a fixed order, then its
 states and edges in the order given, with aliases replaced, only the parentheses that are needed, and
 sets in rising order. What is stopped by --ABORT-- is left out. Where there is no automaton, nothing
 is written.

@@ -5,7 +5,7 @@ use std::alloc::{AllocError, Global};
 
 const DETAILS: &str = "\
 Reads a text from standard input and writes `accepted` if it stands for a game, or for automata, one
-behind the other. If not, one line on standard error has the number and the name of what is wrong,
+after the other. If not, one line on standard error has the number and the name of what is wrong,
 and for faults of the text the place of the byte, counted from 0.
 
   $ echo '0 1 0 1; 1 2 1 0;' | omega check --format pg

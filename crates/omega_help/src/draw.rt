@@ -10,7 +10,7 @@ Graphviz, whose program `dot` makes a picture of it.
 --format pg draws a game: player 0's nodes as diamonds and player 1's as boxes, each with its
 identifier, its name and its priority, and an edge to each successor. With --solution, the file has a
 solution of the game, as `omega solve` writes it: each node is filled in its winner's colour, light blue
-for player 0 and orange for player 1, and each choice is a bold edge.
+for player 0 and orange for player 1, and each edge to a chosen successor is bold.
 
   $ echo '0 0 0 1,2; 1 1 1 0; 2 2 1 0 \"goal\";' > game.pg
   $ omega solve < game.pg > solution.txt

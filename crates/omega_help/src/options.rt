@@ -7,13 +7,13 @@ static FORMATS: [&str; 2] = ["pg", "hoa"];
 
 /// An option as help shows it.
 pub struct OptionHelp {
-    /// The name behind the two dashes, by which it is found too.
+    /// The name after the two dashes, by which it is found too.
     pub name: &'static str,
     pub value: Value,
     pub help: &'static str,
 }
 
-/// What stands behind the name of an option; where it is a text, with the name that help has for it.
+/// What follows the name of an option; where it is a text, with the name that help has for it.
 pub enum Value {
     /// Nothing: it is a flag, which is not set where it is not given.
     None,

@@ -22,7 +22,7 @@ that no identifier exceeds may come first. At each node its owner chooses a succ
 player 0 wins where the greatest priority that comes again and again is even, player 1 where it is
 odd.
 
-A text of the Hanoi format, version 1, holds omega-automata, one behind the other:
+A text of the Hanoi format, version 1, holds omega-automata, one after the other:
 
   HOA: v1 States: 1 Start: 0 AP: 1 \"a\" acc-name: Buchi Acceptance: 1 Inf(0)
   --BODY-- State: 0 [0] 0 {0} [!0] 0 --END--

@@ -20,7 +20,7 @@ priority.
 Here `greatest` is the greatest identifier. A bound of 2^128 or more is written as
 `bound over 128 bits`.
 
---format hoa reads automata, one behind the other, and writes a line for each, numbered from 0: how
+--format hoa reads automata, one after the other, and writes a line for each, numbered from 0: how
 many states, edges, propositions and sets it has, and its acceptance formula. What is stopped by
 --ABORT-- has a line too. Where there is nothing to read, nothing is written.
 

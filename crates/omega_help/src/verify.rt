@@ -36,8 +36,9 @@ the refusal is 54 UnknownNode.
 A solution text is what `omega solve` writes: a header with the greatest identifier of the game, or of
 the part, then a line for each node in rising order of identifiers, with the player who wins from it
 and, exactly where that player owns the node, one of its successors. Any other text of this kind is
-refused as 53 BadSolution. If both texts are at fault, the fault of the game is reported. A file that
-can't be read is refused as 61 Io.
+refused as 53 BadSolution. If both texts are at fault, the fault of the game is reported. The line of a
+refusal does not say which text it is about: `omega check --format pg < FILE` judges the game alone. A
+file that can't be read is refused as 61 Io.
 
 Exit status: 0 yes, 1 a text or the task is refused, 2 the command line is wrong, 4 out of memory, 5 a
 read or a write failed, 6 no.";
