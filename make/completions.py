@@ -1,0 +1,141 @@
+"""Completions of the command line for bash, zsh and fish, made from the help of the built program."""
+
+import re
+import subprocess
+from dataclasses import dataclass, field
+
+VALUES = {"FORMAT": ["pg", "hoa"], "P": ["0", "1"]}
+
+
+@dataclass
+class Option:
+    """An option: its name, what its value is called, if it takes one, and what help says of it."""
+    name: str
+    value: str
+    help: str
+
+
+@dataclass
+class Subcommand:
+    name: str
+    help: str
+    options: list[Option] = field(default_factory=list)
+
+
+def help_of(program: str, *words: str) -> str:
+    return subprocess.run([program, *words, "--help"], capture_output=True, text=True, check=True).stdout
+
+
+def section(text: str, title: str) -> list[str]:
+    """The lines below a title, up to the next empty line."""
+    lines = text.split("\n")
+    if title not in lines:
+        return []
+    first = lines.index(title) + 1
+    return lines[first : lines.index("", first)]
+
+
+def subcommands_of(program: str) -> list[Subcommand]:
+    found = []
+    for line in section(help_of(program), "Commands:"):
+        name, _, said = line.strip().partition(" ")
+        command = Subcommand(name, said.strip())
+        if name != "help":
+            for row in section(help_of(program, name), "Options:"):
+                shown = re.match(r"\s+(?:-\w, )?--([a-z]+)(?: <(\w+)>)?\s*(.*)", row)
+                if shown and shown[1] != "help":
+                    command.options.append(Option(shown[1], shown[2] or "", shown[3]))
+        found.append(command)
+    return found
+
+
+def names_of(commands: list[Subcommand]) -> str:
+    return " ".join(it.name for it in commands)
+
+
+def bash_completions(commands: list[Subcommand]) -> str:
+    rows = "\n".join(f"        {it.name}) options='{' '.join('--' + one.name for one in it.options)}' ;;"
+                     for it in commands if it.options)
+    values = "\n".join(f"        --{name}) COMPREPLY=($(compgen -W '{' '.join(given)}' -- \"$word\")); return ;;"
+                       for name, given in value_rows(commands))
+    files = "|".join(f"--{name}" for name in file_options(commands))
+    return f"""\
+# Completions of omega for bash.
+_omega() {{
+    local word=${{COMP_WORDS[COMP_CWORD]}} before=${{COMP_WORDS[COMP_CWORD-1]}} options=
+    case $before in
+{values}
+        {files}) COMPREPLY=($(compgen -f -- "$word")); return ;;
+    esac
+    if [ "$COMP_CWORD" -eq 1 ] || [ "${{COMP_WORDS[1]}}" = help ]; then
+        COMPREPLY=($(compgen -W '{names_of(commands)} --help --version' -- "$word"))
+        return
+    fi
+    case ${{COMP_WORDS[1]}} in
+{rows}
+    esac
+    COMPREPLY=($(compgen -W "$options --help" -- "$word"))
+}}
+complete -F _omega omega
+"""
+
+
+def value_rows(commands: list[Subcommand]) -> list[tuple[str, list[str]]]:
+    """The options with values that are known, each once."""
+    options = {one.name: one for it in commands for one in it.options}
+    return [(name, VALUES[one.value]) for name, one in options.items() if one.value in VALUES]
+
+
+def file_options(commands: list[Subcommand]) -> list[str]:
+    options = {one.name: one for it in commands for one in it.options}
+    return [name for name, one in options.items() if one.value == "FILE"]
+
+
+def plain(text: str) -> str:
+    """A description without the signs that zsh and fish read."""
+    return re.sub(r"[\[\]'\"`:;\\$]", "", text)
+
+
+def zsh_completions(commands: list[Subcommand]) -> str:
+    names = "\n".join(f"        '{it.name}:{plain(it.help)}'" for it in commands)
+    rows = []
+    for it in commands:
+        words = []
+        for one in it.options:
+            values = f":{one.value}:({' '.join(VALUES[one.value])})" if one.value in VALUES else ""
+            values = ":file:_files" if one.value == "FILE" else values or (f":{one.value}:" if one.value else "")
+            words.append(f"'--{one.name}[{plain(one.help)}]{values}'")
+        rows.append(f"        {it.name}) _arguments {' '.join(words)} '--help[Print help]' ;;")
+    table = "\n".join(rows)
+    return f"""\
+#compdef omega
+# Completions of omega for zsh.
+_omega() {{
+    local -a commands=(
+{names}
+    )
+    if (( CURRENT == 2 )); then
+        _describe command commands
+        return
+    fi
+    local command=${{words[2]}}
+    shift words
+    (( CURRENT-- ))
+    case $command in
+{table}
+    esac
+}}
+_omega "$@"
+"""
+
+
+def fish_completions(commands: list[Subcommand]) -> str:
+    lines = ["# Completions of omega for fish.", "complete -c omega -f"]
+    lines += [f"complete -c omega -n __fish_use_subcommand -a {it.name} -d '{plain(it.help)}'" for it in commands]
+    for it in commands:
+        for one in it.options:
+            takes = f" -x -a '{' '.join(VALUES[one.value])}'" if one.value in VALUES else ""
+            takes = " -r -F" if one.value == "FILE" else takes or (" -x" if one.value else "")
+            lines.append(f"complete -c omega -n '__fish_seen_subcommand_from {it.name}' -l {one.name}"
+                         f"{takes} -d '{plain(one.help)}'")
+    return "\n".join(lines) + "\n"
