@@ -12,7 +12,7 @@ use Rattle.omega_lift.specs.Measure.{Measure}
 use Rattle.omega_solve.specs.Headline.{DealsOut, Headline, IsExact}
 use Rattle.omega_solve.specs.Solver.{State, IsFinished, IsReached, start_of}
 use Rattle.omega_budget.specs.Laws.{Follows}
-use Rattle.omega_budget.specs.Reordering.{IsReordering, choices_by_place, measures_by_place, state_by_place}
+use Rattle.omega_budget.specs.Reordering.{IsReordering, choices_by_place, flags_by_place, measures_by_place, state_by_place}
 use Rattle.omega_budget.proofs.Games.{IsClosed, back_closed, back_reordering, edge_from, place_of_rank, rank_below, rank_of_place}
 use Rattle.omega_budget.proofs.Lifting.{allowance_here, allowance_there, follows, measure_here}
 
@@ -106,6 +106,17 @@ flag_at table r = elim (cases_lt r (length table)) [
 pub won_here : (ranks : List ℕ) (table : List Measure) → map (λ r. get_or (won_in table) r false) ranks ≡ won_in (measures_by_place ranks table)
 won_here [] table = refl
 won_here (r ∷ ranks) table = ap₂ (λ (flag : Bool) (flags : List Bool). flag ∷ flags) (flag_at table r) (won_here ranks table)
+
+-- flags and choices that were read along a ranking
+pub won_by_place_here : (ranks : List ℕ) (flags : List Bool) (read : List ℕ) (won : List Bool) (table : List Measure) → flags ≡ flags_by_place read won
+    → read ≡ ranks → won ≡ won_in table → flags ≡ won_in (measures_by_place ranks table)
+won_by_place_here ranks flags read won table is same_ranks same_won =
+    is ∙ ap (λ (rs : List ℕ). flags_by_place rs won) same_ranks ∙ ap (flags_by_place ranks) same_won ∙ won_here ranks table
+
+pub choices_by_place_here : (ranks places read_ranks read_places : List ℕ) (found choices : List (Option ℕ)) → found ≡ choices_by_place read_ranks read_places choices
+    → read_ranks ≡ ranks → read_places ≡ places → found ≡ choices_by_place ranks places choices
+choices_by_place_here ranks places read_ranks read_places found choices is same_ranks same_places =
+    is ∙ ap (λ (rs : List ℕ). choices_by_place rs read_places choices) same_ranks ∙ ap (λ (ps : List ℕ). choices_by_place ranks ps choices) same_places
 
 -- a solver that is done gives an exact answer
 pub exact_here : Headline → (nodes : List Node) (ranks places : List ℕ) (state : State) (choices : List (Option ℕ)) → IsGame nodes

@@ -1,12 +1,13 @@
 -- What a listener was told of runs, put together.
-use Rattle.std.proofs.Common.{◌≡◌, ◌≢◌, ℕ, ◌⊎◌, List, [], ◌∷◌, Option, None, Some, Result, Ok, Err, IfErr, arith, inl, inr, refl, subst}
+use Rattle.std.proofs.Common.{◌≡◌, ◌≢◌, ℕ, ◌⊎◌, List, [], ◌∷◌, Option, None, Some, Result, Ok, Err, IfErr, arith, inl, inr, refl, subst, sym}
 use Rattle.std.specs.Result.{IsErrAnd}
 use Rattle.omega_text.specs.declared.refusal.Refusal.{Refusal}
 use Rattle.omega_text.specs.declared.refusal.Refusal.TheVariants.{Task}
-use Rattle.omega_text.specs.declared.refusal.task.TaskFault.TheVariants.{Budget}
+use Rattle.omega_text.specs.declared.refusal.task.TaskFault.TheVariants.{Budget, TooWide}
 use Rattle.omega_game.specs.declared.player.Player.{Player}
 use Rattle.omega_game.specs.Game.{Node}
-use Rattle.omega_budget.specs.Watching.{AreMade, IsUntried, IsWatched, TellsRun, TellsRuns, refusal_in}
+use Rattle.omega_budget.specs.Watching.{AreMade, ComesBefore, IsUntried, IsWatched, TellsRun, TellsRuns, TellsSolving, refusal_in}
+use Rattle.omega_budget.specs.declared.found.Found.{Found}
 use Rattle.omega_budget.specs.declared.watching.Progress.{Progress}
 
 -- a refusal of which something holds that does not hold of the budget's
@@ -25,36 +26,35 @@ none_watched Runs tells every budget refusal before other = record {
 
 -- of one run
 pub one_watched : {L : Type 0} (Runs : Option Refusal → List Node → List Player → Type 0) (tells : Progress → L → L → Type 0) (every : ℕ) (game : List Node)
-    (player : Player) (budget : ℕ) (refusal : Option Refusal) (before after : L) → Runs refusal game (player ∷ [])
-    → TellsRun tells every game player budget refusal before after → IsWatched Runs refusal tells every budget before after
-one_watched Runs tells every game player budget refusal before after is told = record {
+    (player : Player) (budget lifts : ℕ) (refusal : Option Refusal) (before after : L) → Runs refusal game (player ∷ [])
+    → TellsRun tells every game player budget lifts refusal before after → IsWatched Runs refusal tells every budget before after
+one_watched Runs tells every game player budget lifts refusal before after is told = record {
   nodes = game;
   players = player ∷ [];
   runs = inr is;
-  told = told;
+  told = (lifts, told);
 }
 
 -- of two runs
 pub two_watched : {L : Type 0} (Runs : Option Refusal → List Node → List Player → Type 0) (tells : Progress → L → L → Type 0) (every : ℕ) (game : List Node)
-    (one other : Player) (budget : ℕ) (refusal : Option Refusal) (before between after : L) → Runs refusal game (one ∷ other ∷ [])
-    → TellsRun tells every game one budget None before between → TellsRun tells every game other budget refusal between after
+    (one other : Player) (budget lifts more : ℕ) (refusal : Option Refusal) (before between after : L) → Runs refusal game (one ∷ other ∷ [])
+    → TellsRun tells every game one budget lifts None before between → TellsRun tells every game other budget more refusal between after
     → IsWatched Runs refusal tells every budget before after
-two_watched Runs tells every game one other budget refusal before between after are first then = record {
+two_watched Runs tells every game one other budget lifts more refusal before between after are first then = record {
   nodes = game;
   players = one ∷ other ∷ [];
   runs = inr are;
-  told = (between, first, then);
+  told = (lifts, between, first, (more, then));
 }
 
 -- a run that ended with no lift due did so, whatever refuses it later but the budget
-pub run_refused : {L : Type 0} (tells : Progress → L → L → Type 0) (every : ℕ) (nodes : List Node) (player : Player) (budget : ℕ) (refusal : Refusal)
-    (before after : L) → refusal ≢ Task Budget → TellsRun tells every nodes player budget None before after
-    → TellsRun tells every nodes player budget (Some refusal) before after
-run_refused tells every nodes player budget refusal before after other run = record {
+pub run_refused : {L : Type 0} (tells : Progress → L → L → Type 0) (every : ℕ) (nodes : List Node) (player : Player) (budget lifts : ℕ) (refusal : Refusal)
+    (before after : L) → refusal ≢ Task Budget → TellsRun tells every nodes player budget lifts None before after
+    → TellsRun tells every nodes player budget lifts (Some refusal) before after
+run_refused tells every nodes player budget lifts refusal before after other run = record {
   outcome = run.outcome;
-  state = run.state;
-  lifted = run.lifted;
-  ended = (λ spent. (let e = run.ended.0 spent in cc), λ e. absurd (other cc));
+  spent = (λ spent. (let e = run.spent.0 spent in cc), λ e. absurd (other cc));
+  ended = run.ended;
   told = run.told;
 }
 
@@ -62,10 +62,40 @@ runs_refused : {L : Type 0} (tells : Progress → L → L → Type 0) (every : �
     (before after : L) → refusal ≢ Task Budget → TellsRuns tells every nodes players budget None before after
     → TellsRuns tells every nodes players budget (Some refusal) before after
 runs_refused tells every nodes [] budget refusal before after other same = same
-runs_refused tells every nodes (player ∷ []) budget refusal before after other run =
-    run_refused tells every nodes player budget refusal before after other run
-runs_refused tells every nodes (player ∷ next ∷ players) budget refusal before after other (between, run, runs) =
-    (between, run, runs_refused tells every nodes (next ∷ players) budget refusal between after other runs)
+runs_refused tells every nodes (player ∷ []) budget refusal before after other (lifts, run) =
+    (lifts, run_refused tells every nodes player budget lifts refusal before after other run)
+runs_refused tells every nodes (player ∷ next ∷ players) budget refusal before after other (lifts, between, run, runs) =
+    (lifts, between, run, runs_refused tells every nodes (next ∷ players) budget refusal between after other runs)
+
+-- what refuses a game before a run is not the budget
+pub before_not_spent : (refusal : Refusal) → ComesBefore refusal → refusal ≢ Task Budget
+before_not_spent refusal comes e = (let other : Budget ≡ TooWide = subst ComesBefore e comes in cc)
+
+-- what a listener was told of solving for one player, whatever came of it
+pub one_solved : {L : Type 0} (Runs : Option Refusal → List Node → List Player → Type 0) (tells : Progress → L → L → Type 0) (every : ℕ) (game : List Node)
+    (player : Player) (budget : ℕ) (result : Result Found Refusal) (before after : L) → Runs (refusal_in result) game (player ∷ [])
+    → TellsSolving tells every game player budget result before after → IsWatched Runs (refusal_in result) tells every budget before after
+one_solved Runs tells every game player budget (Ok found) before after is told =
+    one_watched Runs tells every game player budget found.lifts None before after is told
+one_solved {L} Runs tells every game player budget (Err refusal) before after is (inl (comes, same)) =
+    subst (λ (l : L). IsWatched Runs (Some refusal) tells every budget before l) (sym same)
+    (none_watched Runs tells every budget refusal before (before_not_spent refusal comes))
+one_solved Runs tells every game player budget (Err refusal) before after is (inr (comes, lifts, run)) =
+    one_watched Runs tells every game player budget lifts (Some refusal) before after is run
+
+-- what a listener was told of solving for one player and then for the other, whatever came of the second
+pub two_solved : {L : Type 0} (Runs : Option Refusal → List Node → List Player → Type 0) (tells : Progress → L → L → Type 0) (every : ℕ) (game : List Node)
+    (one other : Player) (budget lifts : ℕ) (result : Result Found Refusal) (before between after : L) → Runs (refusal_in result) game (one ∷ other ∷ [])
+    → Runs (refusal_in result) game (one ∷ []) → TellsRun tells every game one budget lifts None before between
+    → TellsSolving tells every game other budget result between after → IsWatched Runs (refusal_in result) tells every budget before after
+two_solved Runs tells every game one other budget lifts (Ok found) before between after both first run told =
+    two_watched Runs tells every game one other budget lifts found.lifts None before between after both run told
+two_solved {L} Runs tells every game one other budget lifts (Err refusal) before between after both first run (inl (comes, same)) =
+    subst (λ (l : L). IsWatched Runs (Some refusal) tells every budget before l) (sym same)
+    (one_watched Runs tells every game one budget lifts (Some refusal) before between first
+    (run_refused tells every game one budget lifts refusal before between (before_not_spent refusal comes) run))
+two_solved Runs tells every game one other budget lifts (Err refusal) before between after both first run (inr (comes, more, then)) =
+    two_watched Runs tells every game one other budget lifts more (Some refusal) before between after both run then
 
 some_runs : (Runs Others : List Node → List Player → Type 0) (refusal : Option Refusal) (nodes : List Node) (players : List Player)
     → ((game : List Node) (those : List Player) → Runs game those → Others game those)

@@ -1,7 +1,8 @@
 -- The run ends in one of its slices, with no lift due, or behind the whole ones with the rest of the budget.
-use Rattle.std.proofs.Common.{◌-◌, arith}
+use Rattle.std.proofs.Common.{◌-◌, ℕ, arith, subst}
 use Rattle.omega_solve.specs.declared.outcome.Outcome.TheVariants.{Done}
-use Rattle.omega_budget.proofs.Within.{run_lifted}
+use Rattle.omega_budget.specs.Watching.{IsTold}
+use Rattle.omega_budget.proofs.Within.{reports_so, run_lifted}
 use Rattle.omega_budget.proofs.running.run_watched.Goals as goal
 
 pub returns-in-Done-clause-lifted : goal.returns-in-Done-clause-lifted
@@ -19,3 +20,29 @@ returns-clause-lifted g c =
     run_lifted c.args.game.now c.args.player c.loop-made.made (c.args.budget - c.loop-made.made) c.args.budget c.args.solver.now c.loop-made.solver
     c.run-2.new.self c.run-2.result c.requires.fresh kept.same_nodes kept.same_player kept.counted ran.ran ran.reached ran.bounded ran.told
     (omega (arith, kept.within)) (λ spent. omega (arith, kept.within))
+
+pub returns-in-Done-clause-told : goal.returns-in-Done-clause-told
+returns-in-Done-clause-told g c =
+    let kept = c.loop-made.invariant in
+    let ran = c.in-Done.ensures in
+    subst (λ (every : ℕ). IsTold (g.W.Watch.tells c.args.watch.now) c.args.player every c.args.most Done c.run.new.self.lifts c.args.listener.now c.loop-made.listener)
+    c.every-every.ensures.pace
+    (record {
+      times = kept.told.0;
+      reports = reports_so c.loop-made.solver c.run.new.self Done kept.told.0 c.every-every.result c.every-every.result (omega (arith, kept.counted, kept.told.1))
+          kept.told.2 ran.ran ran.told (omega arith) (λ spent. cc);
+      told = kept.told.3;
+    })
+
+pub returns-clause-told : goal.returns-clause-told
+returns-clause-told g c =
+    let kept = c.loop-made.invariant in
+    let ran = c.run-2.ensures in
+    subst (λ (every : ℕ). IsTold (g.W.Watch.tells c.args.watch.now) c.args.player every c.args.most c.run-2.result c.run-2.new.self.lifts c.args.listener.now c.loop-made.listener)
+    c.every-every.ensures.pace
+    (record {
+      times = kept.told.0;
+      reports = reports_so c.loop-made.solver c.run-2.new.self c.run-2.result kept.told.0 c.every-every.result (c.args.budget - c.loop-made.made)
+          (omega (arith, kept.counted, kept.told.1)) kept.told.2 ran.ran ran.told (omega (arith, c.loop-made-test.false)) (λ spent. omega (arith, c.loop-made-test.false));
+      told = kept.told.3;
+    })

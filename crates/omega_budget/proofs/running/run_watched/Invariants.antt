@@ -1,5 +1,6 @@
--- The whole slices so far, each of which was told of.
-use Rattle.std.proofs.Common.{◌≡◌, ◌≤◌, ◌-◌, ◌*◌, ℕ}
+-- The whole slices so far, each of which left a lift due and was told of.
+use Rattle.std.proofs.Common.{◌≡◌, ◌<◌, ◌≤◌, ◌-◌, ◌*◌, ℕ}
+use Rattle.omega_solve.specs.Solver.{HasLiftDue}
 use Rattle.omega_budget.specs.Watching.{TellsEach}
 use Rattle.omega_budget.proofs.running.run_watched.Given as goal
 
@@ -10,7 +11,7 @@ invariant-loop-made g l = record {
   counted : l.solver.lifts ≡ l.made;
   within : l.made ≤ l.budget;
   told :
-      (times : ℕ) × (l.made ≡ times * l.every)
+      (times : ℕ) × (l.made ≡ times * l.every) × (0 < times → HasLiftDue l.solver)
       × TellsEach (g.W.Watch.tells l.watch) l.player l.every l.most times l.initial.listener l.listener;
 }
 

@@ -1,10 +1,10 @@
 -- What is found at ranks, said by place, is an exact answer.
-use Rattle.std.proofs.Common.{◌≡◌, ◌∙◌, IfSome, List, None, ap, get_or, length, subst, sym, ℕ, ◌<◌}
+use Rattle.std.proofs.Common.{◌≡◌, ◌∙◌, IfSome, List, None, get_or, length, subst, sym, ℕ, ◌<◌}
 use Rattle.omega_game.specs.Game.{Node}
 use Rattle.omega_game.specs.Winning.{IsStrategy}
 use Rattle.omega_lift.specs.Answer.{won_in}
-use Rattle.omega_budget.specs.Reordering.{IsReordering, choices_by_place, flags_by_place, measures_by_place}
-use Rattle.omega_budget.proofs.Exactness.{choices_below, exact_here, won_here}
+use Rattle.omega_budget.specs.Reordering.{IsReordering, choices_by_place, measures_by_place}
+use Rattle.omega_budget.proofs.Exactness.{choices_below, choices_by_place_here, choices_here, exact_here, won_by_place_here}
 use Rattle.omega_budget.proofs.reordered.Reordered.found_by.Goals as goal
 
 pub choices_of-requires-clause-ranks : goal.choices_of-requires-clause-ranks
@@ -28,9 +28,26 @@ returns-clause-exact g c =
     let exact = exact_here c.headline.ensures self.given self.ranks self.places solver answer.choice.now c.keeps_nodes.ensures.game reordering
     c.lifts-lifts.ensures.reached finished c.requires.done chosen in
     let flags : c.in_ok-won_by_place.field-0.items ≡ won_in (measures_by_place self.ranks solver.table.measures) =
-    c.in_ok-won_by_place.ensures.won ∙ ap (λ (ranks : List ℕ). flags_by_place ranks answer.won.now) c.ranking-ranking.ensures.ranks
-    ∙ ap (flags_by_place self.ranks) won ∙ won_here self.ranks solver.table.measures in
+    won_by_place_here self.ranks _ c.ranking-ranking.result.now.ranks answer.won.now solver.table.measures c.in_ok-won_by_place.ensures.won c.ranking-ranking.ensures.ranks won in
     let places : c.in_ok-choices_of.field-0.items ≡ choices_by_place self.ranks self.places answer.choice.now =
-    c.in_ok-choices_of.ensures.choices ∙ ap (λ (ranks : List ℕ). choices_by_place ranks c.ranking-ranking.result.now.places answer.choice.now) c.ranking-ranking.ensures.ranks
-    ∙ ap (λ (ps : List ℕ). choices_by_place self.ranks ps answer.choice.now) c.ranking-ranking.ensures.places in
+    choices_by_place_here self.ranks self.places c.ranking-ranking.result.now.ranks c.ranking-ranking.result.now.places _ answer.choice.now
+    c.in_ok-choices_of.ensures.choices c.ranking-ranking.ensures.ranks c.ranking-ranking.ensures.places in
     rw (flags, places) exact
+
+pub returns-clause-below_top : goal.returns-clause-below_top
+returns-clause-below_top g c =
+    won_by_place_here c.args.self.now.ranks _ c.ranking-ranking.result.now.ranks c.unwrap-answer.result.won.now c.args.solver.now.table.measures
+    c.in_ok-won_by_place.ensures.won c.ranking-ranking.ensures.ranks (rw c.unwrap-answer.ensures at c.answer.ensures.won)
+
+pub returns-clause-chosen : goal.returns-clause-chosen
+returns-clause-chosen g c =
+    let self = c.args.self.now in
+    let solver = c.args.solver.now in
+    let answer = c.unwrap-answer.result in
+    let chosen = rw c.unwrap-answer.ensures at c.answer.ensures.chosen in
+    let reordering = subst (λ (nodes : List Node). IsReordering self.given nodes self.ranks self.places) (sym c.requires.nodes) c.keeps_nodes.ensures.reordered in
+    let places : c.in_ok-choices_of.field-0.items ≡ choices_by_place self.ranks self.places answer.choice.now =
+    choices_by_place_here self.ranks self.places c.ranking-ranking.result.now.ranks c.ranking-ranking.result.now.places _ answer.choice.now
+    c.in_ok-choices_of.ensures.choices c.ranking-ranking.ensures.ranks c.ranking-ranking.ensures.places in
+    rw places (choices_here self.given solver.nodes self.ranks self.places reordering (λ v w lt edge. c.keeps_nodes.ensures.game.closed v w edge) solver.player
+    solver.table.measures answer.choice.now chosen)

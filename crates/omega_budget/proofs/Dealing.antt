@@ -1,0 +1,124 @@
+-- What budgets are dealt out to in the other game, they are dealt out to in the game itself.
+use Rattle.std.proofs.Common.{◌≡◌, ◌∙◌, ◌<◌, ◌++◌, ℕ, Bool, true, false, List, [], ◌∷◌, length, map, get_or, replicate, ap, ap₂, arith, refl, subst, sym}
+use Rattle.std.proofs.lemmas.List.{ext_get_or, get_or-map, get_or-replicate, length-map, length-replicate, length_push}
+use Rattle.omega_game.specs.declared.player.Player.{Player}
+use Rattle.omega_game.specs.Bound.{bound_of}
+use Rattle.omega_game.specs.Game.{Node, IsGame, priorities}
+use Rattle.omega_lift.specs.Laws.{RunsAreBounded}
+use Rattle.omega_lift.specs.Measure.{Measure, zero_measure}
+use Rattle.omega_lift.specs.Run.{IsDue, IsRun, zero_table}
+use Rattle.omega_solve.specs.Headline.{DealsOut, Headline, Runs}
+use Rattle.omega_solve.specs.Schedule.{all_pending}
+use Rattle.omega_solve.specs.Solver.{State, start_of}
+use Rattle.omega_budget.specs.Laws.{HeadlineByPlace}
+use Rattle.omega_budget.specs.Reordering.{IsReordering, flags_by_place, measures_by_place, state_by_place}
+use Rattle.omega_budget.specs.Within.{GoesOnAfter}
+use Rattle.omega_budget.proofs.Games.{IsClosed, edge_from, rank_below}
+use Rattle.omega_budget.proofs.Lifting.{due_here, run_here, run_long, stable_here, zeros_here}
+
+module _ (nodes other : List Node) (ranks places : List ℕ) (reordering : IsReordering nodes other ranks places) (closed : IsClosed nodes) where
+  -- all places are pending where all ranks are
+  all_pending_here : flags_by_place ranks (replicate (length other) true) ≡ replicate (length nodes) true
+  all_pending_here = ext_get_or false _ _ even entry
+    where
+      even : length (flags_by_place ranks (replicate (length other) true)) ≡ length (replicate (length nodes) true)
+      even =
+          length-map ranks (λ r. get_or (replicate (length other) true) r false) ∙ reordering.ranked
+          ∙ sym (length-replicate (length nodes) true)
+
+      entry : (k : ℕ) → k < length (flags_by_place ranks (replicate (length other) true))
+          → get_or (flags_by_place ranks (replicate (length other) true)) k false ≡ get_or (replicate (length nodes) true) k false
+      entry k below =
+          let inside : k < length ranks = omega (arith, below, length-map ranks (λ r. get_or (replicate (length other) true) r false)) in
+          let small : k < length nodes = omega (arith, inside, reordering.ranked) in
+          get_or-map (λ r. get_or (replicate (length other) true) r false) ranks k 0 false inside
+          ∙ get_or-replicate (length other) (get_or ranks k 0) true false (rank_below nodes other ranks places reordering k small)
+          ∙ sym (get_or-replicate (length nodes) k true false small)
+
+  -- a new solver of the other game, said by place, is a new solver of the game
+  start_here : (player : Player) → state_by_place nodes ranks (start_of other player) ≡ start_of nodes player
+  start_here player =
+      ap₂ (λ (measures : List Measure) (flags : List Bool). record {
+        nodes = nodes;
+        player = player;
+        table = record { player = player; priorities = priorities nodes; measures = measures };
+        pending = record { flags = flags; taken = 0 };
+        lifts = 0;
+        done = false;
+      }) (zeros_here nodes other ranks places reordering closed player) all_pending_here
+
+  -- a call of `run` on the other game is one on the game itself
+  call_here : (old new : State) (budget : ℕ) → old.nodes ≡ other → length old.table.measures ≡ length other → Runs old budget new
+      → Runs (state_by_place nodes ranks old) budget (state_by_place nodes ranks new)
+  call_here old new budget here long ran = record {
+    same_nodes = refl;
+    same_player = ran.same_player;
+    lifted = record {
+      places = map (λ r. get_or places r 0) ran.lifted.places;
+      lifted = run_here nodes other ranks places reordering closed old.player old.table.measures new.table.measures ran.lifted.places long run_there;
+      counted = omega (arith, ran.lifted.counted, length-map ran.lifted.places (λ r. get_or places r 0));
+      within = omega (arith, ran.lifted.within, length-map ran.lifted.places (λ r. get_or places r 0));
+    };
+    done = λ done. stable_here nodes other ranks places reordering closed new.player new.table.measures new_long
+        (subst (λ (n : List Node). (v : ℕ) → v < length n → ¬ IsDue n new.player new.table.measures v) there (ran.done done));
+    spent = λ still. (
+      (ran.spent still).0,
+      (
+        get_or places (ran.spent still).1.0 0,
+        due_here nodes other ranks places reordering closed new.player new.table.measures (ran.spent still).1.0
+            (subst (λ (n : List Node). IsDue n new.player new.table.measures (ran.spent still).1.0) there (ran.spent still).1.1),
+      ),
+    );
+  }
+    where
+      run_there : IsRun other old.player old.table.measures ran.lifted.places new.table.measures
+      run_there = subst (λ (n : List Node). IsRun n old.player old.table.measures ran.lifted.places new.table.measures) here ran.lifted.lifted
+
+      there : new.nodes ≡ other
+      there = ran.same_nodes ∙ here
+
+      new_long : length new.table.measures ≡ length other
+      new_long = run_long other old.player old.table.measures new.table.measures ran.lifted.places run_there ∙ long
+
+  -- and so are many
+  deals_here : (old new : State) (budgets : List ℕ) → old.nodes ≡ other → length old.table.measures ≡ length other → DealsOut old budgets new
+      → DealsOut (state_by_place nodes ranks old) budgets (state_by_place nodes ranks new)
+  deals_here old new [] here long same = ap (state_by_place nodes ranks) same
+  deals_here old new (budget ∷ budgets) here long (next, ran, dealt) = (
+    state_by_place nodes ranks next,
+    call_here old next budget here long ran,
+    deals_here next new budgets (ran.same_nodes ∙ here)
+        (run_long old.nodes old.player old.table.measures next.table.measures ran.lifted.places ran.lifted.lifted ∙ long) dealt,
+  )
+
+-- the headline of a solver of the game itself, of one of the other game
+pub by_place : Headline → HeadlineByPlace
+by_place headline nodes other ranks places player budgets solver game reordering dealt =
+    headline nodes player budgets (state_by_place nodes ranks solver) game
+    (subst (λ (s : State). DealsOut s budgets (state_by_place nodes ranks solver)) (start_here nodes other ranks places reordering closed player)
+    (deals_here nodes other ranks places reordering closed (start_of other player) solver budgets refl start_long dealt))
+  where
+    closed : IsClosed nodes
+    closed v w lt edge = game.closed v w edge
+
+    start_long : length (zero_table player (priorities other)) ≡ length other
+    start_long =
+        length-replicate (length (priorities other)) (zero_measure player (priorities other))
+        ∙ length-map other (λ (node : Node). node.priority)
+
+-- a lifting run with an entry more
+pub run_more : (nodes : List Node) (player : Player) (old new : List Measure) (vs : List ℕ) (v : ℕ) (due : IsDue nodes player new v)
+    → IsRun nodes player old vs new → (table : List Measure) × IsRun nodes player old (vs ++ v ∷ []) table
+run_more nodes player old new [] v due same =
+    let here : IsDue nodes player old v = subst (λ (t : List Measure). IsDue nodes player t v) (sym same) due in
+    (_, (here.0, edge_from nodes v here.1.value.successor here.1.value.listed, here.1, refl))
+run_more nodes player old new (u ∷ us) v due (x, inside, lifts, run) =
+    let more = run_more nodes player _ new us v due run in
+    (more.0, (x, inside, lifts, more.1))
+
+-- so a budget that leaves a lift due is below the bound
+pub below_bound : RunsAreBounded → (nodes : List Node) (player : Player) (budget : ℕ) → GoesOnAfter nodes player budget
+    → budget < bound_of player (priorities nodes)
+below_bound bounded nodes player budget goes_on =
+    let longer = run_more nodes player _ goes_on.table goes_on.lifted.places goes_on.place goes_on.due goes_on.lifted.run in
+    omega (arith, bounded nodes player (goes_on.lifted.places ++ goes_on.place ∷ []) longer.0 longer.1, length_push goes_on.lifted.places goes_on.place, goes_on.lifted.counted)

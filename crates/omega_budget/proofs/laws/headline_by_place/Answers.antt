@@ -1,0 +1,6 @@
+-- What is dealt out in the other game is dealt out in the game itself, of which the headline holds.
+use Rattle.omega_budget.proofs.Dealing.{by_place}
+use Rattle.omega_budget.proofs.laws.headline_by_place.Goals as goal
+
+pub returns : goal.returns
+returns c = by_place c.headline.ensures
