@@ -1,7 +1,9 @@
-ghost use Rattle.std.specs.Prelude.{IfOk, IsOkUnless};
+ghost use Rattle.std.specs.Prelude.{◌≢◌, IfOk, IsOkUnless, map, string_bytes};
 ghost use Rattle.clap.specs.Words.{found_of, kind_of, rows_of, subcommand_rows_of};
+ghost use Rattle.clap.specs.declared.error.kind.ErrorKind.TheVariants.{OutOfMemory};
 ghost use Rattle.omega_text.specs.declared.refusal.Refusal.TheVariants.{Memory};
 ghost use Rattle.omega_command.specs.Found.{IsFaultOf, IsLineFor, IsLineFound, IsPrinted};
+ghost use Rattle.omega_command.specs.Words.{IsLineAsked};
 ghost use Rattle.omega_line.specs.Line.{IsRunnable};
 
 use crate::found::options_in;
@@ -14,6 +16,7 @@ use std::alloc::Global;
 
 /// What the words of a command line ask for, of which the first is the program's name. 60 alone.
 pub fn read_words<'a>(alloc: Global, words: &'a [String]) -> Result<Line, Refusal>
+    ensures asked { IfOk result (IsLineAsked (map string_bytes words.now)) }
     ensures runnable { IfOk result IsRunnable }
     ensures memory { IsOkUnless result Memory }
 {
@@ -58,6 +61,7 @@ fn mistaken(alloc: Global, mistake: &Mistake<'_>) -> Result<Line, Refusal>
 /// The text that was asked for, or that says what is wrong.
 fn printed(alloc: Global, error: &Error) -> Result<Line, Refusal>
     ensures printed { IfOk result (IsPrinted (kind_of error.now)) }
+    ensures with_memory { IfOk result (λ _. kind_of error.now ≢ OutOfMemory) }
     ensures memory { IsOkUnless result Memory }
 {
     if error.kind() == ErrorKind::OutOfMemory {

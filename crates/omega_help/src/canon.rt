@@ -1,3 +1,7 @@
+ghost use Rattle.std.specs.Prelude.{◌≡◌, IfOk};
+ghost use Rattle.omega_help.specs.Program.{canon};
+ghost use Rattle.clap.specs.Words.{shape_of};
+
 use crate::options::{FORMAT, OptionHelp, Value};
 use crate::subcommand::subcommand;
 use clap::Command;
@@ -56,7 +60,9 @@ const OPTIONS: &[OptionHelp] = &[
 ];
 
 /// The subcommand that writes canonical texts.
-pub fn canon_command<'a>(alloc: Global) -> Result<Command<'a>, AllocError> {
+pub fn canon_command<'a>(alloc: Global) -> Result<Command<'a>, AllocError>
+    ensures { IfOk result (λ command. shape_of command ≡ canon) }
+{
     let about = "Write a game, or automata, in canonical form";
     subcommand(alloc, "canon", about, DETAILS, OPTIONS)
 }

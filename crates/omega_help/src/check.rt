@@ -1,3 +1,7 @@
+ghost use Rattle.std.specs.Prelude.{◌≡◌, IfOk};
+ghost use Rattle.omega_help.specs.Program.{check};
+ghost use Rattle.clap.specs.Words.{shape_of};
+
 use crate::options::{FORMAT, OptionHelp};
 use crate::subcommand::subcommand;
 use clap::Command;
@@ -44,7 +48,9 @@ or a write failed.";
 const OPTIONS: &[OptionHelp] = &[FORMAT];
 
 /// The subcommand that judges a text.
-pub fn check_command<'a>(alloc: Global) -> Result<Command<'a>, AllocError> {
+pub fn check_command<'a>(alloc: Global) -> Result<Command<'a>, AllocError>
+    ensures { IfOk result (λ command. shape_of command ≡ check) }
+{
     let about = "Say whether a text is accepted, or what is wrong with it";
     subcommand(alloc, "check", about, DETAILS, OPTIONS)
 }

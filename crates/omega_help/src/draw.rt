@@ -1,3 +1,7 @@
+ghost use Rattle.std.specs.Prelude.{◌≡◌, IfOk};
+ghost use Rattle.omega_help.specs.Program.{draw};
+ghost use Rattle.clap.specs.Words.{shape_of};
+
 use crate::options::{FORMAT, LASSO, OptionHelp, SOLUTION};
 use crate::subcommand::subcommand;
 use clap::Command;
@@ -42,7 +46,9 @@ read or a write failed.";
 const OPTIONS: &[OptionHelp] = &[FORMAT, SOLUTION, LASSO];
 
 /// The subcommand that draws a game or an automaton.
-pub fn draw_command<'a>(alloc: Global) -> Result<Command<'a>, AllocError> {
+pub fn draw_command<'a>(alloc: Global) -> Result<Command<'a>, AllocError>
+    ensures { IfOk result (λ command. shape_of command ≡ draw) }
+{
     let about = "Draw a game or an automaton as a graph in DOT";
     subcommand(alloc, "draw", about, DETAILS, OPTIONS)
 }

@@ -1,3 +1,7 @@
+ghost use Rattle.std.specs.Prelude.{◌≡◌, IfOk};
+ghost use Rattle.omega_help.specs.Program.{empty};
+ghost use Rattle.clap.specs.Words.{shape_of};
+
 use crate::options::{BUDGET, OptionHelp, PROGRESS, Value};
 use crate::subcommand::subcommand;
 use clap::Command;
@@ -61,7 +65,9 @@ const OPTIONS: &[OptionHelp] = &[
 ];
 
 /// The subcommand that says whether an automaton accepts anything.
-pub fn empty_command<'a>(alloc: Global) -> Result<Command<'a>, AllocError> {
+pub fn empty_command<'a>(alloc: Global) -> Result<Command<'a>, AllocError>
+    ensures { IfOk result (λ command. shape_of command ≡ empty) }
+{
     let about = "Say whether an automaton accepts nothing, or show an accepting lasso";
     subcommand(alloc, "empty", about, DETAILS, OPTIONS)
 }

@@ -1,3 +1,7 @@
+ghost use Rattle.std.specs.Prelude.{◌≡◌, IfOk};
+ghost use Rattle.omega_help.specs.Program.{game};
+ghost use Rattle.clap.specs.Words.{shape_of};
+
 use crate::subcommand::subcommand;
 use clap::Command;
 use std::alloc::{AllocError, Global};
@@ -48,7 +52,9 @@ Exit status: 0 done, 1 the text or the task is refused, 2 the command line is wr
 a read or a write failed.";
 
 /// The subcommand that writes the emptiness game of an automaton.
-pub fn game_command<'a>(alloc: Global) -> Result<Command<'a>, AllocError> {
+pub fn game_command<'a>(alloc: Global) -> Result<Command<'a>, AllocError>
+    ensures { IfOk result (λ command. shape_of command ≡ game) }
+{
     let about = "Write the emptiness game of an automaton";
     subcommand(alloc, "game", about, DETAILS, &[])
 }

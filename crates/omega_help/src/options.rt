@@ -1,9 +1,10 @@
-//! The options of the subcommands. What the texts of numbers stand for is judged behind `clap`.
+//! The options of the subcommands. What their texts stand for is judged behind `clap`.
+ghost use Rattle.std.specs.Prelude.{◌≡◌, false};
+ghost use Rattle.clap.specs.Words.{rule_of};
+ghost use Rattle.omega_help.specs.building.Building.{rule_for};
+
 use clap::{Arg, ArgAction};
 use std::alloc::Global;
-
-/// The formats that are offered.
-static FORMATS: [&str; 2] = ["pg", "hoa"];
 
 /// An option as help shows it.
 pub struct OptionHelp {
@@ -21,22 +22,19 @@ pub enum Value {
     Optional(&'static str),
     /// A text. The option has to be given.
     Required(&'static str),
-    /// The name of a format. The option has to be given.
-    Format,
 }
 
 impl OptionHelp {
     /// The option as `clap` takes it.
-    pub fn arg<'a>(&self, alloc: Global) -> Arg<'a> {
+    pub fn arg<'a>(&self, alloc: Global) -> Arg<'a>
+        ensures rule { rule_of result ≡ rule_for self.now }
+        ensures local { result.global ≡ false }
+    {
         let arg = Arg::new(alloc, self.name).long(self.name).help(self.help);
         match self.value {
             Value::None => arg.action(ArgAction::SetTrue),
             Value::Optional(name) => arg.value_name(name),
             Value::Required(name) => arg.value_name(name).required(true),
-            Value::Format => arg
-                .value_name("FORMAT")
-                .required(true)
-                .value_parser(FORMATS.as_slice()),
         }
     }
 }
@@ -44,7 +42,7 @@ impl OptionHelp {
 /// The option that says what kind of text is read.
 pub const FORMAT: OptionHelp = OptionHelp {
     name: "format",
-    value: Value::Format,
+    value: Value::Required("FORMAT"),
     help: "The kind of text: pg, a game in the text of PGSolver; hoa, omega-automata in the Hanoi format",
 };
 

@@ -1,3 +1,8 @@
+ghost use Rattle.std.specs.Prelude.{◌≡◌, IfOk, map, string_bytes};
+ghost use Rattle.clap.specs.Words.{FailsBy, app_of, fault_of, subcommand_of, shape_of, subcommand_rows_of, with_subcommand};
+ghost use Rattle.omega_help.specs.Program.{program};
+ghost use Rattle.omega_help.specs.building.Building.{shape_for, without_subcommands};
+
 use crate::canon::canon_command;
 use crate::check::check_command;
 use crate::draw::draw_command;
@@ -49,8 +54,12 @@ Exit status:
 
 /// What `clap` finds in the words of a command line, of which the first is the program's name. Where help or the version
 /// is asked for, the error has the text.
-pub fn matches_of<'a>(alloc: Global, words: &'a [String]) -> Result<ArgMatches<'a>, Error> {
-    whole_program(alloc)?.try_get_matches_from(words)
+pub fn matches_of<'a>(alloc: Global, words: &'a [String]) -> Result<ArgMatches<'a>, Error>
+    ensures found { IfOk result (λ found. subcommand_rows_of found ≡ subcommand_of program (map string_bytes words.now)) }
+    ensures kinds { FailsBy (fault_of program (map string_bytes words.now)) result }
+{
+    let whole = whole_program(alloc)?;
+    whole.try_get_matches_from(words)
 }
 
 /// A subcommand of the program.
@@ -79,7 +88,9 @@ const SUBCOMMANDS: [Subcommand; 8] = [
 ];
 
 impl Subcommand {
-    fn command<'a>(self, alloc: Global) -> Result<Command<'a>, AllocError> {
+    fn command<'a>(self, alloc: Global) -> Result<Command<'a>, AllocError>
+        ensures { IfOk result (λ command. shape_of command ≡ shape_for self) }
+    {
         match self {
             Subcommand::Show => show_command(alloc),
             Subcommand::Check => check_command(alloc),
@@ -94,10 +105,13 @@ impl Subcommand {
 }
 
 /// The program's command line.
-fn whole_program<'a>(alloc: Global) -> Result<Command<'a>, AllocError> {
+fn whole_program<'a>(alloc: Global) -> Result<Command<'a>, AllocError>
+    ensures { IfOk result (λ command. app_of command ≡ program) }
+{
     let mut program = without_subcommands(alloc)?;
-    for subcommand in SUBCOMMANDS {
-        program = with(alloc, program, subcommand)?;
+    let subcommands = SUBCOMMANDS.as_slice();
+    for subcommand in subcommands {
+        program = with(alloc, program, *subcommand)?;
     }
     Ok(program)
 }
@@ -107,12 +121,18 @@ fn with<'a>(
     alloc: Global,
     program: Command<'a>,
     subcommand: Subcommand,
-) -> Result<Command<'a>, AllocError> {
-    program.subcommand(subcommand.command(alloc)?)
+) -> Result<Command<'a>, AllocError>
+    ensures { IfOk result (λ command. app_of command ≡ with_subcommand (app_of program.entry) (shape_for subcommand)) }
+{
+    let added = subcommand.command(alloc)?;
+    let whole = program.subcommand(added)?;
+    Ok(whole)
 }
 
 /// What is said of the program as a whole.
-fn without_subcommands<'a>(alloc: Global) -> Result<Command<'a>, AllocError> {
+fn without_subcommands<'a>(alloc: Global) -> Result<Command<'a>, AllocError>
+    ensures { IfOk result (λ command. app_of command ≡ without_subcommands) }
+{
     Command::new(alloc, "omega")
         .about(
             "Reads, checks, writes and draws parity games and omega-automata, solves games, verifies their solutions, and says whether an automaton accepts nothing.",

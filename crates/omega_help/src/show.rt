@@ -1,3 +1,7 @@
+ghost use Rattle.std.specs.Prelude.{◌≡◌, IfOk};
+ghost use Rattle.omega_help.specs.Program.{show};
+ghost use Rattle.clap.specs.Words.{shape_of};
+
 use crate::options::{FORMAT, OptionHelp};
 use crate::subcommand::subcommand;
 use clap::Command;
@@ -38,7 +42,9 @@ a write failed.";
 const OPTIONS: &[OptionHelp] = &[FORMAT];
 
 /// The subcommand that describes a text.
-pub fn show_command<'a>(alloc: Global) -> Result<Command<'a>, AllocError> {
+pub fn show_command<'a>(alloc: Global) -> Result<Command<'a>, AllocError>
+    ensures { IfOk result (λ command. shape_of command ≡ show) }
+{
     let about = "Describe a game, its size and the bounds on lifts, or automata and their sizes";
     subcommand(alloc, "show", about, DETAILS, OPTIONS)
 }

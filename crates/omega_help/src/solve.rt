@@ -1,3 +1,7 @@
+ghost use Rattle.std.specs.Prelude.{◌≡◌, IfOk};
+ghost use Rattle.omega_help.specs.Program.{solve};
+ghost use Rattle.clap.specs.Words.{shape_of};
+
 use crate::options::{BUDGET, OptionHelp, PLAYER, PROGRESS, Value};
 use crate::subcommand::subcommand;
 use clap::Command;
@@ -75,7 +79,9 @@ const OPTIONS: &[OptionHelp] = &[
 ];
 
 /// The subcommand that solves a game.
-pub fn solve_command<'a>(alloc: Global) -> Result<Command<'a>, AllocError> {
+pub fn solve_command<'a>(alloc: Global) -> Result<Command<'a>, AllocError>
+    ensures { IfOk result (λ command. shape_of command ≡ solve) }
+{
     let about = "Find who wins each node of a game, and how";
     subcommand(alloc, "solve", about, DETAILS, OPTIONS)
 }

@@ -1,3 +1,8 @@
+ghost use Rattle.std.specs.Prelude.{◌≡◌, IfOk, map};
+ghost use Rattle.clap.specs.Words.{shape_of};
+ghost use Rattle.omega_help.specs.Program.{with_options};
+ghost use Rattle.omega_help.specs.building.Building.{rule_for};
+
 use crate::options::OptionHelp;
 use clap::Command;
 use std::alloc::{AllocError, Global};
@@ -9,7 +14,9 @@ pub fn subcommand<'a>(
     about: &'a str,
     details: &'a str,
     options: &[OptionHelp],
-) -> Result<Command<'a>, AllocError> {
+) -> Result<Command<'a>, AllocError>
+    ensures { IfOk result (λ command. shape_of command ≡ with_options name.now (map rule_for options.now)) }
+{
     let mut command = Command::new(alloc, name).about(about).after_help(details);
     for option in options {
         command = command.arg(option.arg(alloc))?;

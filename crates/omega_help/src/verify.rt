@@ -1,3 +1,7 @@
+ghost use Rattle.std.specs.Prelude.{◌≡◌, IfOk};
+ghost use Rattle.omega_help.specs.Program.{verify};
+ghost use Rattle.clap.specs.Words.{shape_of};
+
 use crate::options::{EXPLAIN, GAME, OptionHelp, Value};
 use crate::subcommand::subcommand;
 use clap::Command;
@@ -54,7 +58,9 @@ const OPTIONS: &[OptionHelp] = &[
 ];
 
 /// The subcommand that checks a solution of a game.
-pub fn verify_command<'a>(alloc: Global) -> Result<Command<'a>, AllocError> {
+pub fn verify_command<'a>(alloc: Global) -> Result<Command<'a>, AllocError>
+    ensures { IfOk result (λ command. shape_of command ≡ verify) }
+{
     let about = "Say whether a solution of a game is right";
     subcommand(alloc, "verify", about, DETAILS, OPTIONS)
 }

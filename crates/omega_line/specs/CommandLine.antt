@@ -3,7 +3,7 @@ use Rattle.std.specs.Prelude.{◌≡◌, ◌≢◌, ◌≤◌, ◌⊎◌, Bool, 
 use Rattle.std.specs.Str.Parse.{IsNumeral, digits_value}
 use Rattle.omega_game.specs.declared.player.Player.{Player}
 use Rattle.omega_game.specs.Player.{player_number}
-use Rattle.omega_solve.specs.Limits.{most_lifts}
+use Rattle.omega_line.specs.Limits.{most_budget}
 use Rattle.omega_text.specs.Limits.{most_number}
 use Rattle.omega_line.specs.declared.command.Command.{Command}
 use Rattle.omega_line.specs.declared.command.Command.TheVariants as command
@@ -50,8 +50,8 @@ Gives reads (Some text) (Some value) = reads text value
 
 -- the budget: by default the greatest
 abbrev pub GivesBudget : Option (List ℕ) → ℕ → Type 0
-GivesBudget None budget = budget ≡ most_lifts
-GivesBudget (Some text) budget = IsNumberText most_lifts text budget
+GivesBudget None budget = budget ≡ most_budget
+GivesBudget (Some text) budget = IsNumberText most_budget text budget
 
 -- a flag: by default it is not set
 abbrev pub GivesFlag : Option (List ℕ) → Bool → Type 0
@@ -88,15 +88,15 @@ AsksToLift subcommand options other budget = ⊥
 -- the subcommand of this name, with these options, asks for the line
 abbrev pub Asks : List ℕ → Options → Line → Type 0
 Asks subcommand options (line.Run (command.Show format) budget) =
-    (subcommand ≡ codes "show") × Gives IsFormatText (text_of name.Format options) (Some format) × (budget ≡ most_lifts)
+    (subcommand ≡ codes "show") × Gives IsFormatText (text_of name.Format options) (Some format) × (budget ≡ most_budget)
 Asks subcommand options (line.Run (command.Check format) budget) =
-    (subcommand ≡ codes "check") × Gives IsFormatText (text_of name.Format options) (Some format) × (budget ≡ most_lifts)
+    (subcommand ≡ codes "check") × Gives IsFormatText (text_of name.Format options) (Some format) × (budget ≡ most_budget)
 Asks subcommand options (line.Run (command.Canon format) budget) =
     (subcommand ≡ codes "canon") × Gives IsFormatText (text_of name.Format options) (Some format)
-    × (text_of name.From options ≡ None) × (budget ≡ most_lifts)
+    × (text_of name.From options ≡ None) × (budget ≡ most_budget)
 Asks subcommand options (line.Run (command.CanonPart from) budget) =
     (subcommand ≡ codes "canon") × Gives IsFormatText (text_of name.Format options) (Some Pg)
-    × Gives (IsNumberText most_number) (text_of name.From options) (Some from) × (budget ≡ most_lifts)
+    × Gives (IsNumberText most_number) (text_of name.From options) (Some from) × (budget ≡ most_budget)
 Asks subcommand options (line.Run (command.Solve player from) budget) =
     AsksToLift subcommand options (command.Solve player from) budget × GivesFlag (text_of name.Progress options) false
 Asks subcommand options (line.Run (command.Search from) budget) =
@@ -106,15 +106,15 @@ Asks subcommand options (line.Run command.Empty budget) =
     AsksToLift subcommand options command.Empty budget × GivesFlag (text_of name.Progress options) false
 Asks subcommand options (line.Run command.EmptySearch budget) =
     (subcommand ≡ codes "empty") × GivesFlag (text_of name.Search options) true × (text_of name.Budget options ≡ None)
-    × GivesFlag (text_of name.Progress options) false × (budget ≡ most_lifts)
-Asks subcommand options (line.Run command.Game budget) = (subcommand ≡ codes "game") × (budget ≡ most_lifts)
+    × GivesFlag (text_of name.Progress options) false × (budget ≡ most_budget)
+Asks subcommand options (line.Run command.Game budget) = (subcommand ≡ codes "game") × (budget ≡ most_budget)
 Asks subcommand options (line.Run (command.Draw format) budget) =
     (subcommand ≡ codes "draw") × Gives IsFormatText (text_of name.Format options) (Some format)
-    × (text_of name.Solution options ≡ None) × GivesFlag (text_of name.Lasso options) false × (budget ≡ most_lifts)
+    × (text_of name.Solution options ≡ None) × GivesFlag (text_of name.Lasso options) false × (budget ≡ most_budget)
 Asks subcommand options (line.Run (command.DrawSolution solution) budget) = ⊥
 Asks subcommand options (line.Run command.DrawLasso budget) =
     (subcommand ≡ codes "draw") × Gives IsFormatText (text_of name.Format options) (Some Hoa)
-    × (text_of name.Solution options ≡ None) × GivesFlag (text_of name.Lasso options) true × (budget ≡ most_lifts)
+    × (text_of name.Solution options ≡ None) × GivesFlag (text_of name.Lasso options) true × (budget ≡ most_budget)
 Asks subcommand options (line.Watched command budget) =
     AsksToLift subcommand options command budget × GivesFlag (text_of name.Progress options) true
 Asks subcommand options (line.Verify file from explain) =
@@ -160,7 +160,7 @@ abbrev pub StandsForNothing : OptionName → List ℕ → Type 0
 StandsForNothing name.Format text = (format : Format) → IsFormatText text format → ⊥
 StandsForNothing name.Player text = (player : Player) → IsPlayerText text player → ⊥
 StandsForNothing name.From text = (number : ℕ) → IsNumberText most_number text number → ⊥
-StandsForNothing name.Budget text = (number : ℕ) → IsNumberText most_lifts text number → ⊥
+StandsForNothing name.Budget text = (number : ℕ) → IsNumberText most_budget text number → ⊥
 StandsForNothing name.Search text = (flag : Bool) → IsTruthText text flag → ⊥
 StandsForNothing name.Game text = ⊥
 StandsForNothing name.Explain text = (flag : Bool) → IsTruthText text flag → ⊥

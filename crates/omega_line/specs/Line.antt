@@ -1,13 +1,13 @@
 -- What of a command line can be done.
 use Rattle.std.specs.Prelude.{◌≤◌}
-use Rattle.omega_solve.specs.Limits.{most_lifts}
+use Rattle.omega_line.specs.Limits.{most_budget}
 use Rattle.omega_line.specs.declared.line.Line.{Line}
 use Rattle.omega_line.specs.declared.line.Line.TheVariants as line
 
--- what the line asks for can be done: it has a budget that a solver takes
+-- what the line asks for can be done: its budget is at most the greatest
 abbrev pub IsRunnable : Line → Type 0
-IsRunnable (line.Run command budget) = budget ≤ most_lifts
-IsRunnable (line.Watched command budget) = budget ≤ most_lifts
+IsRunnable (line.Run command budget) = budget ≤ most_budget
+IsRunnable (line.Watched command budget) = budget ≤ most_budget
 IsRunnable (line.Verify file from explain) = Unit {0}
 IsRunnable (line.DrawSolution file) = Unit {0}
 IsRunnable (line.Help text) = Unit {0}

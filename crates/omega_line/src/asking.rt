@@ -2,6 +2,7 @@ ghost use Rattle.std.specs.Prelude.{IfOk, IfErr, codes};
 ghost use Rattle.omega_line.specs.CommandLine.{Asks, IsMistake};
 
 use crate::command::{Command, Format};
+use crate::limits::MOST_BUDGET;
 use crate::line::Line;
 use crate::mistake::Mistake;
 use crate::options::{OptionName, Options};
@@ -9,7 +10,6 @@ use crate::values::{
     budget_in, format_in, identifier_in, is_explained, is_search, is_watched, is_with_lasso,
     player_in,
 };
-use omega_solve::MOST_LIFTS;
 use std::alloc::Global;
 
 /// What a subcommand asks for with the texts of its options, or what is wrong with them. Options that it does not take
@@ -23,10 +23,10 @@ pub fn line_for<'a>(
     ensures mistaken { IfErr result (IsMistake subcommand.now options.now) }
 {
     if subcommand == "show" {
-        return Ok(Line::Run(Command::Show(format_in(options)?), MOST_LIFTS));
+        return Ok(Line::Run(Command::Show(format_in(options)?), MOST_BUDGET));
     }
     if subcommand == "check" {
-        return Ok(Line::Run(Command::Check(format_in(options)?), MOST_LIFTS));
+        return Ok(Line::Run(Command::Check(format_in(options)?), MOST_BUDGET));
     }
     if subcommand == "canon" {
         return canonical_for(options);
@@ -41,7 +41,7 @@ pub fn line_for<'a>(
         return emptiness_for(options);
     }
     if subcommand == "game" {
-        return Ok(Line::Run(Command::Game, MOST_LIFTS));
+        return Ok(Line::Run(Command::Game, MOST_BUDGET));
     }
     if subcommand == "draw" {
         return drawing_for(alloc, options);
@@ -56,10 +56,10 @@ fn canonical_for<'a>(options: &Options<'a>) -> Result<Line, Mistake<'a>>
 {
     let format = format_in(options)?;
     let Some(from) = identifier_in(options)? else {
-        return Ok(Line::Run(Command::Canon(format), MOST_LIFTS));
+        return Ok(Line::Run(Command::Canon(format), MOST_BUDGET));
     };
     match format {
-        Format::Pg => Ok(Line::Run(Command::CanonPart { from }, MOST_LIFTS)),
+        Format::Pg => Ok(Line::Run(Command::CanonPart { from }, MOST_BUDGET)),
         Format::Hoa => Err(Mistake::OnlyWith(OptionName::From, Format::Pg)),
     }
 }
@@ -132,7 +132,7 @@ fn emptiness_for<'a>(options: &Options<'a>) -> Result<Line, Mistake<'a>>
     if watched {
         return Err(Mistake::Conflict(OptionName::Search, OptionName::Progress));
     }
-    Ok(Line::Run(Command::EmptySearch, MOST_LIFTS))
+    Ok(Line::Run(Command::EmptySearch, MOST_BUDGET))
 }
 
 /// What `draw` asks for with the texts of its options, or what is wrong with them.
@@ -148,7 +148,7 @@ fn drawing_for<'a>(alloc: Global, options: &Options<'a>) -> Result<Line, Mistake
                 return Err(Mistake::OnlyWith(OptionName::Lasso, Format::Hoa));
             }
             let Some(name) = options.solution else {
-                return Ok(Line::Run(Command::Draw(format), MOST_LIFTS));
+                return Ok(Line::Run(Command::Draw(format), MOST_BUDGET));
             };
             match String::from_str(alloc, name) {
                 Ok(file) => Ok(Line::DrawSolution { file }),
@@ -160,9 +160,9 @@ fn drawing_for<'a>(alloc: Global, options: &Options<'a>) -> Result<Line, Mistake
                 return Err(Mistake::OnlyWith(OptionName::Solution, Format::Pg));
             }
             if with_lasso {
-                return Ok(Line::Run(Command::DrawLasso, MOST_LIFTS));
+                return Ok(Line::Run(Command::DrawLasso, MOST_BUDGET));
             }
-            Ok(Line::Run(Command::Draw(format), MOST_LIFTS))
+            Ok(Line::Run(Command::Draw(format), MOST_BUDGET))
         }
     }
 }

@@ -3,6 +3,7 @@
 
 mod asking;
 mod command;
+mod limits;
 mod line;
 mod mistake;
 mod number;
@@ -11,6 +12,7 @@ mod values;
 
 pub use asking::line_for;
 pub use command::{Command, Format};
+pub use limits::{MOST_BUDGET, budget_limit_is_stated};
 pub use line::Line;
 pub use mistake::{Mistake, Reason};
 pub use omega_game::{Player, Refusal, Seq};

@@ -52,7 +52,7 @@ impl fmt::Display for Reason {
             Reason::Sign => "a number is written in digits, without a sign",
             Reason::NotDigits => "invalid digit found in string",
             Reason::TooLarge => "the number is too large",
-            Reason::NoFormat => "no format has this name",
+            Reason::NoFormat => "the formats are pg and hoa",
             Reason::NoTruth => "neither true nor false",
         })
     }

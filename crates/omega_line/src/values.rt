@@ -5,11 +5,11 @@ ghost use Rattle.omega_line.specs.CommandLine.{Gives, GivesBudget, GivesFlag, Is
 ghost use Rattle.omega_line.specs.declared.options.OptionName.TheVariants as name;
 
 use crate::command::Format;
+use crate::limits::MOST_BUDGET;
 use crate::mistake::{Mistake, Reason};
 use crate::number::number_in;
 use crate::options::{OptionName, Options};
 use omega_game::Player;
-use omega_solve::MOST_LIFTS;
 use omega_text::MOST_NUMBER;
 
 /// The kind of text, which has to be given.
@@ -126,15 +126,15 @@ fn truth_in(text: &str) -> Option<bool>
     }
 }
 
-/// The most lifts of each run: as many as a solver makes, where no budget is given.
+/// The most lifts of each run: the greatest budget, where none is given.
 pub fn budget_in<'a>(options: &Options<'a>) -> Result<u64, Mistake<'a>>
     ensures given { IfOk result (GivesBudget (text_of name.Budget options.now)) }
     ensures faulty { IfErr result (IsFaulty name.Budget options.now) }
 {
     let Some(text) = options.budget else {
-        return Ok(MOST_LIFTS);
+        return Ok(MOST_BUDGET);
     };
-    match number_in(text, MOST_LIFTS) {
+    match number_in(text, MOST_BUDGET) {
         Ok(budget) => Ok(budget),
         Err(reason) => Err(Mistake::Value(OptionName::Budget, text, reason)),
     }

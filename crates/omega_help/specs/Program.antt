@@ -1,0 +1,62 @@
+-- The command line as `clap` has it: the subcommands, and the options of each.
+use Rattle.std.specs.Prelude.{List, [], ◌∷◌, Some, true, false, codes}
+use Rattle.clap.specs.Simple.{new_shape}
+use Rattle.clap.specs.Words.{App, Rule, Shape, Text, new_rule}
+use Rattle.clap.specs.declared.builder.action.ArgAction.TheVariants.{SetTrue}
+
+-- an option without a text
+abbrev pub flag : Text → Rule
+flag name = record (new_rule name) { long = Some name; action = Some SetTrue }
+
+-- an option with a text, which may be left out
+abbrev pub optional : Text → Rule
+optional name = record (new_rule name) { long = Some name; value_names = 1 }
+
+-- an option with a text, which has to be given
+abbrev pub required : Text → Rule
+required name = record (new_rule name) { long = Some name; value_names = 1; required = true }
+
+-- a subcommand with these options
+abbrev pub with_options : Text → List Rule → Shape
+with_options name options = record (new_shape name) { rules = options }
+
+-- ---- the subcommands
+
+abbrev pub show : Shape
+show = with_options (codes "show") (required (codes "format") ∷ [])
+
+abbrev pub check : Shape
+check = with_options (codes "check") (required (codes "format") ∷ [])
+
+abbrev pub canon : Shape
+canon = with_options (codes "canon") (required (codes "format") ∷ optional (codes "from") ∷ [])
+
+abbrev pub solve : Shape
+solve =
+    with_options (codes "solve")
+    (optional (codes "player") ∷ optional (codes "from") ∷ flag (codes "search") ∷ optional (codes "budget") ∷ flag (codes "progress") ∷ [])
+
+abbrev pub verify : Shape
+verify =
+    with_options (codes "verify")
+    (required (codes "game") ∷ optional (codes "from") ∷ flag (codes "explain") ∷ [])
+
+abbrev pub empty : Shape
+empty = with_options (codes "empty") (flag (codes "search") ∷ optional (codes "budget") ∷ flag (codes "progress") ∷ [])
+
+abbrev pub game : Shape
+game = with_options (codes "game") []
+
+abbrev pub draw : Shape
+draw =
+    with_options (codes "draw")
+    (required (codes "format") ∷ optional (codes "solution") ∷ flag (codes "lasso") ∷ [])
+
+-- ---- the program
+
+-- the subcommands stand in the order in which help lists them, and one has to be named
+abbrev pub program : App
+program = record {
+  top = record (new_shape (codes "omega")) { is_leaf = false; has_version = true; subcommand_required = true };
+  subs = show ∷ check ∷ canon ∷ solve ∷ verify ∷ empty ∷ game ∷ draw ∷ [];
+}

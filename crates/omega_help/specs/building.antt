@@ -1,0 +1,2 @@
+-- How the command line is put together.
+pub mod Building

@@ -1,0 +1,48 @@
+-- How the command line is put together from the options and the subcommands as help shows them.
+use Rattle.std.specs.Prelude.{List, [], ◌∷◌, true, codes}
+use Rattle.clap.specs.Simple.{new_shape}
+use Rattle.clap.specs.Words.{App, Rule, Shape, Text, with_rule, with_subcommand}
+use Rattle.omega_help.specs.Program.{canon, check, draw, empty, flag, game, optional, required, show, solve, verify}
+use Rattle.omega_help.specs.declared.options.OptionHelp.{OptionHelp}
+use Rattle.omega_help.specs.declared.options.Value.{Value}
+use Rattle.omega_help.specs.declared.options.Value.TheVariants as value
+use Rattle.omega_help.specs.declared.program.Subcommand.{Subcommand}
+use Rattle.omega_help.specs.declared.program.Subcommand.TheVariants as subcommand
+
+-- the option of this name, by what stands behind the name
+abbrev pub rule_by : Value → Text → Rule
+rule_by value.None name = flag name
+rule_by (value.Optional shown) name = optional name
+rule_by (value.Required shown) name = required name
+
+-- the option that help shows so
+abbrev pub rule_for : OptionHelp → Rule
+rule_for option = rule_by option.value option.name.now
+
+-- the subcommand of this variant
+abbrev pub shape_for : Subcommand → Shape
+shape_for subcommand.Show = show
+shape_for subcommand.Check = check
+shape_for subcommand.Canon = canon
+shape_for subcommand.Solve = solve
+shape_for subcommand.Verify = verify
+shape_for subcommand.Empty = empty
+shape_for subcommand.Game = game
+shape_for subcommand.Draw = draw
+
+-- the command with these options more
+abbrev pub with_rules : App → List Rule → App
+with_rules app [] = app
+with_rules app (rule ∷ rules) = with_rules (with_rule app rule) rules
+
+-- the command with these subcommands more
+abbrev pub with_subcommands : App → List Shape → App
+with_subcommands app [] = app
+with_subcommands app (shape ∷ shapes) = with_subcommands (with_subcommand app shape) shapes
+
+-- what is said of the program as a whole
+abbrev pub without_subcommands : App
+without_subcommands = record {
+  top = record (new_shape (codes "omega")) { has_version = true; subcommand_required = true };
+  subs = [];
+}
