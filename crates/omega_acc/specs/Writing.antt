@@ -1,7 +1,5 @@
 -- How expressions are written (docs/formats.md, labels and acceptance formulas): no spaces, and parentheses only where an operator needs them.
 use Rattle.std.specs.Prelude.{ℕ, Bool, nat_le, nat_lt, if◌then◌else◌, List, [], ◌∷◌, ◌++◌, codes, decimal}
-use Rattle.std.specs.Coded.{Coded, code_by, coded_list, coded×, coded_ℕ}
-use Rattle.std.proofs.Common.{refl}
 use Rattle.omega_acc.specs.formula.Acceptance.{AccTree}
 use Rattle.omega_acc.specs.formula.Acceptance as acc
 use Rattle.omega_acc.specs.label.Label.{LabelTree, conjunction, constant, disjunction, negation, proposition}
@@ -10,10 +8,6 @@ use Rattle.omega_acc.specs.label.Label.{LabelTree, conjunction, constant, disjun
 pub record Text : Type 0 where
   pub rank : ℕ
   pub bytes : List ℕ
-
--- a text is stored as its rank and its bytes
-abbrev pub text_code : Coded Text
-text_code = code_by (ℕ × List ℕ) (coded× coded_ℕ (coded_list coded_ℕ)) (λ t. (t.rank, t.bytes)) (λ p. record { rank = p.0; bytes = p.1 }) (λ _. refl)
 
 -- bytes that stand in parentheses or not
 abbrev pub bracketed : Bool → List ℕ → List ℕ

@@ -11,6 +11,7 @@ use omega_text::{HoaKind, Refusal, TextFault, TokenSource};
 pub(crate) fn is_passed<'a, S: TokenSource<'a, HoaKind>>(source: &mut S, kind: HoaKind) -> bool
     ensures passed { MatchBool result (PassesOne kind (S.left source.old) (S.left source.new)) (S.left source.new ≡ S.left source.old) }
     ensures other { MatchBool result (Unit {0}) (NextIsNot kind (S.left source.old)) }
+    ensures length { S.length source.new ≡ S.length source.old }
 {
     match source.look() {
         Some(token) => {
@@ -31,6 +32,7 @@ pub(crate) fn pass<'a, S: TokenSource<'a, HoaKind>>(
 ) -> Result<(), Refusal>
     ensures ok { OnOk result (PassesOne kind (S.left source.old) (S.left source.new)) }
     ensures err { IfErr result (IsUnread (NextIsNot kind (S.left source.old))) }
+    ensures length { S.length source.new ≡ S.length source.old }
 {
     if is_passed(source, kind) {
         return Ok(());
@@ -41,7 +43,8 @@ pub(crate) fn pass<'a, S: TokenSource<'a, HoaKind>>(
 
 /// Passes the next token if it is a number, and says which.
 pub(crate) fn passed_number<'a, S: TokenSource<'a, HoaKind>>(source: &mut S) -> Option<u32>
-    ensures { MatchOption result (S.left source.new ≡ S.left source.old) (λ value. PassesNumber value (S.left source.old) (S.left source.new)) }
+    ensures passed { MatchOption result (S.left source.new ≡ S.left source.old) (λ value. PassesNumber value (S.left source.old) (S.left source.new)) }
+    ensures length { S.length source.new ≡ S.length source.old }
 {
     match source.look() {
         Some(token) => {
@@ -59,6 +62,7 @@ pub(crate) fn passed_number<'a, S: TokenSource<'a, HoaKind>>(source: &mut S) -> 
 pub(crate) fn number<'a, S: TokenSource<'a, HoaKind>>(source: &mut S) -> Result<u32, Refusal>
     ensures ok { IfOk result (λ value. PassesNumber value (S.left source.old) (S.left source.new)) }
     ensures err { IfErr result (IsUnread (NextIsNot kinds.Int (S.left source.old))) }
+    ensures length { S.length source.new ≡ S.length source.old }
 {
     let at = source.place();
     if let Some(token) = source.take()

@@ -1,10 +1,10 @@
 -- What is kept of definitions: the nodes of what they mean.
 use Rattle.std.proofs.Common.{◌≡◌, ℕ, ◌<◌, zero, suc, List, [], ◌∷◌, ◌++◌, Option, Some, None, option_map, IsSome, length, map, take, get_or, ap, subst, sym, ◌∙◌, append-nil, append_assoc, refl, arith}
 use Rattle.std.proofs.lemmas.Bool.{false≢true}
-use Rattle.omega_acc.specs.label.Expanding.{Entry, IsBodyAt, Meaning, entries_of, replaced}
+use Rattle.omega_acc.specs.label.Expanding.{Entry, Meaning, entries_of, replaced}
 use Rattle.omega_acc.specs.label.Raw.{RawLabelTree}
 use Rattle.omega_acc.specs.layout.label.Aliases.{defined_of}
-use Rattle.omega_acc.specs.layout.label.Emitting.{AllKept, IsKept, nodes_of}
+use Rattle.omega_acc.specs.layout.label.Emitting.{AllKept, IsBodyAt, IsKept, nodes_of}
 use Rattle.omega_acc.specs.layout.label.Extents.{extent_of}
 use Rattle.omega_acc.specs.declared.label.aliases.Definition.{Definition}
 use Rattle.omega_acc.specs.declared.label.extents.Extent.{Extent}

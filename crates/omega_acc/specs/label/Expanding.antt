@@ -1,6 +1,5 @@
 -- What a label means once each alias is replaced by its definition (HOA v1, aliases; docs/formats.md, labels and acceptance formulas).
-use Rattle.std.specs.Prelude.{◌≡◌, ℕ, suc, ◌+◌, ◌<◌, ◌≤◌, length, slice_get, nat_lt, if◌then◌else◌, List, [], ◌∷◌, ◌++◌, Option, Some, None, option_map, max}
-use Rattle.std.specs.Coded.{Coded, code_by, coded_list, coded×, coded_ℕ}
+use Rattle.std.specs.Prelude.{◌≡◌, ℕ, suc, ◌+◌, ◌<◌, ◌≤◌, length, nat_lt, if◌then◌else◌, List, [], ◌∷◌, ◌++◌, Option, Some, None, option_map, max}
 use Rattle.std.specs.Str.{bytes_eq}
 use Rattle.omega_text.specs.Cases.{never, or_automaton, or_memory}
 use Rattle.omega_text.specs.declared.refusal.Refusal.{Refusal}
@@ -10,19 +9,11 @@ use Rattle.omega_acc.specs.label.Label.{LabelTree, label_size}
 use Rattle.omega_acc.specs.label.Label as label
 use Rattle.omega_acc.specs.Limits.{most_depth, most_size}
 use Rattle.omega_acc.specs.label.Raw.{RawLabelTree, alias, conjunction, constant, disjunction, group, negation, proposition}
-use Rattle.omega_acc.specs.layout.label.Raw.{raw_label_code}
-use Rattle.std.proofs.Common.{refl}
 
 -- an alias and its definition as it is written
 pub record Defined : Type 0 where
   pub name : List ℕ
   pub body : RawLabelTree
-
--- a definition is stored as its name and its body
-abbrev pub defined_code : Coded Defined
-defined_code =
-    code_by (List ℕ × RawLabelTree) (coded× (coded_list coded_ℕ) raw_label_code)
-    (λ d. (d.name, d.body)) (λ p. record { name = p.0; body = p.1 }) (λ _. refl)
 
 -- a label without aliases and parentheses, and the depth that it had with them
 pub record Meaning : Type 0 where
@@ -112,7 +103,3 @@ IsAdded old name body new = (length old ≤ place_among old name) × (new ≡ ol
 -- the name is there, or want of memory
 abbrev pub IsRepeated : List Defined → List ℕ → Refusal → Type 0
 IsRepeated old name = or_automaton (λ fault. (fault ≡ Alias) × (place_among old name < length old)) (or_memory never)
-
--- the body of the definition at a place
-abbrev pub IsBodyAt : List Defined → ℕ → RawLabelTree → Type 0
-IsBodyAt definitions place body = option_map (λ d. d.body) (slice_get definitions place) ≡ Some body

@@ -26,6 +26,7 @@ pub fn read_raw_acc<'a, S: TokenSource<'a, HoaKind>>(
 ) -> Result<RawAcc, Refusal>
     ensures ok { IfOk result (λ formula. ReadsAcc (S.left source.old) formula (S.left source.new)) }
     ensures err { IfErr result (IsUnread (ReadsNoAcc (S.left source.old))) }
+    ensures length { S.length source.new ≡ S.length source.old }
 {
     let mut unfinished = UnfinishedAcc::new(alloc);
     operand(&mut unfinished, source)?;
@@ -41,6 +42,7 @@ pub fn read_acc<'a, S: TokenSource<'a, HoaKind>>(
 ) -> Result<Acc, Refusal>
     ensures ok { IfOk result (λ formula. ReadsMeant (S.left source.old) formula (S.left source.new)) }
     ensures err { IfErr result (IsUnreadAcc (ReadsNoAcc (S.left source.old)) (λ fault. ReadsFaulty (S.left source.old) fault (S.left source.new))) }
+    ensures length { S.length source.new ≡ S.length source.old }
 {
     let raw = read_raw_acc(alloc, source)?;
     raw.formula(alloc)
@@ -54,6 +56,7 @@ fn operand<'a, S: TokenSource<'a, HoaKind>>(
     ensures ok { OnOk result ((whole : List (Lexeme Kind)) → WantsIn whole (S.left source.old) unfinished.old → HasIn conjunctive whole (S.left source.new) unfinished.new) }
     ensures err { IfErr result (λ refusal. (whole : List (Lexeme Kind)) → WantsIn whole (S.left source.old) unfinished.old → IsUnread (ReadsNoAcc whole) refusal) }
     ensures less { OnOk result (length (S.left source.new) < length (S.left source.old)) }
+    ensures length { S.length source.new ≡ S.length source.old }
 {
     while is_prefix(unfinished, source)? {}
     unfinished.bind_tightly()
@@ -68,6 +71,7 @@ fn is_prefix<'a, S: TokenSource<'a, HoaKind>>(
         → MatchBool more (WantsIn whole (S.left source.new) unfinished.new) (HasIn unary whole (S.left source.new) unfinished.new)) }
     ensures err { IfErr result (λ refusal. (whole : List (Lexeme Kind)) → WantsIn whole (S.left source.old) unfinished.old → IsUnread (ReadsNoAcc whole) refusal) }
     ensures less { OnOk result (length (S.left source.new) < length (S.left source.old)) }
+    ensures length { S.length source.new ≡ S.length source.old }
 {
     let at = source.place();
     let Some(token) = source.take() else {
@@ -102,6 +106,7 @@ fn goes_on<'a, S: TokenSource<'a, HoaKind>>(
         → MatchBool more (HasIn conjunctive whole (S.left source.new) unfinished.new) (IsWhole whole (S.left source.new) unfinished.new)) }
     ensures err { IfErr result (λ refusal. (whole : List (Lexeme Kind)) → HasIn conjunctive whole (S.left source.old) unfinished.old → IsUnread (ReadsNoAcc whole) refusal) }
     ensures less { IfOk result (λ more. MatchBool more (length (S.left source.new) < length (S.left source.old)) (Unit {0})) }
+    ensures length { S.length source.new ≡ S.length source.old }
 {
     if is_passed(source, HoaKind::And) {
         unfinished.pending.push(Pending::And(unfinished.depth))?;
@@ -132,6 +137,7 @@ fn set<'a, S: TokenSource<'a, HoaKind>>(source: &mut S) -> Result<(bool, u32), R
     ensures ok { IfOk result (λ set. PassesSet set.0 set.1 (S.left source.old) (S.left source.new)) }
     ensures err { IfErr result (IsUnread (IsStuck named (S.left source.old))) }
     ensures less { OnOk result (length (S.left source.new) < length (S.left source.old)) }
+    ensures length { S.length source.new ≡ S.length source.old }
 {
     pass(source, HoaKind::OpenParenthesis)?;
     let negated = is_passed(source, HoaKind::Not);

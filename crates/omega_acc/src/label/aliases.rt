@@ -2,8 +2,8 @@ ghost use Rattle.std.specs.Prelude.{◌≡◌, ◌<◌, ◌++◌, [], ◌∷◌,
 ghost use Rattle.std.specs.List.{list_any};
 ghost use Rattle.std.specs.Str.{bytes_eq};
 ghost use Rattle.omega_acc.specs.Depth.{IsMemory};
-ghost use Rattle.omega_acc.specs.label.Expanding.{IsAdded, IsBodyAt, IsRepeated, entries_of, expansion, place_among};
-ghost use Rattle.omega_acc.specs.layout.label.Emitting.{IsKept, IsKeptAt};
+ghost use Rattle.omega_acc.specs.label.Expanding.{IsAdded, IsRepeated, entries_of, expansion, place_among};
+ghost use Rattle.omega_acc.specs.layout.label.Emitting.{IsBodyAt, IsKept, IsKeptAt};
 ghost use Rattle.omega_acc.specs.layout.label.Extents.{extent_named, extent_of};
 
 use crate::label::LabelNode;
@@ -46,13 +46,12 @@ pub struct Aliases {
 impl Model for Aliases {
     ghost use Rattle.std.specs.Prelude.{List};
     ghost use Rattle.std.specs.Coded.{coded_list};
-    ghost use Rattle.omega_acc.specs.label.Expanding.{Defined, defined_code};
+    ghost use Rattle.omega_acc.specs.label.Expanding.{Defined};
+    ghost use Rattle.omega_acc.specs.layout.label.Aliases.{IsAliases, defined_code, definitions_of};
 
     ghost Value = { List Defined };
 
     ghost coded = { coded_list defined_code };
-
-    ghost use Rattle.omega_acc.specs.layout.label.Aliases.{IsAliases, definitions_of};
 
     ghost view = { definitions_of };
 
@@ -159,7 +158,7 @@ impl Aliases {
         Ok(stack.pop())
     }
 
-    /// Puts a definition last. Refusal 27 exactly where the name is there; after a refusal all is as before, and the
+    /// Puts a definition last, under the name that labels have for it: that of a text begins with `@`. Refusal 27 exactly where the name is there; after a refusal all is as before, and the
     /// definition is given up.
     pub fn add(&mut self, name: &[u8], body: RawLabel) -> Result<(), Refusal>
         ensures ok { OnOk result (IsAdded self.old name.now body self.new) }

@@ -62,7 +62,8 @@ impl RawLabel {
         RawLabel::of_nodes(alloc, nodes.as_slice(), &[], 1)
     }
 
-    /// An alias by its name.
+    /// An alias by its name, its `@` included where it comes from a text: `@a` is another name than `a`. Refusal 60 also for a
+    /// name of 2^32 bytes or more.
     pub fn alias(alloc: Global, name: &[u8]) -> Result<RawLabel, Refusal>
         ensures ok { IfOk result (λ label. label ≡ alias_tree name.now) }
         ensures err { IfErr result IsMemory }

@@ -28,6 +28,7 @@ pub fn read_raw_label<'a, S: TokenSource<'a, HoaKind>>(
 ) -> Result<RawLabel, Refusal>
     ensures ok { IfOk result (λ label. Reads (S.left source.old) label (S.left source.new)) }
     ensures err { IfErr result (IsUnread (ReadsNone (S.left source.old))) }
+    ensures length { S.length source.new ≡ S.length source.old }
 {
     let mut unfinished = Unfinished::new(alloc);
     operand(&mut unfinished, source)?;
@@ -52,6 +53,7 @@ pub fn read_label<'a, S: TokenSource<'a, HoaKind>>(
     ensures ok { IfOk result (λ label. Reads (S.left source.old) label (S.left source.new)) }
     ensures shallow { IfOk result (λ label. raw_depth label ≤ most_depth) }
     ensures err { IfErr result (IsUnreadLabel (ReadsNone (S.left source.old)) (ReadsDeep (S.left source.old) (S.left source.new))) }
+    ensures length { S.length source.new ≡ S.length source.old }
 {
     let label = read_raw_label(alloc, source)?;
     if label.is_too_deep() {
@@ -68,6 +70,7 @@ fn operand<'a, S: TokenSource<'a, HoaKind>>(
     ensures ok { OnOk result ((whole : List (Lexeme Kind)) → WantsIn whole (S.left source.old) unfinished.old → HasIn conjunctive whole (S.left source.new) unfinished.new) }
     ensures err { IfErr result (λ refusal. (whole : List (Lexeme Kind)) → WantsIn whole (S.left source.old) unfinished.old → IsUnread (ReadsNone whole) refusal) }
     ensures less { OnOk result (length (S.left source.new) < length (S.left source.old)) }
+    ensures length { S.length source.new ≡ S.length source.old }
 {
     while is_prefix(unfinished, source)? {}
     unfinished.bind_tightly()
@@ -82,6 +85,7 @@ fn is_prefix<'a, S: TokenSource<'a, HoaKind>>(
         → MatchBool more (WantsIn whole (S.left source.new) unfinished.new) (HasIn unary whole (S.left source.new) unfinished.new)) }
     ensures err { IfErr result (λ refusal. (whole : List (Lexeme Kind)) → WantsIn whole (S.left source.old) unfinished.old → IsUnread (ReadsNone whole) refusal) }
     ensures less { OnOk result (length (S.left source.new) < length (S.left source.old)) }
+    ensures length { S.length source.new ≡ S.length source.old }
 {
     let at = source.place();
     let Some(token) = source.take() else {
@@ -119,6 +123,7 @@ fn goes_on<'a, S: TokenSource<'a, HoaKind>>(
         → MatchBool more (HasIn conjunctive whole (S.left source.new) unfinished.new) (IsWhole whole (S.left source.new) unfinished.new)) }
     ensures err { IfErr result (λ refusal. (whole : List (Lexeme Kind)) → HasIn conjunctive whole (S.left source.old) unfinished.old → IsUnread (ReadsNone whole) refusal) }
     ensures less { IfOk result (λ more. MatchBool more (length (S.left source.new) < length (S.left source.old)) (Unit {0})) }
+    ensures length { S.length source.new ≡ S.length source.old }
 {
     if is_passed(source, HoaKind::And) {
         conjunct(unfinished, source)?;
@@ -151,6 +156,7 @@ fn conjunct<'a, S: TokenSource<'a, HoaKind>>(
     ensures ok { OnOk result ((whole : List (Lexeme Kind)) (before : List (Lexeme Kind)) → PassesOne kinds.And before (S.left source.old) → HasIn conjunctive whole before unfinished.old → HasIn conjunctive whole (S.left source.new) unfinished.new) }
     ensures err { IfErr result (λ refusal. (whole : List (Lexeme Kind)) (before : List (Lexeme Kind)) → PassesOne kinds.And before (S.left source.old) → HasIn conjunctive whole before unfinished.old → IsUnread (ReadsNone whole) refusal) }
     ensures less { OnOk result (length (S.left source.new) < length (S.left source.old)) }
+    ensures length { S.length source.new ≡ S.length source.old }
 {
     let negated = is_passed(source, HoaKind::Not);
     if let Some(number) = passed_number(source) {

@@ -1,6 +1,6 @@
 -- The nodes of a label with its aliases replaced.
-use Rattle.std.specs.Prelude.{◌≡◌, ℕ, ◌<◌, ◌≤◌, List, [], ◌∷◌, ◌++◌, Option, Some, None, IsSome, length, slice_range, take, drop}
-use Rattle.omega_acc.specs.label.Expanding.{Defined, Entry, IsBodyAt, Meaning, entries_of, replaced, stands_for}
+use Rattle.std.specs.Prelude.{◌≡◌, ℕ, ◌<◌, ◌≤◌, List, [], ◌∷◌, ◌++◌, Option, Some, None, IsSome, length, option_map, slice_get, slice_range, take, drop}
+use Rattle.omega_acc.specs.label.Expanding.{Defined, Entry, Meaning, entries_of, replaced, stands_for}
 use Rattle.omega_acc.specs.label.Raw.{RawLabelTree}
 use Rattle.omega_acc.specs.layout.label.Label.{postfix}
 use Rattle.omega_acc.specs.declared.label.LabelNode.{LabelNode}
@@ -45,6 +45,10 @@ AllKept [] [] = Unit {0}
 AllKept [] (entry ∷ entries) = ⊥
 AllKept (kept ∷ others) [] = ⊥
 AllKept (kept ∷ others) (entry ∷ entries) = IsKept kept entry.meaning × AllKept others entries
+
+-- the body of the definition at a place
+abbrev pub IsBodyAt : List Defined → ℕ → RawLabelTree → Type 0
+IsBodyAt definitions place body = option_map (λ d. d.body) (slice_get definitions place) ≡ Some body
 
 -- these are the nodes of what the definition at a place means
 abbrev pub IsKeptAt : List Defined → ℕ → List LabelNode → Type 0

@@ -35,6 +35,7 @@ returns-in_default-kind g c = record {
       (subst BeginNone (sym c.in-Some.ensures.some)
       (begins_others c.in-Some.token.kind c.in_default-kind.not-Identifier c.in_default-kind.not-True c.in_default-kind.not-False c.in_default-kind.not-OpenParenthesis));
   less = tt;
+  length = c.take.ensures.length;
 }
 
 pub returns-clause-wants : goal.returns-clause-wants

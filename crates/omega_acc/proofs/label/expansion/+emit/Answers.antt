@@ -1,8 +1,8 @@
 -- Each node puts out what it stands for.
 use Rattle.std.proofs.Common.{◌+◌, append-nil, drop, length, ◌++◌, ◌<◌, ◌≤◌, [], take, ap, refl, subst, sym, ◌∙◌, arith, IsSome}
 use Rattle.std.proofs.lemmas.Bool.{false≢true}
-use Rattle.omega_acc.specs.label.Expanding.{IsBodyAt, entries_of, place_among, replaced, stands_for}
-use Rattle.omega_acc.specs.layout.label.Emitting.{AllStand, emitted, nodes_of}
+use Rattle.omega_acc.specs.label.Expanding.{entries_of, place_among, replaced, stands_for}
+use Rattle.omega_acc.specs.layout.label.Emitting.{AllStand, IsBodyAt, emitted, nodes_of}
 use Rattle.omega_acc.specs.layout.label.Raw.{alias_names}
 use Rattle.omega_acc.proofs.labels.EmitLemmas.{emitted-alias, emitted-group, emitted-label, emitted-push, stand-at, stand-label, stand-moved}
 use Rattle.omega_acc.proofs.labels.EntryLemmas.{stands_for-at, stands_for-past}

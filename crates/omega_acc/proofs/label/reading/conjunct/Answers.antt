@@ -8,7 +8,7 @@ use Rattle.omega_acc.proofs.label.reading.conjunct.Goals as goal
 
 pub returns-in-Some-clause-ok : goal.returns-in-Some-clause-ok
 returns-in-Some-clause-ok g c whole before one has =
-    has_literal c.is_passed-negated.result whole before _ _ _ _ _ _ _ _ _ _ _ _ one c.is_passed-negated.ensures.passed c.in-Some.ensures
+    has_literal c.is_passed-negated.result whole before _ _ _ _ _ _ _ _ _ _ _ _ one c.is_passed-negated.ensures.passed c.in-Some.ensures.passed
     c.in_ok-conjoin_literal.ensures.nodes c.in_ok-conjoin_literal.ensures.depth c.in_ok-conjoin_literal.ensures.names c.in_ok-conjoin_literal.ensures.pending has
 
 pub returns-in_err-operand-clause-err : goal.returns-in_err-operand-clause-err
@@ -16,11 +16,11 @@ returns-in_err-operand-clause-err g c =
     error_then c.from_residual-in_err-operand.result _ _ c.from_residual-in_err-operand.ensures.1
     (λ e is whole before one has. subst (IsUnread (ReadsNone whole)) (sym is)
     (c.in_err-operand.ensures.err whole
-    (after_and_not c.is_passed-negated.result whole before _ _ _ _ _ _ _ _ _ _ one c.is_passed-negated.ensures.passed c.in_default.ensures
+    (after_and_not c.is_passed-negated.result whole before _ _ _ _ _ _ _ _ _ _ one c.is_passed-negated.ensures.passed c.in_default.ensures.passed
     c.in_ok-wait.ensures.nodes c.in_ok-wait.ensures.names c.in_ok-wait.ensures.pending has)))
 
 pub returns-clause-ok : goal.returns-clause-ok
 returns-clause-ok g c whole before one has =
     c.in_ok-operand.ensures.ok whole
-    (after_and_not c.is_passed-negated.result whole before _ _ _ _ _ _ _ _ _ _ one c.is_passed-negated.ensures.passed c.in_default.ensures
+    (after_and_not c.is_passed-negated.result whole before _ _ _ _ _ _ _ _ _ _ one c.is_passed-negated.ensures.passed c.in_default.ensures.passed
     c.in_ok-wait.ensures.nodes c.in_ok-wait.ensures.names c.in_ok-wait.ensures.pending has)

@@ -1,11 +1,14 @@
 -- A part is read.
-use Rattle.std.proofs.Common.{length}
+use Rattle.std.proofs.Common.{◌≡◌, length}
 use Rattle.omega_acc.specs.Symbols.{conjunctive}
 use Rattle.omega_acc.specs.layout.label.Building.{HasIn}
 use Rattle.omega_acc.proofs.label.reading.read_raw_label.Given as goal
 
 abbrev pub invariant-loop-unfinished : goal.invariant-loop-unfinished
-invariant-loop-unfinished g l = HasIn conjunctive (g.S.TokenSource.left l.fn.source) (g.S.TokenSource.left l.source) l.unfinished
+invariant-loop-unfinished g l = record {
+  has : HasIn conjunctive (g.S.TokenSource.left l.fn.source) (g.S.TokenSource.left l.source) l.unfinished;
+  text : g.S.TokenSource.length l.source ≡ g.S.TokenSource.length l.fn.source;
+}
 
 abbrev pub decreases-loop-unfinished : goal.decreases-loop-unfinished
 decreases-loop-unfinished g l = length (g.S.TokenSource.left l.source)
