@@ -1,16 +1,17 @@
 -- Why emptiness is not decided: the refusal of the text, or that of its automaton.
-use Rattle.std.proofs.Common.{◌≡◌, ℕ, List, Result, Ok, Err, IfErr, IsErrAnd, false, inl, inr}
+use Rattle.std.proofs.Common.{◌≡◌, ℕ, List, Result, Ok, Err, IfErr, IfOk, IsErrAnd, OnOk, false, inl, inr, subst}
 use Rattle.omega_text.specs.Cases.{or_memory}
 use Rattle.omega_text.specs.declared.refusal.Refusal.{Refusal}
 use Rattle.omega_text.specs.declared.refusal.Refusal.TheVariants.{Automaton, Game, Io, Memory, Task, Text}
 use Rattle.omega_automaton.specs.Automaton.{Description}
 use Rattle.omega_empty.specs.EmptinessGame.{IsEmptinessGame}
 use Rattle.omega_empty.specs.Refusing.{IsGiven}
-use Rattle.omega_empty.specs.Verdict.{IsEmptinessRefusal}
+use Rattle.omega_empty.specs.Verdict.{IsEmptinessRefusal, IsSolvedWithin}
 use Rattle.omega_game.specs.declared.player.Player.TheVariants.{Zero}
 use Rattle.omega_game.specs.Game.{Node, priorities}
 use Rattle.omega_measure.specs.Table.{IsPrepareRefusal, is_too_wide}
-use Rattle.omega_solve.specs.Within.{IsBudgetRefusal}
+use Rattle.omega_solve.specs.Within.{IsBudgetRefusal, IsFound}
+use Rattle.omega_solve.specs.declared.found.Found.{Found}
 use Rattle.omega_hoa.specs.Alone.{IsAutomatonRefusal, IsAutomatonText}
 use Rattle.omega_automaton_answers.specs.empty.Answer.{IsEmptyRefusal}
 use Rattle.omega_automaton_answers.specs.steps.Solving.{IsSolvingRefusal}
@@ -71,3 +72,15 @@ pub refused_so : {T : Type 0} (result : Result T Refusal) (Was Why : Refusal →
     → ((refusal : Refusal) → Was refusal → Why refusal) → IfErr result Why
 refused_so (Ok value) Was Why was why = tt
 refused_so (Err refusal) Was Why was why = why refusal was
+
+-- what is found within a budget, of a game that is not too wide, solves it within the budget
+pub solved-within : (budget : ℕ) (given game : List Node) (result : Result Found Refusal) → given ≡ game
+    → is_too_wide Zero (priorities given) ≡ false → IfOk result (IsFound given Zero budget) → OnOk result (IsSolvedWithin budget game)
+solved-within budget given game (Err refusal) same fits is = tt
+solved-within budget given game (Ok found) same fits is =
+    subst (IsSolvedWithin budget) same (record { fits = fits; lifts = found.lifts; ends = is.ended })
+
+-- what holds without the value of a result holds of each result
+pub on_ok : {T : Type 0} (result : Result T Refusal) (wanted : Type 0) → wanted → OnOk result wanted
+on_ok (Ok value) wanted holds = holds
+on_ok (Err refusal) wanted holds = tt

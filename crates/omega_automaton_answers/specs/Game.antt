@@ -3,15 +3,17 @@ use Rattle.std.specs.Prelude.{◌≡◌, ◌⊎◌, List, ℕ}
 use Rattle.omega_text.specs.declared.refusal.Refusal.{Refusal}
 use Rattle.omega_automaton.specs.Automaton.{Description}
 use Rattle.omega_empty.specs.EmptinessGame.{IsEmptinessGame}
-use Rattle.omega_empty.specs.Refusing.{IsGameRefusal}
+use Rattle.omega_empty.specs.Refusing.{IsGameRefusal, IsGiven}
 use Rattle.omega_game.specs.Game.{Node}
 use Rattle.omega_hoa.specs.Alone.{IsAutomatonRefusal, IsAutomatonText}
 use Rattle.omega_pg.specs.game.Canonical.{canonical}
 
--- what `game` answers: the text stands for an automaton, and the canonical text of its emptiness game is written
+-- what `game` answers: the text stands for an automaton to which none of 13, 40, 41 and 42 applies, and the canonical text of
+-- its emptiness game is written
 pub record IsEmptinessGameAnswer (text output : List ℕ) : Type 0 where
   pub automaton : Description
   pub read : IsAutomatonText text automaton
+  pub given : IsGiven automaton
   pub game : List Node
   pub game_is : IsEmptinessGame automaton game
   pub written : output ≡ canonical game

@@ -1,10 +1,10 @@
-ghost use Rattle.std.specs.Prelude.{◌≡◌, ◌≤◌, IfOk, IfErr, IsOkUnless};
-ghost use Rattle.omega_automaton_answers.specs.empty.Answer.{IsEmptyAnswer, IsEmptyRefusal, IsEmptySearchRefusal, emptiness_text};
+ghost use Rattle.std.specs.Prelude.{◌≡◌, ◌≤◌, IfOk, IfErr, IsOkUnless, OnOk};
+ghost use Rattle.omega_automaton_answers.specs.empty.Answer.{IsEmptyAnswer, IsEmptyRefusal, IsEmptySearchAnswer, IsEmptySearchRefusal, emptiness_text};
 ghost use Rattle.omega_automaton_answers.specs.Watching.{LiftsAutomaton, LiftsAutomatonText};
 ghost use Rattle.omega_automaton_answers.specs.steps.Solving.{IsSolvingRefusal, LiftsGame};
 ghost use Rattle.omega_watch.specs.Watching.{IsWatched, refusal_in};
-ghost use Rattle.omega_empty.specs.Refusing.{IsGameRefusal};
-ghost use Rattle.omega_empty.specs.Verdict.{IsEmptinessRefusal, IsVerdict};
+ghost use Rattle.omega_empty.specs.Refusing.{IsGameRefusal, IsGiven};
+ghost use Rattle.omega_empty.specs.Verdict.{IsDecidedWithin, IsEmptinessRefusal, IsSolvedWithin, IsVerdict};
 ghost use Rattle.omega_game.specs.declared.player.Player.TheVariants.{Zero};
 ghost use Rattle.omega_solve.specs.Limits.{most_lifts};
 ghost use Rattle.omega_solve.specs.Within.{IsFound};
@@ -32,7 +32,7 @@ pub fn decide_emptiness<L, W: Watch<L>>(
     listener: &mut L,
 ) -> Result<Vec<u8>, Refusal>
     requires { budget ≤ most_lifts }
-    ensures answer { IfOk result (λ output. IsEmptyAnswer text.items output.items) }
+    ensures answer { IfOk result (λ output. IsEmptyAnswer text.items budget output.items) }
     ensures refused { IfErr result (or_memory (IsEmptyRefusal text.items budget)) }
     ensures told { IsWatched (LiftsAutomatonText text.items) (refusal_in result) (W.tells watch.now) (W.pace watch.now) budget listener.old listener.new }
 {
@@ -44,7 +44,7 @@ pub fn decide_emptiness<L, W: Watch<L>>(
 /// An accepting lasso of the automaton that a text stands for, or `empty` where no lasso accepts, by a search of the
 /// emptiness game. 1 to 4, 20 to 33, then 13, 40, 41 or 42, or 60.
 pub fn search_emptiness(alloc: Global, text: Vec<u8>) -> Result<Vec<u8>, Refusal>
-    ensures answer { IfOk result (λ output. IsEmptyAnswer text.items output.items) }
+    ensures answer { IfOk result (λ output. IsEmptySearchAnswer text.items output.items) }
     ensures refused { IfErr result (or_memory (IsEmptySearchRefusal text.items)) }
 {
     let automaton = automaton_in(alloc, text)?;
@@ -62,6 +62,8 @@ fn decided<L, W: Watch<L>>(
 ) -> Result<Verdict, Refusal>
     requires { budget ≤ most_lifts }
     ensures verdict { IfOk result (IsVerdict automaton) }
+    ensures given { OnOk result (IsGiven automaton) }
+    ensures within { OnOk result (IsDecidedWithin budget automaton) }
     ensures refused { IfErr result (IsEmptinessRefusal automaton budget) }
     ensures told { IsWatched (LiftsAutomaton automaton) (refusal_in result) (W.tells watch.now) (W.pace watch.now) budget listener.old listener.new }
 {
@@ -80,6 +82,7 @@ fn found_in<L, W: Watch<L>>(
 ) -> Result<Found, Refusal>
     requires { budget ≤ most_lifts }
     ensures found { IfOk result (IsFound game.now Zero budget) }
+    ensures solved { OnOk result (IsSolvedWithin budget game.now) }
     ensures refused { IfErr result (IsSolvingRefusal budget game.now) }
     ensures told { IsWatched (LiftsGame game.now) (refusal_in result) (W.tells watch.now) (W.pace watch.now) budget listener.old listener.new }
 {
@@ -99,6 +102,7 @@ fn found_in<L, W: Watch<L>>(
 /// The verdict on an automaton, which is let go, by a search. 13, 40, 41, 42 or 60.
 fn searched(alloc: Global, automaton: Automaton) -> Result<Verdict, Refusal>
     ensures verdict { IfOk result (IsVerdict automaton) }
+    ensures given { OnOk result (IsGiven automaton) }
     ensures refused { IfErr result (IsGameRefusal automaton) }
 {
     lasso(alloc, &automaton)

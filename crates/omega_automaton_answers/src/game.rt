@@ -1,7 +1,7 @@
-ghost use Rattle.std.specs.Prelude.{IfOk, IfErr};
+ghost use Rattle.std.specs.Prelude.{IfOk, IfErr, OnOk};
 ghost use Rattle.omega_automaton_answers.specs.Game.{IsEmptinessGameAnswer, IsEmptinessGameRefusal};
 ghost use Rattle.omega_empty.specs.EmptinessGame.{IsEmptinessGame};
-ghost use Rattle.omega_empty.specs.Refusing.{IsGameRefusal};
+ghost use Rattle.omega_empty.specs.Refusing.{IsGameRefusal, IsGiven};
 ghost use Rattle.omega_text.specs.Cases.{or_memory};
 
 use crate::automaton_text::automaton_in;
@@ -25,6 +25,7 @@ pub fn write_emptiness_game(alloc: Global, text: Vec<u8>) -> Result<Vec<u8>, Ref
 /// The emptiness game of an automaton, which is let go. 13, 40, 41, 42 or 60.
 fn game_of(alloc: Global, automaton: Automaton) -> Result<Game, Refusal>
     ensures game { IfOk result (IsEmptinessGame automaton) }
+    ensures given { OnOk result (IsGiven automaton) }
     ensures refused { IfErr result (IsGameRefusal automaton) }
 {
     emptiness_game(alloc, &automaton)

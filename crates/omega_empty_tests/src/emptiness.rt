@@ -229,6 +229,30 @@ fn lifting_finds_the_only_lasso(rt: HostRuntime) {
     }
 }
 
+// Automata with several starts that a lasso begins at, and the edge that the first of these in the order written, a state
+// that leads to itself, takes for ever.
+static STARTED: [(&str, (&[u32], &[u32])); 3] = [
+    (
+        "HOA: v1 States: 2 Start: 0 Start: 1 acc-name: Buchi Acceptance: 1 Inf(0) --BODY-- State: 0 [t] 0 {0} State: 1 [t] 1 {0} --END--",
+        (&[], &[0]),
+    ),
+    (
+        "HOA: v1 States: 2 Start: 1 Start: 0 acc-name: Buchi Acceptance: 1 Inf(0) --BODY-- State: 0 [t] 0 {0} State: 1 [t] 1 {0} --END--",
+        (&[], &[1]),
+    ),
+    (
+        "HOA: v1 States: 4 Start: 1 Start: 2 Start: 3 Start: 0 acc-name: Buchi Acceptance: 1 Inf(0) --BODY-- State: 0 [t] 0 {0} State: 1 [t] 1 State: 2 [t] 2 {0} State: 3 [t] 3 {0} --END--",
+        (&[], &[2]),
+    ),
+];
+
+#[test]
+fn lifting_takes_the_first_start_that_is_won(rt: HostRuntime) {
+    for (row, (text, want)) in STARTED.iter().enumerate() {
+        assert_row(&rt, row, says(decide_in(rt.alloc(), text, 1000), want));
+    }
+}
+
 #[test]
 fn lifting_keeps_its_budget(rt: HostRuntime) {
     assert!(rt; search_number(decide_in(rt.alloc(), LOOP, 0)) == 51);

@@ -18,7 +18,7 @@ use Rattle.omega_automaton_answers.specs.Check.{IsStreamCheckAnswer}
 use Rattle.omega_game_answers.specs.Check.{IsCheckAnswer}
 use Rattle.omega_automaton_answers.specs.Draw.{IsAutomatonDrawingAnswer, IsLassoDrawingAnswer}
 use Rattle.omega_game_answers.specs.Draw.{IsGameDrawingAnswer, IsSolutionDrawingAnswer, IsSolutionDrawingRefusal}
-use Rattle.omega_automaton_answers.specs.empty.Answer.{IsEmptyAnswer, IsEmptyRefusal, IsEmptySearchRefusal}
+use Rattle.omega_automaton_answers.specs.empty.Answer.{IsEmptyAnswer, IsEmptyRefusal, IsEmptySearchAnswer, IsEmptySearchRefusal}
 use Rattle.omega_automaton_answers.specs.Show.{IsStreamShowAnswer}
 use Rattle.omega_game_answers.specs.Show.{IsShowAnswer}
 use Rattle.omega_game_answers.specs.declared.solve.asked.Asked.{Asked}
@@ -46,8 +46,8 @@ Answers (CanonPart from) budget text exit output = (exit ≡ Done) × IsCanonPar
 Answers (Solve player from) budget text exit output = (exit ≡ Done) × IsSolveAnswer text (asked_for player) from budget output
 Answers (Search from) budget text exit output = (exit ≡ Done) × IsSolveAnswer text way.Search from budget output
 Answers (Verify game from explain) budget text exit output = IsVerifyAnswer game from text explain exit output
-Answers Empty budget text exit output = (exit ≡ Done) × IsEmptyAnswer text output
-Answers EmptySearch budget text exit output = (exit ≡ Done) × IsEmptyAnswer text output
+Answers Empty budget text exit output = (exit ≡ Done) × IsEmptyAnswer text budget output
+Answers EmptySearch budget text exit output = (exit ≡ Done) × IsEmptySearchAnswer text output
 Answers Game budget text exit output = (exit ≡ Done) × IsEmptinessGameAnswer text output
 Answers (Draw Pg) budget text exit output = (exit ≡ Done) × IsGameDrawingAnswer text output
 Answers (Draw Hoa) budget text exit output = (exit ≡ Done) × IsAutomatonDrawingAnswer text output

@@ -2,7 +2,8 @@
 use Rattle.std.specs.Prelude.{◌≡◌, ◌⊎◌, List, ℕ, codes}
 use Rattle.omega_text.specs.declared.refusal.Refusal.{Refusal}
 use Rattle.omega_automaton.specs.Automaton.{Description}
-use Rattle.omega_empty.specs.Verdict.{IsEmptinessRefusal, IsVerdict}
+use Rattle.omega_empty.specs.Refusing.{IsGiven}
+use Rattle.omega_empty.specs.Verdict.{IsDecidedWithin, IsEmptinessRefusal, IsVerdict}
 use Rattle.omega_empty.specs.declared.verdict.Verdict.{Verdict}
 use Rattle.omega_empty.specs.declared.verdict.Verdict.TheVariants.{Empty, Lasso}
 use Rattle.omega_hoa.specs.Alone.{IsAutomatonRefusal, IsAutomatonText}
@@ -14,10 +15,22 @@ abbrev pub emptiness_text : Verdict → List ℕ
 emptiness_text Empty = codes "empty\n"
 emptiness_text (Lasso stem cycle) = lasso_text stem cycle
 
--- what `empty` answers: the text stands for an automaton, and a right verdict on it is written, an accepting lasso or that none accepts
-pub record IsEmptyAnswer (text output : List ℕ) : Type 0 where
+-- what `empty --search` answers: the text stands for an automaton to which none of 13, 40, 41 and 42 applies, and a right
+-- verdict on it is written, an accepting lasso or that none accepts
+pub record IsEmptySearchAnswer (text output : List ℕ) : Type 0 where
   pub automaton : Description
   pub read : IsAutomatonText text automaton
+  pub given : IsGiven automaton
+  pub verdict : Verdict
+  pub right : IsVerdict automaton verdict
+  pub written : output ≡ emptiness_text verdict
+
+-- what `empty` answers with a budget: the same, of an automaton whose emptiness game is solved within the budget
+pub record IsEmptyAnswer (text : List ℕ) (budget : ℕ) (output : List ℕ) : Type 0 where
+  pub automaton : Description
+  pub read : IsAutomatonText text automaton
+  pub given : IsGiven automaton
+  pub within : IsDecidedWithin budget automaton
   pub verdict : Verdict
   pub right : IsVerdict automaton verdict
   pub written : output ≡ emptiness_text verdict

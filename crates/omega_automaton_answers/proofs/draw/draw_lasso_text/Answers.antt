@@ -9,6 +9,7 @@ returns-clause-answer c =
     (λ output drawn. record {
       automaton = c.in_ok-automaton.automaton;
       read = c.in_ok-automaton.ensures.automaton;
+      given = drawn.given;
       verdict = drawn.verdict;
       right = drawn.right;
       written = drawn.written;

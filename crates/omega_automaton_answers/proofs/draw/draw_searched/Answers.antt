@@ -6,6 +6,7 @@ pub returns-clause-drawn : goal.returns-clause-drawn
 returns-clause-drawn c =
     IfOk-weaker c.draw_verdict.result _ _
     (λ output written. record {
+      given = c.in_ok-verdict.ensures.given;
       verdict = c.in_ok-verdict.verdict;
       right = c.in_ok-verdict.ensures.verdict;
       written = written;

@@ -16,6 +16,8 @@ returns-clause-answer g c =
     (λ output written. record {
       automaton = c.in_ok-automaton.automaton;
       read = c.in_ok-automaton.ensures.automaton;
+      given = c.in_ok-verdict.ensures.given;
+      within = c.in_ok-verdict.ensures.within;
       verdict = c.in_ok-verdict.verdict;
       right = c.in_ok-verdict.ensures.verdict;
       written = written;

@@ -2,7 +2,7 @@
 use Rattle.std.proofs.Common.{◌≡◌, None, Some}
 use Rattle.std.proofs.lemmas.Result.{IfErr-weaker}
 use Rattle.omega_empty.specs.Verdict.{IsEmptinessRefusal}
-use Rattle.omega_automaton_answers.proofs.Emptiness.{refused-solving, refused_so}
+use Rattle.omega_automaton_answers.proofs.Emptiness.{on_ok, refused-solving, refused_so}
 use Rattle.omega_empty.specs.Refusing.{IsGameRefusal}
 use Rattle.omega_text.specs.declared.refusal.Refusal.TheVariants.{Memory}
 use Rattle.omega_automaton_answers.specs.Watching.{LiftsAutomaton}
@@ -10,6 +10,14 @@ use Rattle.omega_automaton_answers.specs.steps.Solving.{LiftsGame}
 use Rattle.omega_automaton_answers.proofs.Watching.{automaton_lifted, automaton_refused}
 use Rattle.omega_watch.proofs.Watched.{none_watched, spares, watched_alike, watched_as, watched_behind}
 use Rattle.omega_automaton_answers.proofs.empty.decided.Goals as goal
+
+pub returns-clause-given : goal.returns-clause-given
+returns-clause-given g c = on_ok c.verdict_of.result _ c.in_ok-game.ensures.given
+
+pub returns-clause-within : goal.returns-clause-within
+returns-clause-within g c =
+    on_ok c.verdict_of.result _
+    (record { game = c.in_ok-game.game; game_is = c.in_ok-game.ensures.game; solved = c.in_ok-found.ensures.solved })
 
 pub returns-clause-refused : goal.returns-clause-refused
 returns-clause-refused g c = IfErr-weaker c.verdict_of.result _ _ (λ refusal e. rw e tt) c.verdict_of.ensures.memory

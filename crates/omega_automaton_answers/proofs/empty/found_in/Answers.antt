@@ -6,7 +6,7 @@ use Rattle.omega_game.specs.Game.{priorities}
 use Rattle.omega_measure.specs.Table.{IsPrepareRefusal}
 use Rattle.omega_text.specs.declared.refusal.Refusal.TheVariants.{Memory}
 use Rattle.omega_automaton_answers.specs.steps.Solving.{IsSolvingRefusal}
-use Rattle.omega_automaton_answers.proofs.Emptiness.{refused-lifts, refused-prepare, refused_so}
+use Rattle.omega_automaton_answers.proofs.Emptiness.{refused-lifts, refused-prepare, refused_so, solved-within}
 use Rattle.omega_watch.proofs.Watched.{none_watched, one_made, one_watched, spares, watched_alike}
 use Rattle.omega_automaton_answers.proofs.empty.found_in.Goals as goal
 
@@ -16,6 +16,10 @@ returns-in_err-solver-clause-refused g c =
     subst (λ game. IsSolvingRefusal c.args.budget game c.in_err-solver.field-0.0) c.in_ok-renaming.ensures.given
     (refused-prepare c.args.budget _ _ c.in_err-solver.ensures.refused) in
     refused_so c.from_residual-in_err-solver.result _ _ c.from_residual-in_err-solver.ensures.1 (λ refusal e. rw e refused)
+
+pub returns-clause-solved : goal.returns-clause-solved
+returns-clause-solved g c =
+    solved-within c.args.budget _ _ c.found_watched.result c.in_ok-renaming.ensures.given (c.in_ok-solver.ensures.fits refl) c.found_watched.ensures.found
 
 pub returns-clause-refused : goal.returns-clause-refused
 returns-clause-refused g c =

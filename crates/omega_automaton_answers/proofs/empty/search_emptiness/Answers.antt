@@ -8,6 +8,7 @@ returns-clause-answer c =
     (λ output written. record {
       automaton = c.in_ok-automaton.automaton;
       read = c.in_ok-automaton.ensures.automaton;
+      given = c.in_ok-verdict.ensures.given;
       verdict = c.in_ok-verdict.verdict;
       right = c.in_ok-verdict.ensures.verdict;
       written = written;
