@@ -2,8 +2,9 @@
 ghost use Rattle.std.specs.Prelude.{◌<◌, length, IfOk, OnOk};
 ghost use Rattle.omega_solve.specs.Headline.{IsExact};
 
+use omega_budget::{Found, Reordered, Unwatched};
 use omega_game::{Game, GameBuilder, Player, Refusal};
-use omega_solve::{Found, MOST_LIFTS, Nested, PackedTable, Solver};
+use omega_solve::MOST_LIFTS;
 use std::alloc::Global;
 
 /// The game of `examples/three_nodes.pg`: player 0 moves from node 0 to node 1 or 2, and player 1 back to node 0.
@@ -27,8 +28,8 @@ fn add_three(nodes: &mut GameBuilder) -> Result<(), Refusal>
 pub fn solved_for(alloc: Global, game: &Game, player: Player) -> Result<Found, Refusal>
     ensures exact { IfOk result (λ found. IsExact game.now player found.won.items found.choice.items) }
 {
-    let solver: Solver<'_, PackedTable, Nested> = Solver::prepare(alloc, game, player)?;
-    Found::by(alloc, solver, MOST_LIFTS)
+    let reordered = Reordered::of(alloc, game)?;
+    reordered.solve(alloc, player, MOST_LIFTS, &Unwatched, &mut ())
 }
 
 #[cfg(test)]

@@ -3,11 +3,11 @@
 //! A test is proved before it runs, and what owns a game or a solver over a `?` is slow to prove: so one function prepares,
 //! and the next one is lent what was prepared.
 use crate::samples::finish;
+use omega_budget::{Found, Reordered, Unwatched};
 use omega_game::{Game, GameBuilder, Player, Refusal, TaskFault, bound};
-use omega_rename::Renaming;
 use omega_solve::{
-    Found, MOST_LIFTS, MeasureTable, Nested, Outcome, PackedTable, PlainTable, Schedule, Solver,
-    Sweep, Worklist,
+    MOST_LIFTS, MeasureTable, Nested, Outcome, PackedTable, PlainTable, Schedule, Solver, Sweep,
+    Worklist,
 };
 use std::alloc::Global;
 use std::process::Abort;
@@ -198,6 +198,29 @@ fn dealt<T: MeasureTable, S: Schedule, R: Abort>(
     }
 }
 
+/// What a new solver finds, given the whole budget in one run.
+fn found_by<T: MeasureTable, S: Schedule>(
+    alloc: Global,
+    mut solver: Solver<'_, T, S>,
+    budget: u64,
+) -> Result<Found, Refusal> {
+    if budget > solver.room() {
+        return Err(Refusal::Io);
+    }
+    if let Outcome::Spent = solver.run(budget) {
+        return Err(Refusal::Task(TaskFault::Budget));
+    }
+    let lifts = solver.lifts();
+    match solver.answer() {
+        Some(answer) => Ok(Found {
+            won: Vec::from_slice(alloc, answer.won)?,
+            choice: Vec::from_slice(alloc, answer.choice)?,
+            lifts,
+        }),
+        None => Err(Refusal::Io),
+    }
+}
+
 /// What is found within a budget, or Io where it is above each that a solver takes.
 fn found<T: MeasureTable, S: Schedule>(
     alloc: Global,
@@ -205,11 +228,8 @@ fn found<T: MeasureTable, S: Schedule>(
     player: Player,
     budget: u64,
 ) -> Result<Found, Refusal> {
-    if budget > MOST_LIFTS {
-        return Err(Refusal::Io);
-    }
     match Solver::<'_, T, S>::prepare(alloc, game, player) {
-        Ok(solver) => Found::by(alloc, solver, budget),
+        Ok(solver) => found_by(alloc, solver, budget),
         Err(refusal) => Err(refusal),
     }
 }
@@ -290,27 +310,40 @@ fn solves_by_all<R: Abort>(
     solves::<PackedTable, Nested, R>(rt, alloc, game, row, alike)
 }
 
-/// Asserts what a solver of the game with its places renamed finds, by the places of the row, if it is prepared.
-fn assert_renamed<R: Abort>(rt: &R, alloc: Global, renaming: &Renaming<'_>, row: &Row<'_>) {
-    match renaming.prepare::<PackedTable, Nested>(alloc, row.1) {
-        Ok(mut solver) => {
-            if let Outcome::Done = solver.run(solver.room()) {
-                let found = renaming.found_by(alloc, &solver);
-                let lifts = row.3.unwrap_or(solver.lifts());
-                assert!(rt; is_within(found, lifts, MOST_LIFTS, row.5));
-            } else {
-                assert!(rt; false, "a solver that is done");
+/// What is found in an order of its own within a budget, or Io where it is above each that a solver takes.
+fn found_reordered(
+    alloc: Global,
+    reordered: &Reordered<'_>,
+    player: Player,
+    budget: u64,
+) -> Result<Found, Refusal> {
+    if budget > MOST_LIFTS {
+        return Err(Refusal::Io);
+    }
+    reordered.solve(alloc, player, budget, &Unwatched, &mut ())
+}
+
+/// Asserts what is found in an order of its own, by the places of the row, within each budget up to the lifts that are
+/// needed and within the greatest.
+fn assert_reordered<R: Abort>(rt: &R, alloc: Global, reordered: &Reordered<'_>, row: &Row<'_>) {
+    match found_reordered(alloc, reordered, row.1, MOST_LIFTS) {
+        Ok(found) => {
+            let needed = row.3.unwrap_or(found.lifts);
+            assert!(rt; is_within(Ok(found), needed, MOST_LIFTS, row.5));
+            for budget in 0..=needed {
+                let within = found_reordered(alloc, reordered, row.1, budget);
+                assert!(rt; is_within(within, needed, budget, row.5));
             }
         }
-        Err(_) => assert!(rt; false, "a solver"),
+        Err(_) => assert!(rt; false, "an answer"),
     }
 }
 
-/// Asserts that a game is solved with its places renamed.
-fn assert_solved_renamed<R: Abort>(rt: &R, alloc: Global, game: &Game, row: &Row<'_>) {
-    match Renaming::of(alloc, game) {
-        Ok(renaming) => assert_renamed(rt, alloc, &renaming, row),
-        Err(_) => assert!(rt; false, "a renaming"),
+/// Asserts that a game is solved in an order of its own.
+fn assert_solved_reordered<R: Abort>(rt: &R, alloc: Global, game: &Game, row: &Row<'_>) {
+    match Reordered::of(alloc, game) {
+        Ok(reordered) => assert_reordered(rt, alloc, &reordered, row),
+        Err(_) => assert!(rt; false, "an order"),
     }
 }
 
@@ -320,7 +353,7 @@ fn assert_solved<R: Abort>(rt: &R, alloc: Global, row: &Row<'_>) {
         Ok(game) => {
             assert!(rt; bound(&game, row.1) == Some(row.2));
             assert!(rt; solves_by_all(rt, alloc, &game, row).is_ok());
-            assert_solved_renamed(rt, alloc, &game, row);
+            assert_solved_reordered(rt, alloc, &game, row);
         }
         Err(_) => assert!(rt; false, "a game"),
     }

@@ -21,8 +21,7 @@ returns-in-Spent-clause-told g c =
     let self = c.args.self.now in
     let there = subst (λ (nodes : List Node). HasLifted nodes c.args.player c.args.budget Spent c.run_watched.new.solver) c.reordered-game.ensures c.in-Spent.ensures.lifted in
     let here = lifted_by_place c.reorderings_keep_states.ensures c.reorderings_keep_bounds.ensures self.given self.reordered self.ranks self.places
-    c.args.player c.args.budget Spent c.run_watched.new.solver c.keeps_nodes.ensures.game c.keeps_nodes.ensures.reordered there in
-    (
+    c.args.player c.args.budget Spent c.run_watched.new.solver c.keeps_nodes.ensures.game c.keeps_nodes.ensures.reordered there in (
       refl,
       c.run_watched.new.solver.lifts,
       told_by_place _ _ _ self.given c.args.player c.args.budget Spent (state_by_place self.given self.ranks c.run_watched.new.solver) _ _ _ here (λ _. refl, λ _. refl)
