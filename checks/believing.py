@@ -95,21 +95,20 @@ class Definition:
 
     def words(self, only=None):
         """The words of its body; where rows are asked for, those of the rows for these arguments."""
-        lines = self.lines if only is None else [line for row in self.rows(only) for line in row]
+        lines = self.lines if only is None else self.rows(only)
         return [word.rstrip(".") for line in lines for word in WORD.findall(line.split(" -- ")[0])]
 
     def rows(self, arguments):
         """The rows of a definition by cases whose first argument begins so, without their left sides."""
-        row = None
+        rows, is_wanted = [], False
         for line in self.lines:
             begun = re.match(rf"{re.escape(self.name)} (?:\(([^)]*)\)|(\S+)) .*?=(.*)", line)
             if begun:
                 argument = begun.group(1) or begun.group(2)
-                row = [begun.group(3)] if any(f"{argument} ".startswith(f"{one} ") for one in arguments) else None
-                if row:
-                    yield row
-            elif row and line.startswith(" "):
-                row.append(line)
+                is_wanted = any(f"{argument} ".startswith(f"{one} ") for one in arguments)
+            if is_wanted:
+                rows.append(begun.group(3) if begun else line)
+        return rows
 
 
 @dataclass
@@ -147,7 +146,7 @@ def definitions_in(module, text):
         elif not line.strip() or line.startswith(("use ", "pub mod ", "infix")):
             held = held if line.startswith(" ") else None
             comment = []
-        elif line.startswith(" "):
+        elif line.startswith((" ", "}")):
             if held:
                 held.lines.append(line)
         else:
@@ -165,12 +164,7 @@ def module_of(path):
 
 
 def file_of(module):
-    """The file of a module: of a definition's, or of a type's that is declared in the code."""
-    crate, _, rest = module.partition(".specs.")
-    if not rest.startswith("declared."):
-        return f"crates/{crate}/specs/{rest.replace('.', '/')}.antt"
-    stem = f"crates/{crate}/src/{'/'.join(rest.split('.')[1:-1])}"
-    return f"{stem}.rt" if os.path.exists(os.path.join(ROOT, f"{stem}.rt")) else f"{stem}/mod.rt"
+    return f"crates/{module.replace('.', '/')}.antt"
 
 
 class Sources:
@@ -216,7 +210,7 @@ class Sources:
 
 def parts_of(definition):
     """The constructors of a definition of data: whoever cites one cites the definition."""
-    for line in definition.lines[1:]:
+    for line in definition.lines[1:] if re.match(r"(pub )?data ", definition.lines[0]) else ():
         found = re.match(r"\s+(?:pub )?([^\s:(]+)\s*:", line)
         if found:
             yield found.group(1)
