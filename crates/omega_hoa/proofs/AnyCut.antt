@@ -21,18 +21,18 @@ IsEnd seen items None = IsStreamText seen items
 IsEnd seen items (Some refusal) = IsStreamFault seen items refusal
 
 -- bytes that are refused however they go on are refused
-refused_now : (seen : List ℕ) (items : List Item) (refusal : Refusal) → (refusal ≡ Text TooLong → ⊥) → IsRefusedSoFar seen items refusal → IsStreamFault seen items refusal
-refused_now seen items refusal within so_far = elim so_far [
+refused_now : (seen : List ℕ) (items : List Item) (kept : Kept) (refusal : Refusal) → (refusal ≡ Text TooLong → ⊥) → IsRefusedSoFar seen items kept refusal → IsStreamFault seen items refusal
+refused_now seen items kept refusal within so_far = elim so_far [
   | inl long ↦ absurd (within long.0)
   | inr always ↦ subst (λ source. IsStreamFault source items refusal) (append-nil seen) (always [])
 ]
 
 -- what was refused before, or what the end refuses
 refused_at_end : (seen : List ℕ) (items : List Item) (kept : Kept) (refusal : Refusal) (before : Option Refusal) → (refusal ≡ Text TooLong → ⊥)
-    → MatchOption before (IsTaken seen items kept) (IsRefusedSoFar seen items) → MatchOption before (IsStreamFault seen items refusal) (λ said. refusal ≡ said) → IsStreamFault seen items refusal
+    → MatchOption before (IsTaken seen items kept) (IsRefusedSoFar seen items kept) → MatchOption before (IsStreamFault seen items refusal) (λ said. refusal ≡ said) → IsStreamFault seen items refusal
 refused_at_end seen items kept refusal None within fed answered = answered
 refused_at_end seen items kept refusal (Some said) within fed answered =
-    refused_now seen items refusal within (subst (IsRefusedSoFar seen items) (sym answered) fed)
+    refused_now seen items kept refusal within (subst (IsRefusedSoFar seen items kept) (sym answered) fed)
 
 ended : (seen : List ℕ) (items : List Item) (kept : Kept) (answer : Option Refusal) → (answer ≡ Some (Text TooLong) → ⊥) → IsFed seen items kept → IsAnsweredAtEnd seen items kept answer → IsEnd seen items answer
 ended seen items kept None within fed answered = answered
