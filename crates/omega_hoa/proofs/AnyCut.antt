@@ -40,7 +40,7 @@ ended seen items kept (Some refusal) within fed answered =
     refused_at_end seen items kept refusal kept.refused (λ long. within (ap (λ said. Some said) long)) fed answered
 
 module _ (readings : Readings) (exact : GoesOneWay hoa_format) (cuts_one : CutsAreOne hoa_format) (seen : List ℕ) where
-  ends_one : (items others : List Item) (one other : Option Refusal) → IsEnd seen items one → IsEnd seen others other → (items ≡ others) × AnswersAreAlike one other
+  ends_one : (items others : List Item) (one other : Option Refusal) → IsEnd seen items one → IsEnd seen others other → (items ≡ others) × AnswersAreAlike seen one other
   ends_one items others None None here there = (
     streams_one readings there.lexemes items others (subst (λ ls. IsStream ls items) (cuts_one seen here.lexemes there.lexemes here.cut there.cut) here.stream) there.stream,
     tt,
@@ -51,6 +51,6 @@ module _ (readings : Readings) (exact : GoesOneWay hoa_format) (cuts_one : CutsA
 
   pub cuts_change_nothing : (items others : List Item) (kept left : Kept) (one other : Option Refusal) → IsFed seen items kept → IsFed seen others left
       → (one ≡ Some (Text TooLong) → ⊥) → (other ≡ Some (Text TooLong) → ⊥) → IsAnsweredAtEnd seen items kept one → IsAnsweredAtEnd seen others left other
-      → (items ≡ others) × AnswersAreAlike one other
+      → (items ≡ others) × AnswersAreAlike seen one other
   cuts_change_nothing items others kept left one other fed feeds within short here there =
       ends_one items others one other (ended seen items kept one within fed here) (ended seen others left other short feeds there)

@@ -28,7 +28,8 @@ pub record IsDivided (seen : List ℕ) (lexemes : List (Lexeme HoaKind)) (items 
   pub behind : IsRest inside rest
   pub cuts : (more : List ℕ) → Cuts hoa_format (seen ++ more) 0 front begins
 
--- the bytes so far were taken, of which no fault of tokens is settled, and the items of their whole segments given; the tokenizer stands behind the same tokens
+-- the bytes so far were taken, no fault of tokens is settled, and the items of their whole segments were given;
+-- `tied` says of the tokenizer that it stands there, which the next call needs
 pub record IsTaken (seen : List ℕ) (items : List Item) (kept : Kept) : Type 0 where
   pub lexemes : List (Lexeme HoaKind)
   pub settled : Settles seen lexemes

@@ -58,7 +58,8 @@ impl Stream {
         }
     }
 
-    /// Reads the next piece, and appends the items of the segments that end in it. 1 to 4, 20 to 33 or 60.
+    /// Reads the next piece, and appends the items of the segments that end in it. 1 to 4, 20 to 33 or 60: in the call whose
+    /// piece settles it.
     ///
     /// A piece that would bring the bytes above `MOST_TEXT` is refused 4, and nothing of it is taken. After 60 the stream and
     /// `out` are as before, and the piece may be fed again. After any other refusal the items before it stand in `out`, and

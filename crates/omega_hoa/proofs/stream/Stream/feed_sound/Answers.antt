@@ -1,7 +1,7 @@
 -- A piece is read behind the bytes before, or all stays as it was.
 use Rattle.std.proofs.Common.{◌≡◌, ◌-◌, ◌∙◌, ◌++◌, None, ℕ, List, length, take, drop, sym, ap, subst, inr, arith}
 use Rattle.omega_hoa.specs.dividing.Fed.{IsFedSome}
-use Rattle.omega_hoa.specs.Feeding.{IsFed, IsRefusedThen, IsTaken}
+use Rattle.omega_hoa.specs.Feeding.{IsRefusedThen, IsTaken}
 use Rattle.omega_hoa.specs.Kept.{Kept}
 use Rattle.omega_hoa.specs.Stream.{IsStreamFault}
 use Rattle.omega_hoa.specs.dividing.Next.{IsProgress}
