@@ -1,6 +1,5 @@
 -- What was told of a stream's bytes, with a piece more, and at its end.
 use Rattle.std.proofs.Common.{◌≡◌, ℕ, ◌+◌, ◌≤◌, ◌<◌, ◌⊎◌, List, [], ◌∷◌, ◌++◌, Option, None, Some, length, refl, sym, ap, subst, ◌∙◌, inl, inr, arith, append_assoc, append-nil, length-append}
-use Rattle.std.proofs.lemmas.Bool.{cases_lt}
 use Rattle.std.specs.Prelude.{IfSome, MatchOption, Result, Err, Ok}
 use Rattle.omega_text.specs.Cut.{Cuts}
 use Rattle.omega_text.specs.Format.{Format, GoesOneWay}
@@ -12,10 +11,9 @@ use Rattle.omega_text.specs.declared.hoa.kind.HoaKind.TheVariants.{Abort, End}
 use Rattle.omega_text.specs.declared.refusal.Refusal.{Refusal}
 use Rattle.omega_text.specs.declared.refusal.Refusal.TheVariants.{Memory, Text}
 use Rattle.omega_text.specs.declared.refusal.text.TextFault.TheVariants.{TooLong}
-use Rattle.omega_hoa.specs.Feeding.{Appends, IsFed, IsRefusedSoFar, IsTaken}
+use Rattle.omega_hoa.specs.Feeding.{Appends, IsFed, IsRefusedSoFar, IsRefusedThen, IsTaken}
 use Rattle.omega_hoa.specs.Kept.{Kept}
 use Rattle.omega_hoa.specs.Stream.{IsItemOf, IsSegment, IsStream, IsStreamFault, IsStreamRefusal, IsStreamText}
-use Rattle.omega_hoa.specs.dividing.Next.{IsRefusedThen}
 use Rattle.omega_hoa.specs.declared.item.Item.{Item}
 use Rattle.omega_hoa.specs.declared.item.Item.TheVariants.{Aborted, Automaton}
 use Rattle.omega_hoa.proofs.Wholes.{errors_are_one}
@@ -74,13 +72,6 @@ pub unrefused : {A : Type 0} (refused : Option Refusal) (value : A) (Says : Refu
 unrefused None value Says errs says = refl
 unrefused (Some refusal) value Says errs says = absurd (ok_no_error value refusal (errs refusal says))
 
--- a stream that takes a piece stays within the limit
-pub within_limit : {A : Type 0} (value : A) (total : ℕ) → (most_text < total → ◌≡◌ {A = Result A Refusal} (Ok value) (Err (Text TooLong))) → total ≤ most_text
-within_limit value total long = elim (cases_lt most_text total) [
-  | inl more ↦ absurd (ok_no_error value (Text TooLong) (long more))
-  | inr most ↦ omega (arith, most)
-]
-
 -- a stream that had refused answers what it keeps
 pub same_as_before : {A : Type 0} (refused : Option Refusal) (refusal : Refusal) (Says : Refusal → Type 0)
     → ((before : Refusal) → Says before → ◌≡◌ {A = Result A Refusal} (Err refusal) (Err before)) → IfSome refused Says → IfSome refused (λ before. refusal ≡ before)
@@ -104,7 +95,7 @@ module _ (text : ℕ → Item → List ℕ) (seen : List ℕ) (kept : Kept) (cou
 
   -- the bytes were taken then
   taken_of : kept.refused ≡ None → (tells : Tells text seen kept count told) → IsTaken seen tells.items kept
-  taken_of none tells = subst (λ refused. MatchOption refused (IsTaken seen tells.items kept) (IsRefusedSoFar seen tells.items)) none tells.fed
+  taken_of none tells = subst (λ refused. MatchOption refused (IsTaken seen tells.items kept) (IsRefusedSoFar seen tells.items kept)) none tells.fed
 
   -- a piece stays within the limit
   pub piece_fits : kept.refused ≡ None → (more : ℕ) → length seen + more ≤ most_text → kept.begins + length kept.bytes + more ≤ most_text
@@ -168,7 +159,7 @@ module _ (text : ℕ → Item → List ℕ) (seen : List ℕ) (kept : Kept) (cou
         let taken = takes tells.items tells.fed in
         let is : given ≡ taken.added = taken.is ∙ ap (λ front. front ++ taken.added) empty in
         let all = tells.items ++ taken.added in
-        let now : IsTaken (seen ++ piece) all after = subst (λ refused. MatchOption refused (IsTaken (seen ++ piece) all after) (IsRefusedSoFar (seen ++ piece) all)) still taken.holds in
+        let now : IsTaken (seen ++ piece) all after = subst (λ refused. MatchOption refused (IsTaken (seen ++ piece) all after) (IsRefusedSoFar (seen ++ piece) all after)) still taken.holds in
         omega (arith, tells.counted, ap length is, length-append tells.items taken.added, items_within exact (seen ++ piece) all after now, now.short)
 
     -- the piece is refused, or those before were

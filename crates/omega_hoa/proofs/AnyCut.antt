@@ -21,18 +21,18 @@ IsEnd seen items None = IsStreamText seen items
 IsEnd seen items (Some refusal) = IsStreamFault seen items refusal
 
 -- bytes that are refused however they go on are refused
-refused_now : (seen : List ℕ) (items : List Item) (refusal : Refusal) → (refusal ≡ Text TooLong → ⊥) → IsRefusedSoFar seen items refusal → IsStreamFault seen items refusal
-refused_now seen items refusal within so_far = elim so_far [
+refused_now : (seen : List ℕ) (items : List Item) (kept : Kept) (refusal : Refusal) → (refusal ≡ Text TooLong → ⊥) → IsRefusedSoFar seen items kept refusal → IsStreamFault seen items refusal
+refused_now seen items kept refusal within so_far = elim so_far [
   | inl long ↦ absurd (within long.0)
   | inr always ↦ subst (λ source. IsStreamFault source items refusal) (append-nil seen) (always [])
 ]
 
 -- what was refused before, or what the end refuses
 refused_at_end : (seen : List ℕ) (items : List Item) (kept : Kept) (refusal : Refusal) (before : Option Refusal) → (refusal ≡ Text TooLong → ⊥)
-    → MatchOption before (IsTaken seen items kept) (IsRefusedSoFar seen items) → MatchOption before (IsStreamFault seen items refusal) (λ said. refusal ≡ said) → IsStreamFault seen items refusal
+    → MatchOption before (IsTaken seen items kept) (IsRefusedSoFar seen items kept) → MatchOption before (IsStreamFault seen items refusal) (λ said. refusal ≡ said) → IsStreamFault seen items refusal
 refused_at_end seen items kept refusal None within fed answered = answered
 refused_at_end seen items kept refusal (Some said) within fed answered =
-    refused_now seen items refusal within (subst (IsRefusedSoFar seen items) (sym answered) fed)
+    refused_now seen items kept refusal within (subst (IsRefusedSoFar seen items kept) (sym answered) fed)
 
 ended : (seen : List ℕ) (items : List Item) (kept : Kept) (answer : Option Refusal) → (answer ≡ Some (Text TooLong) → ⊥) → IsFed seen items kept → IsAnsweredAtEnd seen items kept answer → IsEnd seen items answer
 ended seen items kept None within fed answered = answered
@@ -40,7 +40,7 @@ ended seen items kept (Some refusal) within fed answered =
     refused_at_end seen items kept refusal kept.refused (λ long. within (ap (λ said. Some said) long)) fed answered
 
 module _ (readings : Readings) (exact : GoesOneWay hoa_format) (cuts_one : CutsAreOne hoa_format) (seen : List ℕ) where
-  ends_one : (items others : List Item) (one other : Option Refusal) → IsEnd seen items one → IsEnd seen others other → (items ≡ others) × AnswersAreAlike one other
+  ends_one : (items others : List Item) (one other : Option Refusal) → IsEnd seen items one → IsEnd seen others other → (items ≡ others) × AnswersAreAlike seen one other
   ends_one items others None None here there = (
     streams_one readings there.lexemes items others (subst (λ ls. IsStream ls items) (cuts_one seen here.lexemes there.lexemes here.cut there.cut) here.stream) there.stream,
     tt,
@@ -51,6 +51,6 @@ module _ (readings : Readings) (exact : GoesOneWay hoa_format) (cuts_one : CutsA
 
   pub cuts_change_nothing : (items others : List Item) (kept left : Kept) (one other : Option Refusal) → IsFed seen items kept → IsFed seen others left
       → (one ≡ Some (Text TooLong) → ⊥) → (other ≡ Some (Text TooLong) → ⊥) → IsAnsweredAtEnd seen items kept one → IsAnsweredAtEnd seen others left other
-      → (items ≡ others) × AnswersAreAlike one other
+      → (items ≡ others) × AnswersAreAlike seen one other
   cuts_change_nothing items others kept left one other fed feeds within short here there =
       ends_one items others one other (ended seen items kept one within fed here) (ended seen others left other short feeds there)

@@ -1,10 +1,9 @@
 -- A text is one stream, or is refused in one way, behind the same items.
-use Rattle.std.proofs.Common.{◌≡◌, ℕ, ◌⊎◌, true, List, [], ◌∷◌, ◌++◌, refl, sym, ap, subst, ◌∙◌, inl, inr, append_assoc, append-nil}
+use Rattle.std.proofs.Common.{◌≡◌, ℕ, ◌⊎◌, true, List, [], ◌∷◌, ◌++◌, length, refl, sym, ap, subst, ◌∙◌, inl, inr, append_assoc, append-nil}
 use Rattle.omega_text.specs.Cases.{never, or_text}
 use Rattle.omega_text.specs.Cut.{Cuts, IsCut}
 use Rattle.omega_text.specs.Format.{GoesOneWay}
 use Rattle.omega_text.specs.Lexeme.{Lexeme}
-use Rattle.omega_text.specs.Refusal.{number_of}
 use Rattle.omega_text.specs.hoa.Format.{hoa_format}
 use Rattle.omega_text.specs.declared.hoa.kind.HoaKind.{HoaKind}
 use Rattle.omega_text.specs.declared.hoa.kind.HoaKind.TheVariants.{End, Abort}
@@ -12,7 +11,7 @@ use Rattle.omega_text.specs.declared.refusal.Refusal.{Refusal}
 use Rattle.omega_text.specs.declared.refusal.Refusal.TheVariants.{Text}
 use Rattle.omega_text.specs.declared.refusal.text.TextFault.{TextFault}
 use Rattle.omega_text.specs.declared.refusal.text.TextFault.TheVariants.{Lex, Number, Syntax, TooLong}
-use Rattle.omega_hoa.specs.Laws.{AreAlike}
+use Rattle.omega_hoa.specs.Laws.{AreAlike, AreOfSegment}
 use Rattle.omega_hoa.specs.Segment.{IsSegmentFault}
 use Rattle.omega_hoa.specs.Stream.{IsFaultInside, IsFaultOutside, IsItemOf, IsOpen, IsRefusedBehind, IsSegment, IsStream, IsStreamFault, Opens, is_end}
 use Rattle.omega_hoa.specs.declared.item.Item.{Item}
@@ -123,6 +122,10 @@ module _ (exact : GoesOneWay hoa_format) (source : List ℕ) where
         | inr goes ↦ inr (record { more = goes.more; is = ap (λ it. it ∷ ones) same ∙ ap (λ all. other ∷ all) goes.is; cuts = goes.cuts })
       ]
 
+-- two refusals behind these tokens are the same, or both are 3 and of these as one segment
+abbrev Agree : List (Lexeme HoaKind) → Refusal → Refusal → Type 0
+Agree left one other = (one ≡ other) ⊎ AreOfSegment left one other
+
 -- the tokens behind whole segments are none, or those of a segment so far
 abbrev IsPart : List (Lexeme HoaKind) → Type 0
 IsPart rest = (rest ≡ []) ⊎ IsOpen rest
@@ -130,21 +133,21 @@ IsPart rest = (rest ≡ []) ⊎ IsOpen rest
 -- why a text is refused behind whole segments, in four cases: a fault of tokens, a token other than `HOA:`, a segment without end, a segment that is no automaton
 data Why (source : List ℕ) (rest : List (Lexeme HoaKind)) (from : ℕ) (refusal : Refusal) : Type 0 where
   lexical : IsPart rest → (fault : TextFault) → refusal ≡ Text fault → hoa_format.faults source from fault → Why source rest from refusal
-  stray : rest ≡ [] → (lexeme : Lexeme HoaKind) → hoa_format.follows source from lexeme → (Opens lexeme → ⊥) → number_of refusal ≡ 3 → Why source rest from refusal
-  short : IsOpen rest → hoa_format.ends source from → number_of refusal ≡ 3 → Why source rest from refusal
+  stray : rest ≡ [] → (lexeme : Lexeme HoaKind) → hoa_format.follows source from lexeme → (Opens lexeme → ⊥) → refusal ≡ Text (Syntax lexeme.span.start) → Why source rest from refusal
+  short : IsOpen rest → hoa_format.ends source from → refusal ≡ Text (Syntax (length source)) → Why source rest from refusal
   faulty : IsSegment End rest → IsSegmentFault rest refusal → Why source rest from refusal
 
 why_outside : (source : List ℕ) (rest : List (Lexeme HoaKind)) (from : ℕ) (refusal : Refusal) → rest ≡ [] → or_text (IsFaultOutside source from) never refusal → Why source rest from refusal
 why_outside source rest from (Text (Lex at)) none fault = lexical (inl none) (Lex at) refl fault
 why_outside source rest from (Text (Number at)) none fault = lexical (inl none) (Number at) refl fault
-why_outside source rest from (Text (Syntax at)) none fault = stray none fault.0 fault.1 fault.2 refl
+why_outside source rest from (Text (Syntax at)) none fault = stray none fault.0 fault.1 fault.2 (ap (λ place. Text (Syntax place)) fault.3)
 why_outside source rest from (Text TooLong) none fault = absurd fault
 why_outside source rest from refusal none fault = absurd fault
 
 why_inside : (source : List ℕ) (rest : List (Lexeme HoaKind)) (from : ℕ) (refusal : Refusal) → IsOpen rest → or_text (IsFaultInside source from) never refusal → Why source rest from refusal
 why_inside source rest from (Text (Lex at)) begun fault = lexical (inr begun) (Lex at) refl fault
 why_inside source rest from (Text (Number at)) begun fault = lexical (inr begun) (Number at) refl fault
-why_inside source rest from (Text (Syntax at)) begun fault = short begun fault.0 refl
+why_inside source rest from (Text (Syntax at)) begun fault = short begun fault.0 (ap (λ place. Text (Syntax place)) fault.1)
 why_inside source rest from (Text TooLong) begun fault = absurd fault
 why_inside source rest from refusal begun fault = absurd fault
 
@@ -197,6 +200,11 @@ module _ (readings : Readings) (exact : GoesOneWay hoa_format) (source : List �
   none_at from to [] none cuts = (refl, cuts)
   none_at from to (lexeme ∷ more) none cuts = absurd (none lexeme cuts.0)
 
+  -- no tokens are cut between one place and itself
+  nothing_cut : (from to : ℕ) (more : List (Lexeme HoaKind)) → more ≡ [] → Cuts hoa_format source from more to → from ≡ to
+  nothing_cut from to [] none cuts = cuts
+  nothing_cut from to (lexeme ∷ more) none cuts = absurd (let clash : lexeme ∷ more ≡ [] = none in cc)
+
   -- a token that is not `HOA:` begins no segment
   stray_begins : (from to : ℕ) (more : List (Lexeme HoaKind)) (lexeme first : Lexeme HoaKind) (others : List (Lexeme HoaKind)) → hoa_format.follows source from lexeme → (Opens lexeme → ⊥)
       → Cuts hoa_format source from more to → more ≡ first ∷ others → Opens first → ⊥
@@ -221,7 +229,7 @@ module _ (readings : Readings) (exact : GoesOneWay hoa_format) (source : List �
 
   -- a fault of tokens, and another refusal there
   alike_lexical : (rest left : List (Lexeme HoaKind)) (from to : ℕ) (one other : Refusal) (fault : TextFault) → IsPart rest → one ≡ Text fault → hoa_format.faults source from fault
-      → Why source left to other → from ≡ to → rest ≡ left → AreAlike one other
+      → Why source left to other → from ≡ to → rest ≡ left → Agree left one other
   alike_lexical rest left from to one other fault part is faults (lexical another said equal there) here same =
       let agree : fault ≡ said = exact.one_fault source from fault said faults (subst (λ n. hoa_format.faults source n said) (sym here) there) in
       inl (is ∙ ap (λ it. Text it) agree ∙ sym equal)
@@ -233,8 +241,8 @@ module _ (readings : Readings) (exact : GoesOneWay hoa_format) (source : List �
       absurd (part_or_whole left [] rest part whole (append-nil left ∙ sym same))
 
   -- a token other than `HOA:`
-  alike_stray : (more left : List (Lexeme HoaKind)) (from to : ℕ) (one other : Refusal) (lexeme : Lexeme HoaKind) → hoa_format.follows source from lexeme → (Opens lexeme → ⊥) → number_of one ≡ 3
-      → Why source left to other → Cuts hoa_format source from more to → more ≡ left → AreAlike one other
+  alike_stray : (more left : List (Lexeme HoaKind)) (from to : ℕ) (one other : Refusal) (lexeme : Lexeme HoaKind) → hoa_format.follows source from lexeme → (Opens lexeme → ⊥) → one ≡ Text (Syntax lexeme.span.start)
+      → Why source left to other → Cuts hoa_format source from more to → more ≡ left → Agree left one other
   alike_stray more left from to one other lexeme follows closed three (lexical part fault is faults) cuts same = elim part [
     | inl none ↦ absurd (elim more as (λ ls. ls ≡ left → Cuts hoa_format source from ls to → ⊥) [
       | [] ↦ λ same cuts. exact.no_token_and_fault source from lexeme fault follows (subst (λ n. hoa_format.faults source n fault) (sym cuts) faults)
@@ -242,33 +250,40 @@ module _ (readings : Readings) (exact : GoesOneWay hoa_format) (source : List �
     ] same cuts)
     | inr begun ↦ absurd (stray_begins from to more lexeme begun.first begun.rest follows closed cuts (same ∙ begun.split) begun.opens)
   ]
-  alike_stray more left from to one other lexeme follows closed three (stray empty another there also third) cuts same = inr (three, third)
-  alike_stray more left from to one other lexeme follows closed three (short begun ends third) cuts same = inr (three, third)
+  alike_stray more left from to one other lexeme follows closed three (stray empty another there also third) cuts same =
+      let place = nothing_cut from to more (same ∙ empty) cuts in
+      let token = exact.one_token source from lexeme another follows (subst (λ n. hoa_format.follows source n another) (sym place) there) in
+      inl (three ∙ ap (λ it. Text (Syntax it.span.start)) token ∙ sym third)
+  alike_stray more left from to one other lexeme follows closed three (short begun ends third) cuts same =
+      absurd (stray_begins from to more lexeme begun.first begun.rest follows closed cuts (same ∙ begun.split) begun.opens)
   alike_stray more left from to one other lexeme follows closed three (faulty whole fault) cuts same =
       let first = segment_opens End left [] whole in
       absurd (stray_begins from to more lexeme first.0 first.1 follows closed cuts (same ∙ sym (append-nil left) ∙ first.2) first.3)
 
   -- a segment without end
-  alike_short : (rest left : List (Lexeme HoaKind)) (from to : ℕ) (one other : Refusal) → IsOpen rest → hoa_format.ends source from → number_of one ≡ 3
-      → Why source left to other → from ≡ to → rest ≡ left → AreAlike one other
+  alike_short : (rest left : List (Lexeme HoaKind)) (from to : ℕ) (one other : Refusal) → IsOpen rest → hoa_format.ends source from → one ≡ Text (Syntax (length source))
+      → Why source left to other → from ≡ to → rest ≡ left → Agree left one other
   alike_short rest left from to one other begun ends three (lexical part fault is faults) here same =
       absurd (exact.no_fault_at_end source to fault faults (subst (hoa_format.ends source) here ends))
-  alike_short rest left from to one other begun ends three (stray empty lexeme follows closed third) here same = inr (three, third)
-  alike_short rest left from to one other begun ends three (short begins there third) here same = inr (three, third)
+  alike_short rest left from to one other begun ends three (stray empty lexeme follows closed third) here same = absurd (open_is_some rest begun (same ∙ empty))
+  alike_short rest left from to one other begun ends three (short begins there third) here same = inl (three ∙ sym third)
   alike_short rest left from to one other begun ends three (faulty whole fault) here same = absurd (open_or_whole left [] rest begun whole (append-nil left ∙ sym same))
 
   -- a segment that is no automaton
-  alike_faulty : (rest more left : List (Lexeme HoaKind)) (to : ℕ) (one other : Refusal) → IsSegment End rest → IsSegmentFault rest one → Why source left to other → rest ++ more ≡ left → AreAlike one other
+  alike_faulty : (rest more left : List (Lexeme HoaKind)) (to : ℕ) (one other : Refusal) → IsSegment End rest → IsSegmentFault rest one → Why source left to other → rest ++ more ≡ left → Agree left one other
   alike_faulty rest more left to one other whole fault (lexical part said is faults) same = absurd (part_or_whole rest more left part whole same)
   alike_faulty rest more left to one other whole fault (stray empty lexeme follows closed third) same = absurd (segment_is_some End rest more whole (same ∙ empty))
   alike_faulty rest more left to one other whole fault (short begun ends third) same = absurd (open_or_whole rest more left begun whole same)
   alike_faulty rest more left to one other whole fault (faulty ended said) same =
       let parts = segments_one End End rest left more [] refl refl whole ended (same ∙ sym (append-nil left)) in
-      readings.fault_one left one other (subst (λ ls. IsSegmentFault ls one) parts.same fault) said
+      elim (readings.fault_one left one other (subst (λ ls. IsSegmentFault ls one) parts.same fault) said) [
+        | inl equal ↦ inl equal
+        | inr unread ↦ inr (unread ended)
+      ]
 
   -- two refusals at one place are alike
   alike : (rest more left : List (Lexeme HoaKind)) (from to : ℕ) (one other : Refusal) → Why source rest from one → Why source left to other → Cuts hoa_format source from more to → rest ++ more ≡ left
-      → AreAlike one other
+      → Agree left one other
   alike rest more left from to one other (lexical part fault is faults) there cuts same =
       let none = none_at from to more (λ lexeme follows. exact.no_token_and_fault source from lexeme fault follows faults) cuts in
       alike_lexical rest left from to one other fault part is faults there none.1 (self_append rest more left none.0 same)
@@ -281,7 +296,7 @@ module _ (readings : Readings) (exact : GoesOneWay hoa_format) (source : List �
 
   -- of two refusals, the second where the first is or behind
   faults_alike : (items others : List Item) (one other : Refusal) → (here : IsStreamFault source items one) → (there : IsStreamFault source others other)
-      → GoesOn source (here.front ++ here.rest) (there.front ++ there.rest) here.from there.from → (items ≡ others) × AreAlike one other
+      → GoesOn source (here.front ++ here.rest) (there.front ++ there.rest) here.from there.from → (items ≡ others) × AreAlike source one other
   faults_alike items others one other here there goes =
       let reason = why source here.rest here.from one here.refused in
       let another = why source there.rest there.from other there.refused in
@@ -289,14 +304,23 @@ module _ (readings : Readings) (exact : GoesOneWay hoa_format) (source : List �
       let none : NoItem there.rest = subst NoItem (append-nil there.rest) (refused_none there.rest [] there.from there.from other another refl) in
       let parts = items_one readings here.front there.front (here.rest ++ goes.more) there.rest items others here.before there.before
       (refused_none here.rest goes.more here.from there.from one reason goes.cuts) none same in
-      (parts.same, alike here.rest goes.more there.rest here.from there.from one other reason another goes.cuts parts.behind)
+      let agree = alike here.rest goes.more there.rest here.from there.from one other reason another goes.cuts parts.behind in (
+        parts.same,
+        elim agree [
+          | inl equal ↦ inl equal
+          | inr unread ↦ inr (there.front, there.rest, there.from, there.cuts, unread)
+        ],
+      )
 
   -- alike the other way round
-  flipped : (one other : Refusal) → AreAlike one other → AreAlike other one
-  flipped one other both = elim both [ inl same ↦ inl (sym same) | inr three ↦ inr (three.1, three.0) ]
+  flipped : (one other : Refusal) → AreAlike source one other → AreAlike source other one
+  flipped one other both = elim both [
+    | inl same ↦ inl (sym same)
+    | inr (front, segment, end, cuts, are) ↦ inr (front, segment, end, cuts, record { whole = are.whole; unread = are.unread; first = are.second; second = are.first })
+  ]
 
   -- a text is refused in one way, behind the same items
-  pub stream_faults_one : (items others : List Item) (one other : Refusal) → IsStreamFault source items one → IsStreamFault source others other → (items ≡ others) × AreAlike one other
+  pub stream_faults_one : (items others : List Item) (one other : Refusal) → IsStreamFault source items one → IsStreamFault source others other → (items ≡ others) × AreAlike source one other
   stream_faults_one items others one other here there =
       elim (one_goes_on exact source 0 here.from there.from (here.front ++ here.rest) (there.front ++ there.rest) here.cuts there.cuts) [
         | inl goes ↦ faults_alike items others one other here there goes

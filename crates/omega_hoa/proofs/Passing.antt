@@ -6,7 +6,8 @@ use Rattle.omega_text.specs.declared.hoa.kind.HoaKind.{HoaKind}
 use Rattle.omega_text.specs.declared.hoa.kind.HoaKind.TheVariants.{End, Abort}
 use Rattle.omega_text.specs.declared.hoa.tokenizer.HoaTokenizer.{HoaTokenizer}
 use Rattle.omega_text.specs.hoa.scanning.Reading.{HasRead}
-use Rattle.omega_text.specs.hoa.scanning.Passing.{HasPassed, HasRoom, NoneMarks, is_mark}
+use Rattle.omega_text.specs.hoa.Pieces.{NoneMarks, is_mark}
+use Rattle.omega_text.specs.hoa.scanning.Passing.{HasPassed, HasRoom}
 use Rattle.omega_hoa.specs.Feeding.{IsDivided, IsRest}
 use Rattle.omega_hoa.specs.Stream.{IsOpen, NoneEnds, is_end}
 use Rattle.omega_hoa.specs.dividing.Next.{IsProgress, IsProgressSome}
@@ -70,8 +71,9 @@ room_inside bytes first place progress within some =
 -- the bytes that were passed were read
 pub passed_on : (bytes : List ℕ) (first from to : ℕ) (progress : Progress) (tokenizer : HoaTokenizer) (prior : List ℕ) (items : List Item) → from ≤ to → progress.division.inside ≡ true
     → (so_far : IsProgress bytes first from progress prior items) → HasPassed (prior ++ take from bytes) so_far.lexemes (take (to - from) (drop from bytes)) tokenizer
+    → tokenizer.fault ≡ progress.tokenizer.fault
     → IsProgress bytes first to (record { tokenizer = tokenizer; division = progress.division }) prior items
-passed_on bytes first from to progress tokenizer prior items forward inside so_far passed =
+passed_on bytes first from to progress tokenizer prior items forward inside so_far passed same =
     let lexemes = so_far.lexemes ++ passed.passed in
     let begins = progress.division.begins in
     let more = take (to - from) (drop from bytes) in
@@ -80,6 +82,7 @@ passed_on bytes first from to progress tokenizer prior items forward inside so_f
       there = so_far.there;
       lexemes = lexemes;
       read = subst (λ seen. HasRead seen lexemes tokenizer) all passed.read;
+      sound = same ∙ so_far.sound;
       divided = subst (λ seen. IsDivided seen lexemes items begins progress.division.inside) all
           (divided_on (prior ++ take from bytes) more lexemes items begins progress.division.inside
           (divided_more (prior ++ take from bytes) so_far.lexemes passed.passed items begins progress.division inside passed.plain so_far.divided));

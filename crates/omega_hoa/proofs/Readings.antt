@@ -1,7 +1,8 @@
 -- What the tokens of a segment are is one.
-use Rattle.std.proofs.Common.{◌≡◌, Some, None, List, [], refl, sym, ap, subst, ◌∙◌, inl, inr}
+use Rattle.std.proofs.Common.{◌≡◌, ◌⊎◌, Some, None, List, [], refl, sym, ap, subst, ◌∙◌, inl, inr}
 use Rattle.omega_text.specs.Lexeme.{Lexeme}
 use Rattle.omega_text.specs.declared.hoa.kind.HoaKind.{HoaKind}
+use Rattle.omega_text.specs.declared.hoa.kind.HoaKind.TheVariants.{End}
 use Rattle.omega_text.specs.declared.refusal.Refusal.{Refusal}
 use Rattle.omega_text.specs.declared.refusal.Refusal.TheVariants.{Automaton as AutomatonRefusal, Game, Io, Memory, Task, Text}
 use Rattle.omega_text.specs.declared.refusal.text.TextFault.TheVariants.{Lex, Number, Syntax, TooLong}
@@ -12,8 +13,9 @@ use Rattle.omega_automaton.specs.Automaton.{Description}
 use Rattle.omega_automaton.specs.Faults.{fault_of}
 use Rattle.omega_automaton.specs.Laws.{MeaningsAreOne}
 use Rattle.omega_automaton.specs.Meaning.{Means}
-use Rattle.omega_hoa.specs.Laws.{AreAlike}
+use Rattle.omega_hoa.specs.Laws.{AreOfSegment}
 use Rattle.omega_hoa.specs.Segment.{HasMeaningFault, IsAutomatonOf, IsRawOf, IsSegmentFault}
+use Rattle.omega_hoa.specs.Stream.{IsSegment}
 
 module _ (raws_one : RawsAreOne) (lexemes : List (Lexeme HoaKind)) where
   -- one automaton as it is written
@@ -31,8 +33,8 @@ module _ (raws_one : RawsAreOne) (lexemes : List (Lexeme HoaKind)) where
       let same : Some one ≡ Some other = sym here.has ∙ ap fault_of (raw_one here.raw there.raw here.written there.written) ∙ there.has in
       cc
 
-  pub fault_one : (one other : Refusal) → IsSegmentFault lexemes one → IsSegmentFault lexemes other → AreAlike one other
-  fault_one (Text (Syntax at)) (Text (Syntax place)) here there = inr (refl, refl)
+  pub fault_one : (one other : Refusal) → IsSegmentFault lexemes one → IsSegmentFault lexemes other → (one ≡ other) ⊎ (IsSegment End lexemes → AreOfSegment lexemes one other)
+  fault_one (Text (Syntax at)) (Text (Syntax place)) here there = inr (λ whole. record { whole = whole; unread = here; first = refl; second = refl })
   fault_one (Text (Syntax at)) (AutomatonRefusal fault) here there = absurd (here there.raw there.written)
   fault_one (AutomatonRefusal fault) (Text (Syntax at)) here there = absurd (there here.raw here.written)
   fault_one (AutomatonRefusal fault) (AutomatonRefusal other) here there = inl (ap (λ said. AutomatonRefusal said) (meaning_fault_one fault other here there))
@@ -68,7 +70,8 @@ module _ (raws_one : RawsAreOne) (lexemes : List (Lexeme HoaKind)) where
 -- of the tokens of a segment at most one automaton is read, its faults are alike, and it does not have both
 pub record Readings : Type 0 where
   pub automaton_one : (lexemes : List (Lexeme HoaKind)) (one other : Description) → IsAutomatonOf lexemes one → IsAutomatonOf lexemes other → one ≡ other
-  pub fault_one : (lexemes : List (Lexeme HoaKind)) (one other : Refusal) → IsSegmentFault lexemes one → IsSegmentFault lexemes other → AreAlike one other
+  pub fault_one : (lexemes : List (Lexeme HoaKind)) (one other : Refusal) → IsSegmentFault lexemes one → IsSegmentFault lexemes other
+      → (one ≡ other) ⊎ (IsSegment End lexemes → AreOfSegment lexemes one other)
   pub not_both : (lexemes : List (Lexeme HoaKind)) (automaton : Description) (refusal : Refusal) → IsAutomatonOf lexemes automaton → IsSegmentFault lexemes refusal → ⊥
 
 pub readings_of : RawsAreOne → MeaningsAreOne → Readings

@@ -15,9 +15,9 @@ use Rattle.omega_text.specs.declared.refusal.Refusal.{Refusal}
 use Rattle.omega_text.specs.declared.refusal.Refusal.TheVariants.{Text}
 use Rattle.omega_text.specs.declared.refusal.text.TextFault.{TextFault}
 use Rattle.omega_text.specs.declared.refusal.text.TextFault.TheVariants.{Lex, Number, Syntax, TooLong}
-use Rattle.omega_hoa.specs.Feeding.{IsDivided, IsRest}
+use Rattle.omega_hoa.specs.Feeding.{IsDivided, IsRefusedThen, IsRest}
 use Rattle.omega_hoa.specs.Stream.{IsFaultInside, IsFaultOutside, IsRefusedBehind, IsStreamFault}
-use Rattle.omega_hoa.specs.dividing.Next.{IsNext, IsNextSettled, IsNothing, IsProgress, IsRefusedNow, IsRefusedThen, IsWindow}
+use Rattle.omega_hoa.specs.dividing.Next.{IsNext, IsNextSettled, IsNothing, IsProgress, IsRefusedNow, IsWindow}
 use Rattle.omega_hoa.specs.declared.division.Division.{Division}
 use Rattle.omega_hoa.specs.declared.item.Item.{Item}
 use Rattle.omega_hoa.specs.declared.progress.Progress.{Progress}
@@ -177,16 +177,17 @@ module _ (bytes : List ℕ) (first place : ℕ) (progress : Progress) (prior : L
   }
 
   -- the byte was read
-  pub progressed : (byte : ℕ) (settled : Settled) (tokenizer : HoaTokenizer) (division : Division) (all : List Item) → byte ≡ get_or bytes place 0 → progress.division.begins ≤ division.begins
+  pub progressed : (byte : ℕ) (settled : Settled) (tokenizer : HoaTokenizer) (division : Division) (all : List Item) → byte ≡ get_or bytes place 0 → progress.division.begins ≤ division.begins → tokenizer.fault ≡ None
       → HasRead ((prior ++ take place bytes) ++ byte ∷ []) (so_far.lexemes ++ settled_lexemes ((prior ++ take place bytes) ++ byte ∷ []) settled) tokenizer
       → IsDivided ((prior ++ take place bytes) ++ byte ∷ []) (so_far.lexemes ++ settled_lexemes ((prior ++ take place bytes) ++ byte ∷ []) settled) all division.begins division.inside
       → IsProgress bytes first (place + 1) (record { tokenizer = tokenizer; division = division }) prior all
-  progressed byte settled tokenizer division all is forward read divided =
+  progressed byte settled tokenizer division all is forward sound read divided =
       let lexemes = so_far.lexemes ++ settled_lexemes ((prior ++ take place bytes) ++ byte ∷ []) settled in
       record {
         there = so_far.there;
         lexemes = lexemes;
         read = subst (λ seen. HasRead seen lexemes tokenizer) (one_more byte is) read;
+        sound = sound;
         divided = subst (λ seen. IsDivided seen lexemes all division.begins division.inside) (one_more byte is) divided;
         from = omega (arith, so_far.from, forward);
         short = so_far.short;

@@ -8,8 +8,8 @@ use Rattle.omega_text.specs.declared.refusal.Refusal.{Refusal}
 use Rattle.omega_text.specs.declared.refusal.Refusal.TheVariants.{Text}
 use Rattle.omega_text.specs.declared.refusal.text.TextFault.TheVariants.{TooLong}
 use Rattle.omega_hoa.specs.Kept.{Kept}
+use Rattle.omega_hoa.specs.Feeding.{IsRefusedThen}
 use Rattle.omega_hoa.specs.Stream.{IsStreamFault, IsStreamRefusal}
-use Rattle.omega_hoa.specs.dividing.Next.{IsRefusedThen}
 use Rattle.omega_hoa.specs.declared.item.Item.{Item}
 use Rattle.omega_hoa.proofs.Ones.{of_memory}
 

@@ -1,13 +1,14 @@
 -- What a stream that was fed with bytes keeps of them, and what was given of them.
-use Rattle.std.specs.Prelude.{◌≡◌, ℕ, ◌+◌, ◌<◌, ◌≤◌, ◌⊎◌, Bool, true, false, List, [], ◌++◌, length, drop, MatchOption}
+use Rattle.std.specs.Prelude.{◌≡◌, ℕ, ◌+◌, ◌<◌, ◌≤◌, ◌⊎◌, Bool, true, false, None, List, [], ◌++◌, length, drop, MatchOption}
 use Rattle.omega_text.specs.Cut.{Cuts}
 use Rattle.omega_text.specs.Lexeme.{Lexeme}
 use Rattle.omega_text.specs.Limits.{most_text}
 use Rattle.omega_text.specs.hoa.Format.{hoa_format}
+use Rattle.omega_text.specs.hoa.Pieces.{Settles}
 use Rattle.omega_text.specs.hoa.scanning.Reading.{HasRead}
 use Rattle.omega_text.specs.declared.hoa.kind.HoaKind.{HoaKind}
 use Rattle.omega_text.specs.declared.refusal.Refusal.{Refusal}
-use Rattle.omega_text.specs.declared.refusal.Refusal.TheVariants.{Text}
+use Rattle.omega_text.specs.declared.refusal.Refusal.TheVariants.{Memory, Text}
 use Rattle.omega_text.specs.declared.refusal.text.TextFault.TheVariants.{TooLong}
 use Rattle.omega_hoa.specs.Kept.{Kept}
 use Rattle.omega_hoa.specs.Stream.{IsOpen, IsStream, IsStreamFault}
@@ -27,34 +28,41 @@ pub record IsDivided (seen : List ℕ) (lexemes : List (Lexeme HoaKind)) (items 
   pub behind : IsRest inside rest
   pub cuts : (more : List ℕ) → Cuts hoa_format (seen ++ more) 0 front begins
 
--- the bytes so far were taken, and the items of their whole segments given
+-- the bytes so far were taken, no fault of tokens is settled, and the items of their whole segments were given;
+-- `tied` says of the tokenizer that it stands there, which the next call needs
 pub record IsTaken (seen : List ℕ) (items : List Item) (kept : Kept) : Type 0 where
   pub lexemes : List (Lexeme HoaKind)
-  pub read : HasRead seen lexemes kept.tokenizer
+  pub settled : Settles seen lexemes
   pub divided : IsDivided seen lexemes items kept.begins kept.inside
   pub bytes : kept.bytes ≡ drop kept.begins seen
   pub total : length seen ≡ kept.begins + length kept.bytes
   pub short : length seen ≤ most_text
+  pub tied : HasRead seen lexemes kept.tokenizer
+  pub sound : kept.tokenizer.fault ≡ None
 
--- the bytes so far are refused however they go on, behind segments with these items; or a piece passed the limit
-abbrev pub IsRefusedSoFar : List ℕ → List Item → Refusal → Type 0
-IsRefusedSoFar seen items refusal = ((refusal ≡ Text TooLong) × ((piece : List ℕ) × (most_text < length (seen ++ piece))))
+-- the bytes passed the limit: those before the piece that did were taken, and none from there on
+pub record IsPastLimit (seen : List ℕ) (items : List Item) (kept : Kept) : Type 0 where
+  pub front : List ℕ
+  pub behind : List ℕ
+  pub split : seen ≡ front ++ behind
+  pub taken : IsTaken front items kept
+  pub long : most_text < length seen
+
+-- the bytes so far passed the limit, or are refused however they go on, behind segments with these items
+abbrev pub IsRefusedSoFar : List ℕ → List Item → Kept → Refusal → Type 0
+IsRefusedSoFar seen items kept refusal = ((refusal ≡ Text TooLong) × IsPastLimit seen items kept)
     ⊎ ((more : List ℕ) → IsStreamFault (seen ++ more) items refusal)
 
 -- a stream was fed with these bytes, and gave these items
 abbrev pub IsFed : List ℕ → List Item → Kept → Type 0
-IsFed seen items kept = MatchOption kept.refused (IsTaken seen items kept) (IsRefusedSoFar seen items)
-
--- some bytes were fed to a stream
-abbrev pub IsFedSome : Kept → Type 0
-IsFedSome kept = (seen : List ℕ) × (items : List Item) × IsFed seen items kept
-
--- some values were appended to a list
-abbrev pub Extends : {X : Type 0} → List X → List X → Type 0
-Extends {X} old new = (added : List X) × (new ≡ old ++ added)
+IsFed seen items kept = MatchOption kept.refused (IsTaken seen items kept) (IsRefusedSoFar seen items kept)
 
 -- some values were appended to a list, and of others with these behind them a fact holds
 pub record Appends {X : Type 0} (old new values : List X) (Holds : List X → Type 0) : Type 0 where
   pub added : List X
   pub is : new ≡ old ++ added
   pub holds : Holds (values ++ added)
+
+-- memory was refused, or the text is, however it goes on, behind the items that were appended
+abbrev pub IsRefusedThen : List ℕ → (old new items : List Item) → Refusal → Type 0
+IsRefusedThen seen old new items refusal = (refusal ≡ Memory) ⊎ Appends old new items (λ all. (more : List ℕ) → IsStreamFault (seen ++ more) all refusal)

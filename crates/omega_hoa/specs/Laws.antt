@@ -1,6 +1,7 @@
 -- What holds of texts of one automaton, of streams, of streams in pieces, and of automata in tokens, whatever the code does.
 use Rattle.std.specs.Prelude.{◌≡◌, ℕ, ◌⊎◌, List, ◌++◌, Option, Some, None, MatchOption}
 use Rattle.std.specs.List.{AllByRecursion}
+use Rattle.omega_text.specs.Cut.{Cuts}
 use Rattle.omega_text.specs.Lexeme.{Lexeme}
 use Rattle.omega_text.specs.Reading.{IsTokenOf}
 use Rattle.omega_text.specs.Refusal.{number_of}
@@ -16,13 +17,21 @@ use Rattle.omega_automaton.specs.Automaton.{Description}
 use Rattle.omega_hoa.specs.Alone.{IsAutomatonRefusal, IsAutomatonText}
 use Rattle.omega_hoa.specs.Feeding.{IsFed}
 use Rattle.omega_hoa.specs.Kept.{Kept}
-use Rattle.omega_hoa.specs.Segment.{IsRawOf}
+use Rattle.omega_hoa.specs.Segment.{IsNoRaw, IsRawOf}
 use Rattle.omega_hoa.specs.Stream.{IsSegment, IsStreamFault, IsStreamRefusal, IsStreamText}
 use Rattle.omega_hoa.specs.declared.item.Item.{Item}
 
--- two refusals are the same, but for the place of 3, which inside a segment is shown by tests alone
-abbrev pub AreAlike : Refusal → Refusal → Type 0
-AreAlike one other = (one ≡ other) ⊎ ((number_of one ≡ 3) × (number_of other ≡ 3))
+-- two refusals 3 of the tokens of one whole segment, which are those of no automaton: their places are shown by tests alone
+pub record AreOfSegment (segment : List (Lexeme HoaKind)) (one other : Refusal) : Type 0 where
+  pub whole : IsSegment End segment
+  pub unread : IsNoRaw segment
+  pub first : number_of one ≡ 3
+  pub second : number_of other ≡ 3
+
+-- two refusals of a text are the same, or both are 3 and of one segment of it that ends with `--END--`
+abbrev pub AreAlike : List ℕ → Refusal → Refusal → Type 0
+AreAlike source one other = (one ≡ other)
+    ⊎ ((front : List (Lexeme HoaKind)) × (segment : List (Lexeme HoaKind)) × (end : ℕ) × Cuts hoa_format source 0 (front ++ segment) end × AreOfSegment segment one other)
 
 -- a text is that of at most one automaton
 abbrev pub AutomataAreOne : Type 0
@@ -30,7 +39,7 @@ AutomataAreOne = (source : List ℕ) (one other : Description) → IsAutomatonTe
 
 -- a text that is not that of one automaton has at most one refusal
 abbrev pub RefusalsAreOne : Type 0
-RefusalsAreOne = (source : List ℕ) (one other : Refusal) → IsAutomatonRefusal source one → IsAutomatonRefusal source other → AreAlike one other
+RefusalsAreOne = (source : List ℕ) (one other : Refusal) → IsAutomatonRefusal source one → IsAutomatonRefusal source other → AreAlike source one other
 
 -- the text of an automaton has no refusal
 abbrev pub AutomataAreUnrefused : Type 0
@@ -47,7 +56,7 @@ StreamsAreOne = (source : List ℕ) (one other : List Item) → IsStreamText sou
 -- a text that is no stream is refused behind at most one list of items, and has at most one refusal
 abbrev pub StreamFaultsAreOne : Type 0
 StreamFaultsAreOne = (source : List ℕ) (items others : List Item) (one other : Refusal) → IsStreamFault source items one → IsStreamFault source others other
-    → (items ≡ others) × AreAlike one other
+    → (items ≡ others) × AreAlike source one other
 
 -- a stream has no refusal
 abbrev pub StreamsAreUnrefused : Type 0
@@ -62,18 +71,18 @@ abbrev pub IsAnsweredAtEnd : List ℕ → List Item → Kept → Option Refusal 
 IsAnsweredAtEnd seen items kept None = IsStreamText seen items
 IsAnsweredAtEnd seen items kept (Some refusal) = MatchOption kept.refused (IsStreamFault seen items refusal) (λ before. refusal ≡ before)
 
--- two answers are the same, but for the place of 3
-abbrev pub AnswersAreAlike : Option Refusal → Option Refusal → Type 0
-AnswersAreAlike None None = Unit {0}
-AnswersAreAlike None (Some other) = ⊥
-AnswersAreAlike (Some one) None = ⊥
-AnswersAreAlike (Some one) (Some other) = AreAlike one other
+-- two answers about a text are the same, but for the place of a 3 inside a segment
+abbrev pub AnswersAreAlike : List ℕ → Option Refusal → Option Refusal → Type 0
+AnswersAreAlike source None None = Unit {0}
+AnswersAreAlike source None (Some other) = ⊥
+AnswersAreAlike source (Some one) None = ⊥
+AnswersAreAlike source (Some one) (Some other) = AreAlike source one other
 
 -- two streams that were fed with the same bytes, in whichever pieces, and of which none passed the limit, gave the same items and answer alike at their ends
 abbrev pub CutsChangeNothing : Type 0
 CutsChangeNothing = (seen : List ℕ) (items others : List Item) (kept left : Kept) (one other : Option Refusal) → IsFed seen items kept → IsFed seen others left
     → (one ≡ Some (Text TooLong) → ⊥) → (other ≡ Some (Text TooLong) → ⊥) → IsAnsweredAtEnd seen items kept one → IsAnsweredAtEnd seen others left other
-    → (items ≡ others) × AnswersAreAlike one other
+    → (items ≡ others) × AnswersAreAlike seen one other
 
 -- the first of the tokens are a whole segment, which ends with `--END--` and is that of this automaton as it is written, and then come the rest
 pub record FillsSegment (tokens : List (Lexeme HoaKind)) (raw : RawAutomaton) (rest : List (Lexeme HoaKind)) : Type 0 where

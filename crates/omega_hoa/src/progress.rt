@@ -1,6 +1,5 @@
 ghost use Rattle.std.specs.Prelude.{◌+◌, ◌<◌, ◌≤◌, ℕ, List, length, IfErr, IfOk, IsTrue};
-ghost use Rattle.omega_hoa.specs.Feeding.{Extends};
-ghost use Rattle.omega_hoa.specs.dividing.Next.{IsNothing, IsProgress, IsProgressSome, IsReadAs, IsRefusedFrom};
+ghost use Rattle.omega_hoa.specs.dividing.Next.{Extends, IsNothing, IsProgress, IsProgressSome, IsReadAs, IsRefusedFrom};
 ghost use Rattle.omega_hoa.specs.declared.item.Item.{Item};
 
 use crate::division::{Division, take_all};

@@ -4,7 +4,7 @@ ghost use Rattle.omega_text.specs.declared.refusal.Refusal.TheVariants.{Memory, 
 ghost use Rattle.omega_text.specs.declared.refusal.text.TextFault.TheVariants.{TooLong};
 ghost use Rattle.omega_hoa.specs.declared.item.Item.{Item};
 ghost use Rattle.omega_hoa.specs.Stream.{IsStreamFault, IsStreamText};
-ghost use Rattle.omega_hoa.specs.dividing.Next.{IsProgressSome, IsReadAs, IsRefusedFrom, IsRefusedThen};
+ghost use Rattle.omega_hoa.specs.dividing.Next.{IsProgressSome, IsReadAs, IsRefusedFrom};
 
 use crate::division::Division;
 use crate::ending::{end_inside, end_outside};
@@ -28,7 +28,7 @@ pub struct Stream {
 
 impl Model for Stream {
     ghost use Rattle.omega_hoa.specs.Kept.{Kept};
-    ghost use Rattle.omega_hoa.specs.Feeding.{IsFedSome};
+    ghost use Rattle.omega_hoa.specs.dividing.Fed.{IsFedSome};
 
     ghost Value = { Kept };
 
@@ -39,7 +39,7 @@ impl Model for Stream {
 
 impl Stream {
     ghost use Rattle.std.specs.Result.{result_err};
-    ghost use Rattle.omega_hoa.specs.Feeding.{Appends, IsFed};
+    ghost use Rattle.omega_hoa.specs.Feeding.{Appends, IsFed, IsRefusedThen};
     ghost use Rattle.omega_hoa.specs.Laws.{IsAnsweredAtEnd};
 
     /// Before the first byte. No memory is taken.
@@ -58,7 +58,8 @@ impl Stream {
         }
     }
 
-    /// Reads the next piece, and appends the items of the segments that end in it. 1 to 4, 20 to 33 or 60.
+    /// Reads the next piece, and appends the items of the segments that end in it. 1 to 4, 20 to 33 or 60: in the call whose
+    /// piece settles it.
     ///
     /// A piece that would bring the bytes above `MOST_TEXT` is refused 4, and nothing of it is taken. After 60 the stream and
     /// `out` are as before, and the piece may be fed again. After any other refusal the items before it stand in `out`, and
@@ -70,7 +71,7 @@ impl Stream {
         ensures too_long { self.old.refused ≡ None → most_text < self.old.begins + length self.old.bytes + length piece.now
             → (result ≡ Err (Text TooLong)) × (self.new ≡ record self.old { refused = Some (Text TooLong) }) × (out.new.items ≡ out.old.items) }
         ensures memory { result ≡ Err Memory → (self.new ≡ self.old) × (out.new.items ≡ out.old.items) }
-        ensures taken { self.old.refused ≡ None → self.old.begins + length self.old.bytes + length piece.now ≤ most_text → (result ≡ Err Memory → ⊥)
+        ensures taken { (result ≡ Err Memory → ⊥)
             → (seen : List ℕ) (items : List Item) → IsFed seen items self.old → Appends out.old.items out.new.items items (λ all. IsFed (seen ++ piece.now) all self.new) }
         ensures refused { self.old.refused ≡ None → self.old.begins + length self.old.bytes + length piece.now ≤ most_text
             → IfErr result (λ refusal. (seen : List ℕ) (items : List Item) → IsFed seen items self.old → IsRefusedThen (seen ++ piece.now) out.old.items out.new.items items refusal) }
@@ -112,7 +113,7 @@ impl Stream {
         ensures too_long { most_text < self.old.begins + length self.old.bytes + length piece.now
             → (result ≡ Err (Text TooLong)) × (self.new ≡ record self.old { refused = Some (Text TooLong) }) × (out.new.items ≡ out.old.items) }
         ensures memory { result ≡ Err Memory → (self.new ≡ self.old) × (out.new.items ≡ out.old.items) }
-        ensures taken { self.old.begins + length self.old.bytes + length piece.now ≤ most_text → (result ≡ Err Memory → ⊥)
+        ensures taken { (result ≡ Err Memory → ⊥)
             → (seen : List ℕ) (items : List Item) → IsFed seen items self.old → Appends out.old.items out.new.items items (λ all. IsFed (seen ++ piece.now) all self.new) }
         ensures refused { self.old.begins + length self.old.bytes + length piece.now ≤ most_text
             → IfErr result (λ refusal. (seen : List ℕ) (items : List Item) → IsFed seen items self.old → IsRefusedThen (seen ++ piece.now) out.old.items out.new.items items refusal) }

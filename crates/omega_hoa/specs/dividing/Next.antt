@@ -11,7 +11,7 @@ use Rattle.omega_text.specs.declared.hoa.placed.PlacedToken.{PlacedToken}
 use Rattle.omega_text.specs.declared.hoa.placed.Settled.{Settled}
 use Rattle.omega_text.specs.declared.refusal.Refusal.{Refusal}
 use Rattle.omega_text.specs.declared.refusal.Refusal.TheVariants.{Memory}
-use Rattle.omega_hoa.specs.Feeding.{Appends, IsDivided}
+use Rattle.omega_hoa.specs.Feeding.{Appends, IsDivided, IsRefusedThen}
 use Rattle.omega_hoa.specs.Stream.{IsStreamFault}
 use Rattle.omega_hoa.specs.declared.division.Division.{Division}
 use Rattle.omega_hoa.specs.declared.item.Item.{Item}
@@ -37,6 +37,10 @@ IsNextSome bytes first division token = (seen : List ℕ) × (lexemes : List (Le
 -- a text is refused however it goes on, or memory is
 abbrev pub IsRefusedNow : List ℕ → List Item → Refusal → Type 0
 IsRefusedNow seen items refusal = (refusal ≡ Memory) ⊎ ((more : List ℕ) → IsStreamFault (seen ++ more) items refusal)
+
+-- some values were appended to a list
+abbrev pub Extends : {X : Type 0} → List X → List X → Type 0
+Extends {X} old new = (added : List X) × (new ≡ old ++ added)
 
 -- the token was taken, and the item of a segment that it ends appended
 abbrev pub IsTakenAs : List ℕ → ℕ → Division → Option PlacedToken → (old new : List Item) → Division → Type 0
@@ -70,20 +74,17 @@ abbrev pub AreTakenAs : List ℕ → ℕ → Division → Settled → (old new :
 AreTakenAs bytes first division settled old new after = (seen : List ℕ) (lexemes : List (Lexeme HoaKind)) (items : List Item) → IsNextSettled bytes first division settled seen lexemes items
     → Appends old new items (λ all. IsDivided seen (lexemes ++ settled_lexemes seen settled) all after.begins after.inside)
 
--- memory was refused, or the text is, behind the items that were appended
-abbrev pub IsRefusedThen : List ℕ → (old new items : List Item) → Refusal → Type 0
-IsRefusedThen seen old new items refusal = (refusal ≡ Memory) ⊎ Appends old new items (λ all. (more : List ℕ) → IsStreamFault (seen ++ more) all refusal)
-
 -- they refuse the text
 abbrev pub AreRefusedAt : List ℕ → ℕ → Division → Settled → (old new : List Item) → Refusal → Type 0
 AreRefusedAt bytes first division settled old new refusal = (seen : List ℕ) (lexemes : List (Lexeme HoaKind)) (items : List Item) → IsNextSettled bytes first division settled seen lexemes items
     → IsRefusedThen seen old new items refusal
 
--- the bytes were read up to a place, behind bytes before them
+-- the bytes were read up to a place, behind bytes before them, and no fault of tokens is settled
 pub record IsProgress (bytes : List ℕ) (first place : ℕ) (progress : Progress) (prior : List ℕ) (items : List Item) : Type 0 where
   pub there : first ≡ length prior
   pub lexemes : List (Lexeme HoaKind)
   pub read : HasRead (prior ++ take place bytes) lexemes progress.tokenizer
+  pub sound : progress.tokenizer.fault ≡ None
   pub divided : IsDivided (prior ++ take place bytes) lexemes items progress.division.begins progress.division.inside
   pub from : first ≤ progress.division.begins
   pub short : first + length bytes ≤ most_text

@@ -1,5 +1,5 @@
 -- Bytes that are read at once.
-use Rattle.std.proofs.Common.{◌≡◌, ◌≢◌, ◌==◌, ◌⊎◌, inl, inr, ⊎_elim, ℕ, suc, ◌+◌, ◌-◌, ◌<◌, ◌≤◌, Bool, true, false, Option, Some, None, List, [], ◌∷◌, ◌++◌, length, get_or, take, drop, refl, sym, ap, ◌∙◌, subst, arith, append_assoc, append-nil, length-append, length-drop, length-take-le, take-add, drop-drop}
+use Rattle.std.proofs.Common.{◌≡◌, ◌≢◌, ◌↔◌, ◌==◌, ◌⊎◌, inl, inr, ⊎_elim, ℕ, suc, ◌+◌, ◌-◌, ◌<◌, ◌≤◌, Bool, true, false, Option, Some, None, List, [], ◌∷◌, ◌++◌, length, get_or, take, drop, refl, sym, ap, ◌∙◌, subst, arith, append_assoc, append-nil, length-append, length-drop, length-take-le, take-add, drop-drop}
 use Rattle.std.proofs.lemmas.Bool.Decides.{eqb_tells, nat_tests}
 use Rattle.std.proofs.lemmas.List.{get_or-drop, take_more}
 use Rattle.std.specs.List.{prefix_len}
@@ -18,15 +18,16 @@ use Rattle.omega_text.specs.declared.hoa.pending.Pending.{Pending}
 use Rattle.omega_text.specs.declared.hoa.placed.PlacedToken.{PlacedToken}
 use Rattle.omega_text.specs.declared.hoa.placed.Settled.{Settled}
 use Rattle.omega_text.specs.declared.hoa.tokenizer.HoaTokenizer.{HoaTokenizer}
+use Rattle.omega_text.specs.declared.refusal.text.TextFault.{TextFault}
 use Rattle.omega_text.specs.hoa.Format.{hoa_format}
 use Rattle.omega_text.specs.hoa.Laws.{is_closed}
-use Rattle.omega_text.specs.hoa.Pieces.{lexeme_in, lexemes_in, settled_lexemes}
+use Rattle.omega_text.specs.hoa.Pieces.{IsNoneMark, IsPlain, NoneMarks, SettlesFault, StopsBefore, is_mark, lexeme_in, lexemes_in, settled_lexemes}
 use Rattle.omega_text.specs.hoa.scanning.Modes.{first_mode, letter_kind, next_mode, quoted_mode, run, word_mode}
-use Rattle.omega_text.specs.hoa.scanning.Passing.{EndsWord, HasPassed, HasRoom, IsCourse, IsEndedBy, IsNoneMark, IsOnWayFor, IsPlain, IsSimple, IsSingle, NoneMarks, Passed, Passes, PassesAs, is_mark, is_quoted}
+use Rattle.omega_text.specs.hoa.scanning.Passing.{EndsWord, HasPassed, HasRoom, IsCourse, IsEndedBy, IsOnWayFor, IsSimple, IsSingle, IsStop, Passed, Passes, PassesAs, is_quoted}
 use Rattle.omega_text.specs.hoa.scanning.Reading.{Any, HasRead, IsAt, IsKept, IsOnWay, IsUnfinished, With}
 use Rattle.omega_text.specs.hoa.scanning.Unfinished.{IsPlaced, IsTokenIn, IsValueOf, fresh}
 use Rattle.omega_text.proofs.hoa_texts.Last.{last_unclosed}
-use Rattle.omega_text.proofs.hoa_texts.Pieces.{at_with, grown, judged, parts, split_more}
+use Rattle.omega_text.proofs.hoa_texts.Pieces.{at_with, fault_stays, grown, judged, kept_settled, parts, split_more}
 use Rattle.omega_text.proofs.hoa_texts.Runs.{run_append}
 use Rattle.omega_text.proofs.hoa_texts.Tests.{either, pass}
 use Rattle.omega_text.proofs.hoa_texts.Units.{first_digits, first_reached}
@@ -490,3 +491,25 @@ has_passed_none bytes from tokenizer seen lexemes read =
       read = subst (λ ls. HasRead (seen ++ []) ls tokenizer) (sym (append-nil lexemes)) (subst (λ bs. HasRead bs lexemes tokenizer) (sym (append-nil seen)) read);
       plain = tt;
     })
+
+-- a byte that settles a mark or a fault is one before which reading at once stops
+pub settling_stops : (seen : List ℕ) (lexemes : List (Lexeme HoaKind)) (byte : ℕ) (after : Pending) (settled : Settled) → (IsPlain settled → ⊥)
+    → IsKept settled.fault (seen ++ byte ∷ []) (lexemes ++ settled_lexemes (seen ++ byte ∷ []) settled) after → StopsBefore seen lexemes byte
+settling_stops seen lexemes byte after settled unplain kept =
+    (settled, kept_settled settled.fault (seen ++ byte ∷ []) (lexemes ++ settled_lexemes (seen ++ byte ∷ []) settled) after kept, unplain)
+
+no_fault : (fault : TextFault) → ◌≡◌ {A = Option TextFault} (Some fault) None → ⊥
+no_fault fault is = cc
+
+-- so is any byte behind a fault
+pub fault_stops : (seen : List ℕ) (lexemes : List (Lexeme HoaKind)) (byte : ℕ) (fault : TextFault) → SettlesFault seen lexemes fault → StopsBefore seen lexemes byte
+fault_stops seen lexemes byte fault settles = (
+  record { first = None; second = None; fault = Some fault },
+  subst (λ ls. SettlesFault (seen ++ byte ∷ []) ls fault) (sym (append-nil lexemes)) (fault_stays seen lexemes byte fault settles),
+  λ plain. no_fault fault plain.sound,
+)
+
+-- what no test tells does not hold
+pub untold : {P : Type 0} (test : Bool) → (test ≡ true) ↔ P → test ≡ false → P → ⊥
+untold test tells none holds =
+    let clash : true ≡ false = sym (tells.1 holds) ∙ none in cc

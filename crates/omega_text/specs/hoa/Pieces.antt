@@ -1,8 +1,9 @@
 -- What is settled of a text that comes byte by byte: what is so in whichever way the text goes on.
-use Rattle.std.specs.Prelude.{◌≡◌, ℕ, ◌-◌, ◌<◌, Option, Some, None, List, [], ◌∷◌, ◌++◌, length, take, drop}
+use Rattle.std.specs.Prelude.{◌≡◌, ℕ, ◌-◌, ◌<◌, Bool, true, false, Option, Some, None, List, [], ◌∷◌, ◌++◌, length, take, drop}
 use Rattle.omega_text.specs.Cut.{Cuts, IsCut}
 use Rattle.omega_text.specs.Lexeme.{Lexeme}
 use Rattle.omega_text.specs.declared.hoa.kind.HoaKind.{HoaKind}
+use Rattle.omega_text.specs.declared.hoa.kind.HoaKind.TheVariants.{Body, End, Abort}
 use Rattle.omega_text.specs.declared.hoa.placed.PlacedToken.{PlacedToken}
 use Rattle.omega_text.specs.declared.hoa.placed.Settled.{Settled}
 use Rattle.omega_text.specs.declared.refusal.text.TextFault.{TextFault}
@@ -62,3 +63,30 @@ pub record FaultsBehind (source : List ℕ) (lexemes : List (Lexeme HoaKind)) (f
 abbrev pub IsFinished : Option TextFault → List ℕ → List (Lexeme HoaKind) → Type 0
 IsFinished None source lexemes = IsCut hoa_format source lexemes
 IsFinished (Some fault) source lexemes = FaultsBehind source lexemes fault
+
+-- the marks `--BODY--`, `--END--` and `--ABORT--`
+abbrev pub is_mark : HoaKind → Bool
+is_mark Body = true
+is_mark End = true
+is_mark Abort = true
+is_mark kind = false
+
+-- none of the tokens is a mark
+abbrev pub NoneMarks : List (Lexeme HoaKind) → Type 0
+NoneMarks [] = Unit {0}
+NoneMarks (lexeme ∷ lexemes) = (is_mark lexeme.kind ≡ false) × NoneMarks lexemes
+
+-- a token that may have been settled is no mark
+abbrev pub IsNoneMark : Option PlacedToken → Type 0
+IsNoneMark None = Unit {0}
+IsNoneMark (Some token) = is_mark token.kind ≡ false
+
+-- neither a mark nor a fault was settled
+pub record IsPlain (settled : Settled) : Type 0 where
+  pub sound : settled.fault ≡ None
+  pub first : IsNoneMark settled.first
+  pub second : IsNoneMark settled.second
+
+-- behind these tokens, a mark or a fault is settled by the next byte
+abbrev pub StopsBefore : List ℕ → List (Lexeme HoaKind) → ℕ → Type 0
+StopsBefore seen lexemes byte = (settled : Settled) × IsSettled settled.fault (seen ++ byte ∷ []) (lexemes ++ settled_lexemes (seen ++ byte ∷ []) settled) × (IsPlain settled → ⊥)

@@ -1,8 +1,9 @@
 //! Bytes that settle neither a mark nor a fault, read at once.
 
-ghost use Rattle.std.specs.Prelude.{◌≡◌, ◌+◌, ◌-◌, ◌<◌, ◌≤◌, ◌^◌, ◌∷◌, [], length, slice_index, take, true, IfSome, IsTrue};
+ghost use Rattle.std.specs.Prelude.{◌≡◌, ◌+◌, ◌-◌, ◌<◌, ◌≤◌, ◌^◌, ◌∷◌, ◌↔◌, [], length, slice_index, take, true, IfNone, IfSome, IsTrue};
 ghost use Rattle.omega_text.specs.Bytes.{is_digit, is_letter};
-ghost use Rattle.omega_text.specs.hoa.scanning.Passing.{EndsWord, IsCourse, IsNoneMark, IsOnWayFor, IsPlain, IsSimple, IsSingle, Passes, PassesAs};
+ghost use Rattle.omega_text.specs.hoa.Pieces.{IsNoneMark, IsPlain};
+ghost use Rattle.omega_text.specs.hoa.scanning.Passing.{EndsWord, IsCourse, IsOnWayFor, IsSimple, IsSingle, IsStop, Passes, PassesAs};
 ghost use Rattle.omega_text.specs.hoa.scanning.Reading.{IsOnWay};
 ghost use Rattle.omega_text.specs.hoa.scanning.Unfinished.{fresh};
 ghost use Rattle.omega_text.specs.declared.hoa.passing.Simple.TheVariants.{Begun};
@@ -29,7 +30,8 @@ pub(super) fn pass_bytes(
 ) -> (Pending, usize)
     requires within { from ≤ length bytes.now }
     requires way { IsOnWayFor (length bytes.now - from) pending start }
-    ensures { Passes start bytes.now from result.1 pending result.0 }
+    ensures passes { Passes start bytes.now from result.1 pending result.0 }
+    ensures stops { result.1 < length bytes.now → IsStop (start + (result.1 - from)) (slice_index bytes.now result.1) result.0 }
 {
     let mut reached = pending;
     let mut place = from;
@@ -53,7 +55,8 @@ pub(super) fn pass_bytes(
 #[inline(always)]
 fn pass_byte(pending: &Pending, place: usize, byte: u8) -> Option<Pending>
     requires { IsOnWay pending.now place }
-    ensures { IfSome result (λ after. PassesAs place (byte ∷ []) pending.now after) }
+    ensures passes { IfSome result (λ after. PassesAs place (byte ∷ []) pending.now after) }
+    ensures stops { IfNone result (IsStop place byte pending.now) }
 {
     match pending.mode.next(byte) {
         None => pass_settling(pending, place, byte),
@@ -64,7 +67,6 @@ fn pass_byte(pending: &Pending, place: usize, byte: u8) -> Option<Pending>
                 value: 0,
             }),
             Course::Ends => Some(Pending::new(place + 1)),
-            Course::Marks => None,
             Course::Other => pass_settling(pending, place, byte),
         },
     }
@@ -77,9 +79,7 @@ enum Course {
     GoesOn,
     /// It is whole, and no mark.
     Ends,
-    /// It is a mark.
-    Marks,
-    /// It is digits.
+    /// It is a mark, or digits.
     Other,
 }
 
@@ -91,7 +91,7 @@ fn course_of(next: KeptMode) -> Course
         Mode::Start | Mode::Digits => Course::Other,
         Mode::Blank => Course::Ends,
         Mode::Whole(kind) => match kind {
-            HoaKind::Body | HoaKind::End | HoaKind::Abort => Course::Marks,
+            HoaKind::Body | HoaKind::End | HoaKind::Abort => Course::Other,
             _ => Course::Ends,
         },
         _ => Course::GoesOn,
@@ -101,7 +101,8 @@ fn course_of(next: KeptMode) -> Course
 /// The same for any byte.
 fn pass_settling(pending: &Pending, place: usize, byte: u8) -> Option<Pending>
     requires { IsOnWay pending.now place }
-    ensures { IfSome result (λ after. PassesAs place (byte ∷ []) pending.now after) }
+    ensures passes { IfSome result (λ after. PassesAs place (byte ∷ []) pending.now after) }
+    ensures stops { IfNone result (IsStop place byte pending.now) }
 {
     let (after, settled) = read_byte(*pending, place, byte);
     if is_plain(settled) { Some(after) } else { None }
@@ -110,7 +111,7 @@ fn pass_settling(pending: &Pending, place: usize, byte: u8) -> Option<Pending>
 /// Whether neither a mark nor a fault was settled.
 #[inline(always)]
 fn is_plain(settled: Settled) -> bool
-    ensures { IsTrue result → IsPlain settled }
+    ensures { IsTrue result ↔ IsPlain settled }
 {
     match settled.fault {
         Some(_) => false,
@@ -120,7 +121,7 @@ fn is_plain(settled: Settled) -> bool
 
 #[inline(always)]
 fn is_no_mark(settled: Option<PlacedToken>) -> bool
-    ensures { IsTrue result → IsNoneMark settled }
+    ensures { IsTrue result ↔ IsNoneMark settled }
 {
     match settled {
         None => true,

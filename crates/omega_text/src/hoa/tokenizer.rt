@@ -1,9 +1,9 @@
-ghost use Rattle.std.specs.Prelude.{◌≡◌, ◌<◌, ◌-◌, ◌^◌, [], ◌∷◌, ◌++◌, false, ℕ, IfSome, List, None, Some, drop, length, take, ◌≤◌};
+ghost use Rattle.std.specs.Prelude.{◌≡◌, ◌<◌, ◌-◌, ◌^◌, [], ◌∷◌, ◌++◌, false, ℕ, IfSome, List, None, Some, drop, length, slice_index, take, ◌≤◌};
 ghost use Rattle.omega_text.specs.Lexeme.{Lexeme};
 ghost use Rattle.omega_text.specs.declared.hoa.kind.HoaKind.{HoaKind};
 ghost use Rattle.omega_text.specs.hoa.Laws.{is_closed};
 ghost use Rattle.omega_text.specs.hoa.scanning.Modes.{next_mode};
-ghost use Rattle.omega_text.specs.hoa.Pieces.{IsFinished, IsSettled, settled_lexemes};
+ghost use Rattle.omega_text.specs.hoa.Pieces.{IsFinished, IsSettled, StopsBefore, settled_lexemes};
 ghost use Rattle.omega_text.specs.hoa.scanning.Reading.{Any, IsAt, IsKept, IsOnWay};
 
 use super::mode::{Mode, first_mode};
@@ -32,7 +32,8 @@ impl HoaTokenizer {
 
     /// Before the first byte.
     pub fn new() -> HoaTokenizer
-        ensures { HasRead [] [] result }
+        ensures reads { HasRead [] [] result }
+        ensures sound { result.fault ≡ None }
     {
         HoaTokenizer {
             pending: Pending::new(0),
@@ -49,6 +50,7 @@ impl HoaTokenizer {
             → HasRead (seen ++ byte ∷ []) (lexemes ++ settled_lexemes (seen ++ byte ∷ []) result) self.new }
         ensures settles { (seen : List ℕ) (lexemes : List (Lexeme HoaKind)) → HasRead seen lexemes self.old
             → IsSettled result.fault (seen ++ byte ∷ []) (lexemes ++ settled_lexemes (seen ++ byte ∷ []) result) }
+        ensures fault { result.fault ≡ self.new.fault }
     {
         let place = self.place;
         self.place = place + 1;
@@ -75,10 +77,12 @@ impl HoaTokenizer {
         ensures end { result ≤ length bytes.now }
         ensures reads { (seen : List ℕ) (lexemes : List (Lexeme HoaKind)) → HasRead seen lexemes self.old
             → HasPassed seen lexemes (take (result - from) (drop from bytes.now)) self.new }
+        ensures stops { result < length bytes.now → (seen : List ℕ) (lexemes : List (Lexeme HoaKind)) → HasRead seen lexemes self.new
+            → StopsBefore seen lexemes (slice_index bytes.now result) }
         ensures sound { self.new.fault ≡ self.old.fault }
     {
         match self.fault {
-            Some(_) => from,
+            Some(_fault) => from,
             None => {
                 let (after, place) = pass_bytes(self.pending, self.place, bytes, from);
                 self.pending = after;

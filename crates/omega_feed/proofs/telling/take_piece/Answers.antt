@@ -3,7 +3,7 @@ use Rattle.std.proofs.Common.{◌≡◌, ◌+◌, ◌≤◌, None, length, ◌�
 use Rattle.omega_text.specs.Limits.{most_text}
 use Rattle.omega_text.specs.declared.refusal.Refusal.TheVariants.{Memory}
 use Rattle.omega_hoa.specs.Kept.{Kept}
-use Rattle.omega_feed.proofs.Follows.{count_within, follows_refused, follows_taken, kept_refusal, ok_no_error, piece_fits, same_as_before, unrefused, within_limit}
+use Rattle.omega_feed.proofs.Follows.{count_within, follows_refused, follows_taken, kept_refusal, ok_no_error, piece_fits, same_as_before, unrefused}
 use Rattle.omega_feed.proofs.telling.take_piece.Goals as goal
 
 pub append_items-requires : goal.append_items-requires
@@ -11,12 +11,11 @@ append_items-requires g c =
     let kept : Kept = c.args.telling.now.stream in
     let said = c.in-Ok.ensures in
     let none : kept.refused ≡ None = unrefused kept.refused c.in-Ok.field-0 _ (λ refusal says. says.0) said.refused_before in
-    let fits = within_limit c.in-Ok.field-0 _ (λ long. (said.too_long none long).0) in
     let given = c.feed.new.out.items in
     let within : c.args.telling.now.count + length given ≤ most_text =
     count_within g.T.ItemText.text c.requires.0 kept c.args.telling.now.count c.args.telling.now.told.items c.requires.1 c.args.piece.now
     c.clear.new.self.items given c.feed.new.self c.clear.ensures.items c.goes_on_one_way.ensures none said.ok
-    (λ items fed. said.taken none fits (ok_no_error c.in-Ok.field-0 Memory) c.requires.0 items fed) in
+    (λ items fed. said.taken (ok_no_error c.in-Ok.field-0 Memory) c.requires.0 items fed) in
     omega (arith, within, ap length c.as_slice.ensures.value)
 
 pub overflow_add-telling : goal.overflow_add-telling
@@ -24,12 +23,11 @@ overflow_add-telling g c =
     let kept : Kept = c.args.telling.now.stream in
     let said = c.in-Ok.ensures in
     let none : kept.refused ≡ None = unrefused kept.refused c.in-Ok.field-0 _ (λ refusal says. says.0) said.refused_before in
-    let fits = within_limit c.in-Ok.field-0 _ (λ long. (said.too_long none long).0) in
     let given = c.feed.new.out.items in
     let within : c.args.telling.now.count + length given ≤ most_text =
     count_within g.T.ItemText.text c.requires.0 kept c.args.telling.now.count c.args.telling.now.told.items c.requires.1 c.args.piece.now
     c.clear.new.self.items given c.feed.new.self c.clear.ensures.items c.goes_on_one_way.ensures none said.ok
-    (λ items fed. said.taken none fits (ok_no_error c.in-Ok.field-0 Memory) c.requires.0 items fed) in
+    (λ items fed. said.taken (ok_no_error c.in-Ok.field-0 Memory) c.requires.0 items fed) in
     let count : c.len.result ≡ length given = c.len.ensures ∙ c.feed.new.out.ok.0 in
     omega (arith, within, count)
 
@@ -38,14 +36,13 @@ returns-in_ok-append_items-in-Ok-clause-follows g c = λ seen short follows.
     let kept : Kept = c.args.telling.now.stream in
     let said = c.in-Ok.ensures in
     let none : kept.refused ≡ None = unrefused kept.refused c.in-Ok.field-0 _ (λ refusal says. says.0) said.refused_before in
-    let fits = piece_fits g.T.ItemText.text seen kept c.args.telling.now.count c.args.telling.now.told.items follows none (length c.args.piece.now) short in
     let given = c.feed.new.out.items in
     let count : c.len.result ≡ length given = c.len.ensures ∙ c.feed.new.out.ok.0 in
     let more = c.in_ok-append_items-in-Ok.ensures.told in
     rw count
     (follows_taken g.T.ItemText.text seen kept c.args.telling.now.count c.args.telling.now.told.items follows c.args.piece.now
     c.clear.new.self.items given c.feed.new.self c.clear.ensures.items c.append_items.new.out.items none said.ok
-    (λ items fed. said.taken none fits (ok_no_error c.in-Ok.field-0 Memory) seen items fed)
+    (λ items fed. said.taken (ok_no_error c.in-Ok.field-0 Memory) seen items fed)
     (rw (← c.as_slice.ensures.value) more))
 
 pub returns-in_default : goal.returns-in_default

@@ -64,3 +64,13 @@ returns-in-Some-clause-refused c = λ seen lexemes items next.
     inr (more_says _ _ items (λ all. IsDivided seen (front ++ lexemes_in seen c.args.settled.second) all begins inside) _
     (then_more _ _ _ items _ (λ all. IsDivided seen (front ++ lexemes_in seen c.args.settled.second) all begins inside) first second)
     (λ all divided. fault_next c.args.bytes.now c.args.first c.args.division c.args.settled seen lexemes items next all begins inside c.in-Some.fault c.in-Some.is divided))
+
+-- where a fault is settled the tokens are not taken
+pub returns-in-Some-clause-taken : goal.returns-in-Some-clause-taken
+returns-in-Some-clause-taken c = tt
+
+pub returns-in-Some-clause-forward : goal.returns-in-Some-clause-forward
+returns-in-Some-clause-forward c = tt
+
+pub returns-in-Some-clause-sound : goal.returns-in-Some-clause-sound
+returns-in-Some-clause-sound c = tt

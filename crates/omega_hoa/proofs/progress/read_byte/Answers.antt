@@ -1,8 +1,7 @@
 -- A byte is read behind those before it.
-use Rattle.std.proofs.Common.{◌∷◌, [], ◌++◌, get_or, refl, arith, sym, subst, take}
+use Rattle.std.proofs.Common.{◌∷◌, [], ◌++◌, ◌∙◌, get_or, refl, arith, sym, subst, take}
 use Rattle.omega_text.specs.hoa.Pieces.{settled_lexemes}
-use Rattle.omega_hoa.specs.Feeding.{IsDivided}
-use Rattle.omega_hoa.specs.dividing.Next.{IsRefusedThen}
+use Rattle.omega_hoa.specs.Feeding.{IsDivided, IsRefusedThen}
 use Rattle.omega_hoa.proofs.Results.{error_then, more_says, nothing_more}
 use Rattle.omega_hoa.proofs.Settling.{divided_on, nothing_divided, progressed, refused_whole, settled_next}
 use Rattle.omega_hoa.proofs.progress.read_byte.Goals as goal
@@ -15,7 +14,7 @@ returns-then-is_nothing-clause-read c = λ prior items so_far.
     let division = c.args.progress.division in
     nothing_more _ _ _
     (progressed c.args.bytes.now c.args.first c.args.place c.args.progress prior items c.requires.within so_far byte c.step-settled.result c.step-settled.new.self
-    division items refl (omega arith) (c.step-settled.ensures.reads front so_far.lexemes so_far.read)
+    division items refl (omega arith) (sym c.step-settled.ensures.fault ∙ (c.is_nothing.ensures c.if-is_nothing.true).fault) (c.step-settled.ensures.reads front so_far.lexemes so_far.read)
     (nothing_divided c.step-settled.result seen so_far.lexemes items division.begins division.inside (c.is_nothing.ensures c.if-is_nothing.true)
     (divided_on front (byte ∷ []) so_far.lexemes items division.begins division.inside so_far.divided)))
 
@@ -53,4 +52,4 @@ returns-clause-read c = λ prior items so_far.
     (settled_next c.args.bytes.now c.args.first c.args.place c.args.progress prior items c.requires.within so_far byte c.step-settled.result refl
     (c.step-settled.ensures.settles seen so_far.lexemes so_far.read)))
     (λ all divided. progressed c.args.bytes.now c.args.first c.args.place c.args.progress prior items c.requires.within so_far byte c.step-settled.result c.step-settled.new.self
-    c.in_ok-division.division all refl c.in_ok-division.ensures.forward (c.step-settled.ensures.reads seen so_far.lexemes so_far.read) divided)
+    c.in_ok-division.division all refl c.in_ok-division.ensures.forward (sym c.step-settled.ensures.fault ∙ c.in_ok-division.ensures.sound) (c.step-settled.ensures.reads seen so_far.lexemes so_far.read) divided)

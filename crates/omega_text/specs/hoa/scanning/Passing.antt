@@ -1,48 +1,23 @@
 -- Bytes that are read at once, while they settle neither a mark nor a fault.
-use Rattle.std.specs.Prelude.{◌≡◌, ℕ, ◌+◌, ◌-◌, ◌<◌, ◌≤◌, ◌^◌, ◌⊎◌, Bool, true, false, not, ◌&&◌, ◌==◌, Option, Some, None, List, [], ◌∷◌, ◌++◌, length, take, drop}
+use Rattle.std.specs.Prelude.{◌≡◌, ℕ, ◌+◌, ◌-◌, ◌<◌, ◌≤◌, ◌^◌, ◌⊎◌, Bool, true, false, not, ◌&&◌, ◌==◌, Some, List, [], ◌∷◌, ◌++◌, length, take, drop}
 use Rattle.omega_text.specs.Lexeme.{Lexeme}
 use Rattle.omega_text.specs.declared.hoa.kind.HoaKind.{HoaKind}
-use Rattle.omega_text.specs.declared.hoa.kind.HoaKind.TheVariants.{Body, End, Abort}
 use Rattle.omega_text.specs.declared.hoa.pending.Pending.{Pending}
-use Rattle.omega_text.specs.declared.hoa.placed.PlacedToken.{PlacedToken}
-use Rattle.omega_text.specs.declared.hoa.placed.Settled.{Settled}
 use Rattle.omega_text.specs.declared.hoa.tokenizer.HoaTokenizer.{HoaTokenizer}
+use Rattle.omega_text.specs.hoa.Pieces.{NoneMarks, StopsBefore, is_mark}
 use Rattle.omega_text.specs.hoa.scanning.Modes.{first_mode}
 use Rattle.omega_text.specs.declared.hoa.mode.Mode.{Mode}
 use Rattle.omega_text.specs.declared.hoa.mode.Mode.TheVariants.{Word, Blank, Whole}
 use Rattle.omega_text.specs.declared.hoa.passing.Course.{Course}
-use Rattle.omega_text.specs.declared.hoa.passing.Course.TheVariants.{GoesOn, Ends, Marks, Other}
+use Rattle.omega_text.specs.declared.hoa.passing.Course.TheVariants.{GoesOn, Ends, Other}
 use Rattle.omega_text.specs.declared.hoa.passing.Simple.{Simple}
 use Rattle.omega_text.specs.declared.hoa.passing.Simple.TheVariants.{Ended, Begun}
 use Rattle.omega_text.specs.hoa.scanning.Reading.{Any, HasRead, IsAt, IsUnfinished}
 use Rattle.omega_text.specs.hoa.scanning.Unfinished.{fresh}
 
--- the marks `--BODY--`, `--END--` and `--ABORT--`
-abbrev pub is_mark : HoaKind → Bool
-is_mark Body = true
-is_mark End = true
-is_mark Abort = true
-is_mark kind = false
-
--- none of the tokens is a mark
-abbrev pub NoneMarks : List (Lexeme HoaKind) → Type 0
-NoneMarks [] = Unit {0}
-NoneMarks (lexeme ∷ lexemes) = (is_mark lexeme.kind ≡ false) × NoneMarks lexemes
-
 -- a byte that is a whole unit, and no mark
 abbrev pub IsSingle : ℕ → Type 0
 IsSingle byte = (first_mode byte ≡ Some Blank) ⊎ ((kind : HoaKind) × (first_mode byte ≡ Some (Whole kind)) × (is_mark kind ≡ false))
-
--- a token that may have been settled is no mark
-abbrev pub IsNoneMark : Option PlacedToken → Type 0
-IsNoneMark None = Unit {0}
-IsNoneMark (Some token) = is_mark token.kind ≡ false
-
--- neither a mark nor a fault was settled
-pub record IsPlain (settled : Settled) : Type 0 where
-  pub sound : settled.fault ≡ None
-  pub first : IsNoneMark settled.first
-  pub second : IsNoneMark settled.second
 
 -- bytes more were read, and the tokens that they settled are no marks
 pub record HasPassed (seen : List ℕ) (lexemes : List (Lexeme HoaKind)) (bytes : List ℕ) (tokenizer : HoaTokenizer) : Type 0 where
@@ -64,7 +39,11 @@ pub record Passed (seen : List ℕ) (lexemes : List (Lexeme HoaKind)) (bytes : L
 abbrev pub PassesAs : ℕ → List ℕ → (before after : Pending) → Type 0
 PassesAs start bytes before after = (seen : List ℕ) (lexemes : List (Lexeme HoaKind)) → start ≡ length seen → IsAt Any seen lexemes before → Passed seen lexemes bytes after
 
--- the same of the bytes from one place to another
+-- in whatever text the unit is, where so many bytes were read, the next byte settles a mark or a fault
+abbrev pub IsStop : ℕ → ℕ → Pending → Type 0
+IsStop start byte before = (seen : List ℕ) (lexemes : List (Lexeme HoaKind)) → start ≡ length seen → IsAt Any seen lexemes before → StopsBefore seen lexemes byte
+
+-- bytes are read as said above, from one place to another
 pub record Passes (start : ℕ) (bytes : List ℕ) (from to : ℕ) (before after : Pending) : Type 0 where
   pub forward : from ≤ to
   pub within : to ≤ length bytes
@@ -74,7 +53,6 @@ pub record Passes (start : ℕ) (bytes : List ℕ) (from to : ℕ) (before after
 abbrev pub IsCourse : Mode → Course → Type 0
 IsCourse next GoesOn = (value : ℕ) (begun : List ℕ) → IsUnfinished next value begun
 IsCourse next Ends = (next ≡ Blank) ⊎ ((kind : HoaKind) × (next ≡ Whole kind) × (is_mark kind ≡ false))
-IsCourse next Marks = Unit {0}
 IsCourse next Other = Unit {0}
 
 -- the same of one byte, behind which no unit has been begun

@@ -1,10 +1,12 @@
 -- A piece is read behind the bytes before, or all stays as it was.
-use Rattle.std.proofs.Common.{◌≡◌, ◌-◌, ◌∙◌, ◌++◌, None, length, take, drop, sym, ap, subst, arith}
-use Rattle.omega_hoa.specs.Feeding.{IsFedSome, IsRefusedSoFar, IsTaken}
+use Rattle.std.proofs.Common.{◌≡◌, ◌-◌, ◌∙◌, ◌++◌, None, ℕ, List, length, take, drop, sym, ap, subst, inr, arith}
+use Rattle.omega_hoa.specs.dividing.Fed.{IsFedSome}
+use Rattle.omega_hoa.specs.Feeding.{IsRefusedThen, IsTaken}
 use Rattle.omega_hoa.specs.Kept.{Kept}
-use Rattle.omega_hoa.specs.dividing.Next.{IsProgress, IsRefusedThen}
+use Rattle.omega_hoa.specs.Stream.{IsStreamFault}
+use Rattle.omega_hoa.specs.dividing.Next.{IsProgress}
 use Rattle.omega_hoa.proofs.Feeds.{begins_within, fed_of, fits_of, kept_after, long_of, progress_before, refused_after, taken_of, too_long, with_piece}
-use Rattle.omega_hoa.proofs.Results.{more_says}
+use Rattle.omega_hoa.proofs.Results.{more_says, nothing_more}
 use Rattle.omega_hoa.proofs.stream.Stream.feed_sound.Goals as goal
 
 pub invariant_of-self : goal.invariant_of-self
@@ -14,7 +16,7 @@ invariant_of-self c =
     let count : c.len-held.result ≡ length kept.bytes = c.len-held.ensures ∙ c.self.inside.bytes.ok.0 in
     let some : IsFedSome kept = c.self.invariant in
     let taken = taken_of some.0 some.1 kept none some.2 in
-    (some.0, some.1, too_long some.0 some.1 kept c.args.piece.now taken (long_of kept c.len-held.result (length c.args.piece.now) count c.if-piece-self.true))
+    (some.0 ++ c.args.piece.now, some.1, too_long some.0 some.1 kept c.args.piece.now taken (long_of kept c.len-held.result (length c.args.piece.now) count c.if-piece-self.true))
 
 pub read_piece-requires-clause-so_far : goal.read_piece-requires-clause-so_far
 read_piece-requires-clause-so_far c =
@@ -96,10 +98,10 @@ invariant_of-self-in_default c =
     let fits = fits_of some.0 some.1 kept held (length c.args.piece.now) taken count c.if-piece-self.false in
     let progress = progress_before some.0 some.1 kept c.args.piece.now all held taken is count fits in
     let refused = refused_after (take kept.begins some.0 ++ all) _ _ some.1 c.in-Err.refusal c.in_default.not-Memory (c.in-Err.ensures.refused (take kept.begins some.0) some.1 progress) in
-    (take kept.begins some.0 ++ all, some.1 ++ refused.added, refused.holds)
+    (take kept.begins some.0 ++ all, some.1 ++ refused.added, inr refused.holds)
 
 pub returns-in-Ok-clause-taken : goal.returns-in-Ok-clause-taken
-returns-in-Ok-clause-taken c = λ within no_memory seen items fed.
+returns-in-Ok-clause-taken c = λ no_memory seen items fed.
     let kept : Kept = record { bytes = c.self.inside.bytes.items; begins = c.self.inside.begins; inside = c.self.inside.inside; tokenizer = c.self.inside.tokenizer; refused = c.self.inside.refused } in
     let none : kept.refused ≡ None = ap (λ (value : Kept). value.refused) c.self.view_is ∙ c.requires in
     let count : c.len-held.result ≡ length kept.bytes = c.len-held.ensures ∙ c.self.inside.bytes.ok.0 in
@@ -118,7 +120,7 @@ returns-in-Ok-clause-taken c = λ within no_memory seen items fed.
     (kept_after c.goes_on_one_way.ensures all kept.begins after (take kept.begins seen) every now.bytes c.self.inside.refused reached rest)))
 
 pub returns-in_default-clause-taken : goal.returns-in_default-clause-taken
-returns-in_default-clause-taken c = λ within no_memory seen items fed.
+returns-in_default-clause-taken c = λ no_memory seen items fed.
     let kept : Kept = record { bytes = c.self.inside.bytes.items; begins = c.self.inside.begins; inside = c.self.inside.inside; tokenizer = c.self.inside.tokenizer; refused = c.self.inside.refused } in
     let none : kept.refused ≡ None = ap (λ (value : Kept). value.refused) c.self.view_is ∙ c.requires in
     let count : c.len-held.result ≡ length kept.bytes = c.len-held.ensures ∙ c.self.inside.bytes.ok.0 in
@@ -128,9 +130,9 @@ returns-in_default-clause-taken c = λ within no_memory seen items fed.
     let taken : IsTaken seen items kept = subst (IsTaken seen items) (sym c.self.view_is) (taken_of seen items c.args.self.now c.requires fed) in
     let fits = fits_of seen items kept held (length c.args.piece.now) taken count c.if-piece-self.false in
     let progress = progress_before seen items kept c.args.piece.now all held taken is count fits in
-    more_says _ _ items (λ every. IsRefusedSoFar (take kept.begins seen ++ all) every c.in-Err.refusal) _
+    more_says _ _ items (λ every. (more : List ℕ) → IsStreamFault ((take kept.begins seen ++ all) ++ more) every c.in-Err.refusal) _
     (refused_after (take kept.begins seen ++ all) _ _ items c.in-Err.refusal c.in_default.not-Memory (c.in-Err.ensures.refused (take kept.begins seen) items progress))
-    (λ every refused. subst (λ bytes. IsRefusedSoFar bytes every c.in-Err.refusal) (with_piece seen items kept c.args.piece.now all held taken is count) refused)
+    (λ every refused. inr (subst (λ bytes. (more : List ℕ) → IsStreamFault (bytes ++ more) every c.in-Err.refusal) (with_piece seen items kept c.args.piece.now all held taken is count) refused))
 
 pub returns-in_default-clause-refused : goal.returns-in_default-clause-refused
 returns-in_default-clause-refused c = λ within seen items fed.
@@ -144,3 +146,10 @@ returns-in_default-clause-refused c = λ within seen items fed.
     let progress = progress_before seen items kept c.args.piece.now all held taken is count fits in
     subst (λ bytes. IsRefusedThen bytes c.args.out.now.items c.read_piece.new.out.items items c.in-Err.refusal) (with_piece seen items kept c.args.piece.now all held taken is count)
     (c.in-Err.ensures.refused (take kept.begins seen) items progress)
+
+pub returns-then-piece-self-clause-taken : goal.returns-then-piece-self-clause-taken
+returns-then-piece-self-clause-taken c = λ no_memory seen items fed.
+    let kept : Kept = record { bytes = c.self.inside.bytes.items; begins = c.self.inside.begins; inside = c.self.inside.inside; tokenizer = c.self.inside.tokenizer; refused = c.self.inside.refused } in
+    let count : c.len-held.result ≡ length kept.bytes = c.len-held.ensures ∙ c.self.inside.bytes.ok.0 in
+    let taken : IsTaken seen items kept = subst (IsTaken seen items) (sym c.self.view_is) (taken_of seen items c.args.self.now c.requires fed) in
+    nothing_more _ _ _ (too_long seen items kept c.args.piece.now taken (long_of kept c.len-held.result (length c.args.piece.now) count c.if-piece-self.true))

@@ -13,7 +13,7 @@ returns-then-self-clause-refused c = λ none seen items fed.
     let all : kept.begins + c.len.result ≡ length seen = omega (arith, taken.total, c.len.ensures, c.self.inside.bytes.ok.0) in
     c.end_inside.ensures seen taken.lexemes items kept.begins all (record {
       divided = subst (IsDivided seen taken.lexemes items kept.begins) c.if-self.true taken.divided;
-      finished = c.finish-settled.ensures.finishes seen taken.lexemes taken.read;
+      finished = c.finish-settled.ensures.finishes seen taken.lexemes taken.tied;
     })
 
 pub returns-clause-ok : goal.returns-clause-ok
@@ -22,7 +22,7 @@ returns-clause-ok c = ok_says c.end_outside.result _ _ (λ value ends seen items
     let taken : IsTaken seen items kept = taken_of seen items kept c.in-None.is (subst (IsFed seen items) (sym c.self.view_is) fed) in
     let whole = ends seen taken.lexemes items kept.begins (record {
       divided = subst (IsDivided seen taken.lexemes items kept.begins) c.if-self.false taken.divided;
-      finished = c.finish-settled.ensures.finishes seen taken.lexemes taken.read;
+      finished = c.finish-settled.ensures.finishes seen taken.lexemes taken.tied;
     }) in
     record { short = taken.short; lexemes = whole.lexemes; cut = whole.cut; stream = whole.stream })
     c.end_outside.ensures.ok
@@ -33,7 +33,7 @@ returns-clause-refused c = λ none. err_says c.end_outside.result _ _ (λ refusa
     let taken : IsTaken seen items kept = taken_of seen items kept c.in-None.is (subst (IsFed seen items) (sym c.self.view_is) fed) in
     ends seen taken.lexemes items kept.begins (record {
       divided = subst (IsDivided seen taken.lexemes items kept.begins) c.if-self.false taken.divided;
-      finished = c.finish-settled.ensures.finishes seen taken.lexemes taken.read;
+      finished = c.finish-settled.ensures.finishes seen taken.lexemes taken.tied;
     }))
     c.end_outside.ensures.refused
 

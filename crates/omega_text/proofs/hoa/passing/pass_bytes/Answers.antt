@@ -10,8 +10,8 @@ pub pass_plain-begun-requires-clause-way : goal.pass_plain-begun-requires-clause
 pass_plain-begun-requires-clause-way c =
     way_further c.args.bytes.now c.args.from c.loop-place.place c.args.start c.args.pending c.loop-place.reached c.requires.way c.loop-place.invariant
 
-pub returns-then-end-bytes : goal.returns-then-end-bytes
-returns-then-end-bytes c =
+pub returns-then-end-bytes-clause-passes : goal.returns-then-end-bytes-clause-passes
+returns-then-end-bytes-clause-passes c =
     passes_then c.args.start c.args.bytes.now c.args.from c.loop-place.place c.pass_plain-begun.result.1 c.args.pending c.loop-place.reached c.pass_plain-begun.result.0
     c.loop-place.invariant c.pass_plain-begun.ensures
 
@@ -25,8 +25,8 @@ pass_byte-requires c =
     (passes_then c.args.start bytes c.args.from c.loop-place.place end c.args.pending c.loop-place.reached c.pass_plain-begun.result.0
     c.loop-place.invariant c.pass_plain-begun.ensures))
 
-pub returns-in-None : goal.returns-in-None
-returns-in-None c =
+pub returns-in-None-clause-passes : goal.returns-in-None-clause-passes
+returns-in-None-clause-passes c =
     passes_then c.args.start c.args.bytes.now c.args.from c.loop-place.place c.pass_plain-begun.result.1 c.args.pending c.loop-place.reached c.pass_plain-begun.result.0
     c.loop-place.invariant c.pass_plain-begun.ensures
 
@@ -38,4 +38,13 @@ loop-place-preserved c =
     let inside : end < length bytes = omega (arith, c.pass_plain-begun.ensures.within, c.if-end-bytes.false) in
     passes_then c.args.start bytes c.args.from end (end + 1) c.args.pending begun c.in-Some.after
     (passes_then c.args.start bytes c.args.from c.loop-place.place end c.args.pending c.loop-place.reached begun c.loop-place.invariant c.pass_plain-begun.ensures)
-    (passes_byte (c.args.start + (end - c.args.from)) bytes end begun c.in-Some.after inside c.in-Some.ensures)
+    (passes_byte (c.args.start + (end - c.args.from)) bytes end begun c.in-Some.after inside c.in-Some.ensures.passes)
+
+pub returns-in-None-clause-stops : goal.returns-in-None-clause-stops
+returns-in-None-clause-stops c = λ inside. c.in-None.ensures.stops
+
+pub returns-clause-stops : goal.returns-clause-stops
+returns-clause-stops c = λ inside. absurd (omega (arith, inside, c.loop-place-test.false))
+
+pub returns-then-end-bytes-clause-stops : goal.returns-then-end-bytes-clause-stops
+returns-then-end-bytes-clause-stops c = λ inside. absurd (omega (arith, inside, c.if-end-bytes.true))

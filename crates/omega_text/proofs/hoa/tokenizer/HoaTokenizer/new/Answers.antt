@@ -4,5 +4,5 @@ use Rattle.omega_text.specs.hoa.scanning.Reading.{Any, IsAt}
 use Rattle.omega_text.proofs.hoa_texts.Pieces.{nothing_read}
 use Rattle.omega_text.proofs.hoa.tokenizer.HoaTokenizer.new.Goals as goal
 
-pub returns : goal.returns
-returns c = record { place = refl; kept = subst (IsAt Any [] []) (sym c.new.ensures) nothing_read }
+pub returns-clause-reads : goal.returns-clause-reads
+returns-clause-reads c = record { place = refl; kept = subst (IsAt Any [] []) (sym c.new.ensures) nothing_read }

@@ -1,6 +1,7 @@
 -- What was read and settled before, with the bytes that were passed.
-use Rattle.std.proofs.Common.{◌+◌, ◌-◌, refl}
-use Rattle.omega_text.proofs.hoa_texts.Passing.{has_passed, has_passed_none, way_read}
+use Rattle.std.proofs.Common.{◌+◌, ◌-◌, refl, subst}
+use Rattle.omega_text.specs.hoa.scanning.Reading.{IsKept}
+use Rattle.omega_text.proofs.hoa_texts.Passing.{fault_stops, has_passed, has_passed_none, way_read}
 use Rattle.omega_text.proofs.hoa.tokenizer.HoaTokenizer.pass.Goals as goal
 
 pub pass_bytes-after-requires-clause-way : goal.pass_bytes-after-requires-clause-way
@@ -14,4 +15,12 @@ returns-in-None-clause-reads c =
     let after = c.pass_bytes-after.result in
     has_passed c.args.bytes.now c.args.from after.1 c.args.self.now
     (record { pending = after.0; place = c.args.self.now.place + (after.1 - c.args.from); fault = c.args.self.now.fault })
-    c.pass_bytes-after.ensures c.in-None.is c.in-None.is refl
+    c.pass_bytes-after.ensures.passes c.in-None.is c.in-None.is refl
+
+pub returns-in-Some-clause-stops : goal.returns-in-Some-clause-stops
+returns-in-Some-clause-stops c = λ inside seen lexemes read.
+    fault_stops seen lexemes _ c.in-Some._fault (subst (λ fault. IsKept fault seen lexemes c.args.self.now.pending) c.in-Some.is read.kept)
+
+pub returns-in-None-clause-stops : goal.returns-in-None-clause-stops
+returns-in-None-clause-stops c = λ inside seen lexemes read.
+    c.pass_bytes-after.ensures.stops inside seen lexemes read.place (subst (λ fault. IsKept fault seen lexemes c.pass_bytes-after.result.0) c.in-None.is read.kept)
