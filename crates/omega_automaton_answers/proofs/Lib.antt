@@ -1,4 +1,5 @@
 -- Lemmas by theme.
 pub mod Emptiness
 pub mod Refused
+pub mod Told
 pub mod Watching

@@ -3,7 +3,8 @@ ghost use Rattle.omega_text.specs.Cases.{or_io, or_memory};
 ghost use Rattle.omega_hoa.specs.Stream.{IsStreamRefusal};
 ghost use Rattle.omega_io.specs.Failures.{failures_of};
 ghost use Rattle.omega_io.specs.Reading.{ReadsText, ReadsWhole};
-ghost use Rattle.omega_automaton_answers.specs.Canon.{IsStreamCanonAnswer, canonical_part};
+ghost use Rattle.omega_canon.specs.Stream.{canonical_item};
+ghost use Rattle.omega_automaton_answers.specs.Canon.{IsStreamCanonAnswer};
 
 use omega_canon::write_canonical;
 use omega_feed::{Input, Item, ItemText, tell_stream};
@@ -24,7 +25,7 @@ pub fn canon_stream<R: Input>(alloc: Global, input: &mut R) -> Result<Vec<u8>, R
 struct CanonicalPart;
 
 impl ItemText for CanonicalPart {
-    ghost text = { canonical_part };
+    ghost text = { λ _ item. canonical_item item };
 
     fn append(_number: usize, item: &Item, out: &mut Vec<u8>) -> Result<(), Refusal> {
         if let Item::Automaton(automaton) = item {
