@@ -5,3 +5,4 @@ pub mod layout
 pub mod parts
 pub mod walks
 pub mod building
+pub mod solutions

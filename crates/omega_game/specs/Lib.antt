@@ -5,6 +5,7 @@ pub mod Limits
 pub mod Player
 pub mod Game
 pub mod Winning
+pub mod Solution
 pub mod Counterexample
 pub mod Bound
 pub mod Part

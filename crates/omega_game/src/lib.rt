@@ -19,6 +19,7 @@ mod priority_counts;
 mod reaching;
 mod refuting;
 mod resolving;
+mod solution;
 mod sorting;
 mod strategy;
 
@@ -37,4 +38,5 @@ pub use omega_text::{GameFault, MOST_NUMBER, Refusal, Seq, TaskFault};
 pub use player::Player;
 pub use priority_counts::PriorityCount;
 pub use refuting::counterexample;
+pub use solution::Solution;
 pub use strategy::Strategy;

@@ -1,4 +1,4 @@
-ghost use Rattle.std.specs.Prelude.{◌≡◌, ◌≤◌, MatchOption};
+ghost use Rattle.std.specs.Prelude.{◌≡◌, ◌≤◌, ◌↔◌, IsTrue, MatchOption};
 
 /// A player of a parity game. The even priorities are won by player 0, the odd ones by player 1.
 #[derive(Clone, Copy, Debug, PartialEq, Eq)]
@@ -41,6 +41,13 @@ impl Player {
             Player::Zero => Player::One,
             Player::One => Player::Zero,
         }
+    }
+
+    /// Whether the two are one player.
+    pub fn is_same(self, other: Player) -> bool
+        ensures { IsTrue result ↔ (self ≡ other) }
+    {
+        self == other
     }
 
     /// Whether a priority loses for the player.

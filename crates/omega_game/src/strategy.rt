@@ -39,12 +39,5 @@ fn is_own_move(game: &Game, player: Player, place: u32, target: u32) -> bool
     requires { place < length game.now }
     ensures { IsTrue result ↔ ((owner_at game.now place ≡ player) × HasEdge game.now place target) }
 {
-    is_same(game.owner(place), player) && game.successors(place).contains(&target)
-}
-
-/// Whether two players are one.
-fn is_same(player: Player, other: Player) -> bool
-    ensures { IsTrue result ↔ (player ≡ other) }
-{
-    player == other
+    game.owner(place).is_same(player) && game.successors(place).contains(&target)
 }

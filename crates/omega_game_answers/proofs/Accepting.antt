@@ -17,11 +17,11 @@ use Rattle.omega_io.specs.declared.exit.Exit.TheVariants.{Done, No}
 use Rattle.omega_pg.specs.game.Laws.{GamesAreNotRefused, GamesOfTextsAreOne}
 use Rattle.omega_pg.specs.solution.Canonical.{solution_text}
 use Rattle.omega_pg.specs.solution.Laws.{SolutionsAreNotRefused, SolutionsOfTextsAreOne, WrittenSolutionsAreRead}
-use Rattle.omega_pg.specs.solution.Solution.{choices_of}
+use Rattle.omega_game.specs.Solution.{WinsAsGiven, choices_of}
 use Rattle.omega_pg.specs.solution.Text.{IsSolutionText}
-use Rattle.omega_pg.specs.declared.solution.Solution.{Solution}
-use Rattle.omega_game_answers.specs.Verify.{IsJudged, IsJudgedRefusal, IsVerdict, IsVerifyAnswer, IsVerifyRefusal, LosesGiven}
-use Rattle.omega_game_answers.specs.solve.Solution.{IsExactSolutionOf, WinsAsGiven}
+use Rattle.omega_game.specs.declared.solution.Solution.{Solution}
+use Rattle.omega_game_answers.specs.Verify.{IsJudgedGame, IsJudgedGameRefusal, IsSolutionVerdict, IsVerifyAnswer, IsVerifyRefusal, LosesGiven}
+use Rattle.omega_game_answers.specs.solve.Solution.{IsExactSolutionOf}
 use Rattle.omega_game_answers.proofs.Parts.{part-limits, part_from-unique}
 
 -- ---- a choice that wins has no counterexample
@@ -61,7 +61,7 @@ loses_not nodes solution player lasso wins loses_given =
 
 -- the verdict on a solution that wins as given is `yes`
 verdict-yes : (nodes : List Node) (solution : Solution) (explain : Bool) (exit : Exit) (output : List ℕ) → WinsAsGiven nodes solution
-    → IsVerdict nodes solution explain exit output → (exit ≡ Done) × (output ≡ codes "yes\n")
+    → IsSolutionVerdict nodes solution explain exit output → (exit ≡ Done) × (output ≡ codes "yes\n")
 verdict-yes nodes solution explain Done output wins verdict = (refl, verdict.1)
 verdict-yes nodes solution false No output wins verdict = absurd (verdict.0 wins)
 verdict-yes nodes solution true No output wins verdict = absurd (loses_not nodes solution verdict.player verdict.lasso wins verdict.loses)
@@ -69,15 +69,15 @@ verdict-yes nodes solution true No output wins verdict = absurd (loses_not nodes
 -- ---- the game that is judged
 
 -- a text has one game that is judged
-judged-unique : (text : List ℕ) (from : Option ℕ) (one other : List Node) → GamesOfTextsAreOne → IsJudged text from one
-    → IsJudged text from other → one ≡ other
+judged-unique : (text : List ℕ) (from : Option ℕ) (one other : List Node) → GamesOfTextsAreOne → IsJudgedGame text from one
+    → IsJudgedGame text from other → one ≡ other
 judged-unique text None one other games first second = games text one other first second
 judged-unique text (Some identifier) one other games first second =
     let same = games text first.game second.game first.read second.read in
     part_from-unique second.game identifier one other second.read.rearranged.game (rw same at first.part_of) second.part_of
 
 -- it is a game within the limits
-judged-game : (text : List ℕ) (from : Option ℕ) (nodes : List Node) → PartsAreGames → PartsKeepNodes → IsJudged text from nodes
+judged-game : (text : List ℕ) (from : Option ℕ) (nodes : List Node) → PartsAreGames → PartsKeepNodes → IsJudgedGame text from nodes
     → IsGame nodes × IsWithinLimits nodes
 judged-game text None nodes games keeps judged = (judged.rearranged.game, judged.limits)
 judged-game text (Some identifier) nodes games keeps judged =
@@ -89,7 +89,7 @@ judged-game text (Some identifier) nodes games keeps judged =
 
 -- the refusal of a text that has a game that is judged is none
 judged-not_refused : (text : List ℕ) (from : Option ℕ) (nodes : List Node) (refusal : Refusal) → GamesOfTextsAreOne → GamesAreNotRefused
-    → IsJudged text from nodes → IsJudgedRefusal text from refusal → ⊥
+    → IsJudgedGame text from nodes → IsJudgedGameRefusal text from refusal → ⊥
 judged-not_refused text None nodes refusal games refused judged h = refused text nodes refusal judged h
 judged-not_refused text (Some identifier) nodes (Task fault) games refused judged h =
     let same = games text judged.game h.1.game judged.read h.1.read in
@@ -112,7 +112,7 @@ exact-read nodes output written game limits exact short =
 -- and is judged to be right
 pub exact-verified : (text : List ℕ) (from : Option ℕ) (nodes : List Node) (solved : List ℕ) (explain : Bool) (exit : Exit) (output : List ℕ)
     → GamesOfTextsAreOne → PartsAreGames → PartsKeepNodes → WrittenSolutionsAreRead → SolutionsOfTextsAreOne
-    → IsJudged text from nodes → IsExactSolutionOf nodes solved → length solved ≤ most_text
+    → IsJudgedGame text from nodes → IsExactSolutionOf nodes solved → length solved ≤ most_text
     → IsVerifyAnswer text from solved explain exit output → (exit ≡ Done) × (output ≡ codes "yes\n")
 exact-verified text from nodes solved explain exit output games parts keeps written ones judged exact short answer =
     let is_game = judged-game text from nodes parts keeps judged in
@@ -120,13 +120,13 @@ exact-verified text from nodes solved explain exit output games parts keeps writ
     let read = exact-read nodes solved written is_game.0 is_game.1 exact short in
     let read' : IsSolutionText nodes solved answer.solution = rw same_game at answer.read in
     let same : answer.solution ≡ exact.solution = ones nodes solved answer.solution exact.solution is_game.0 read' read in
-    let verdict : IsVerdict nodes exact.solution explain exit output = rw (same_game, same) at answer.verdict in
+    let verdict : IsSolutionVerdict nodes exact.solution explain exit output = rw (same_game, same) at answer.verdict in
     verdict-yes nodes exact.solution explain exit output exact.exact.wins verdict
 
 -- and is not refused
 pub exact-not_refused : (text : List ℕ) (from : Option ℕ) (nodes : List Node) (solved : List ℕ) (refusal : Refusal)
     → GamesOfTextsAreOne → GamesAreNotRefused → PartsAreGames → PartsKeepNodes → WrittenSolutionsAreRead → SolutionsAreNotRefused
-    → IsJudged text from nodes → IsExactSolutionOf nodes solved → length solved ≤ most_text
+    → IsJudgedGame text from nodes → IsExactSolutionOf nodes solved → length solved ≤ most_text
     → IsVerifyRefusal text from solved refusal → ⊥
 exact-not_refused text from nodes solved refusal games refused parts keeps written solutions judged exact short h =
     let is_game = judged-game text from nodes parts keeps judged in

@@ -10,12 +10,9 @@ use Rattle.omega_game.specs.Counterexample.{IsCounterexample}
 use Rattle.omega_game.specs.Game.{Node, IsGame}
 use Rattle.omega_game.specs.Player.{player_number}
 use Rattle.omega_game.specs.Winning.{IsWalk}
-use Rattle.omega_pg.specs.declared.solution.Solution.{Solution}
-use Rattle.omega_pg.specs.solution.Solution.{choices_of}
+use Rattle.omega_game.specs.declared.solution.Solution.{Solution}
+use Rattle.omega_game.specs.Solution.{ArePlacesGiven, WinsGiven, choices_of}
 use Rattle.omega_game_answers.specs.Verify.{IsExplained, LosesGiven, explained_text}
-use Rattle.omega_game_answers.specs.solve.Solution.{WinsGiven}
-use Rattle.omega_game_answers.specs.steps.Verdict.{given_to}
-use Rattle.omega_game_answers.proofs.Verifying.{given-Contains}
 
 -- ---- where a lasso begins
 
@@ -37,10 +34,10 @@ from_its_start nodes player choices places lasso lost = record {
 
 -- a counterexample from the places given to a player begins at a node given to the player
 pub loses-given : (nodes : List Node) (solution : Solution) (player : Player) (choices : List (Option ℕ)) (places : List ℕ) (lasso : Lasso)
-    → length solution.winners ≡ length nodes → choices ≡ choices_of solution player → places ≡ given_to player solution.winners
+    → length solution.winners ≡ length nodes → choices ≡ choices_of solution player → ArePlacesGiven solution player places
     → IsCounterexample nodes player choices places lasso → LosesGiven nodes solution player lasso
 loses-given nodes solution player choices places lasso entries same given lost =
-    let there = (given-Contains player solution.winners lost.start).0 (subst (λ (xs : List ℕ). Contains xs lost.start) given lost.listed) in
+    let there = (given.given lost.start).0 lost.listed in
     record {
       start = lost.start;
       node = omega (arith, entries, there.0);

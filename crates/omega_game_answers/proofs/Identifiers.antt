@@ -6,7 +6,7 @@ use Rattle.std.proofs.lemmas.List.{get_or-map, length-map}
 use Rattle.std.proofs.lemmas.List.Quantifiers.{position-Some}
 use Rattle.std.proofs.lemmas.List.Sums.{fails_before_first}
 use Rattle.omega_game.specs.Game.{Node, identifiers, no_node, node_at}
-use Rattle.omega_game_answers.specs.Part.{HasIdentifier, IsUnknown}
+use Rattle.omega_game_answers.specs.Part.{HasIdentifier, IsUnknownIdentifier}
 
 identifier-at : (nodes : List Node) (v : ℕ) → v < length nodes → get_or (identifiers nodes) v 0 ≡ (node_at nodes v).identifier
 identifier-at nodes v h = get_or-map (λ (node : Node). node.identifier) nodes v no_node 0 h
@@ -25,7 +25,7 @@ none_before false n e = refl
 
 -- no place has an identifier that stands nowhere
 pub identified-nowhere : (nodes : List Node) (identifier : ℕ) → position (λ x. x == identifier) (identifiers nodes) ≡ None
-    → IsUnknown nodes identifier
+    → IsUnknownIdentifier nodes identifier
 identified-nowhere nodes identifier e place identified =
     let first = position_or_len (λ x. x == identifier) (identifiers nodes) in
     let past = ltb-false first (length (identifiers nodes)) (none_before _ first e) in

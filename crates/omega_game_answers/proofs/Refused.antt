@@ -7,7 +7,7 @@ use Rattle.omega_game.specs.Game.{Node}
 use Rattle.omega_pg.specs.solution.Refusing.{IsReadSolutionRefusal}
 use Rattle.omega_pg.specs.game.Text.{IsGameText}
 use Rattle.omega_game_answers.specs.Part.{IsPartTextRefusal}
-use Rattle.omega_game_answers.specs.Verify.{IsJudged, IsVerifyRefusal}
+use Rattle.omega_game_answers.specs.Verify.{IsJudgedGame, IsVerifyRefusal}
 use Rattle.omega_game_answers.specs.steps.PartRefusal.{IsPartRefusal}
 
 -- what holds of a refusal, or want of memory
@@ -21,7 +21,7 @@ or_memory-of P Io h = h
 
 -- the text of a solution
 pub solution-refused : (game_text : List ℕ) (from : Option ℕ) (game : List Node) (text : List ℕ) (refusal : Refusal)
-    → IsJudged game_text from game → IsReadSolutionRefusal game text refusal → or_memory (IsVerifyRefusal game_text from text) refusal
+    → IsJudgedGame game_text from game → IsReadSolutionRefusal game text refusal → or_memory (IsVerifyRefusal game_text from text) refusal
 solution-refused game_text from game text refusal judged h =
     elim h [
       | inl memory ↦ rw memory tt

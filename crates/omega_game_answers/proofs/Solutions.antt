@@ -8,13 +8,13 @@ use Rattle.omega_game.specs.declared.player.Player.TheVariants.{One, Zero}
 use Rattle.omega_game.specs.Game.{IsGame, Node, owner_at, priorities}
 use Rattle.omega_game.specs.Winning.{Chooses, InRegion, choice_at}
 use Rattle.omega_measure.specs.Table.{is_too_wide}
-use Rattle.omega_pg.specs.declared.solution.Solution.{Solution}
-use Rattle.omega_pg.specs.solution.Solution.{choices_of, winner_at}
+use Rattle.omega_game.specs.declared.solution.Solution.{Solution}
+use Rattle.omega_game.specs.Solution.{GivesRegions, choices_of, winner_at}
 use Rattle.omega_region.specs.Laws.{RegionsAreApart, RegionsCover}
 use Rattle.omega_solve.specs.Headline.{IsExact}
 use Rattle.omega_solve.specs.Within.{EndsWithin, IsFound}
 use Rattle.omega_solve.specs.declared.found.Found.{Found}
-use Rattle.omega_game_answers.specs.solve.Solution.{GivesRegions, IsRight}
+use Rattle.omega_game_answers.specs.solve.Solution.{IsRight}
 use Rattle.omega_game_answers.specs.steps.Winners.{winner_of, winners_of}
 use Rattle.omega_game_answers.proofs.Places.{slice_get-true}
 

@@ -4,7 +4,7 @@ use Rattle.omega_game.specs.declared.player.Player.{Player}
 use Rattle.omega_game.specs.declared.player.Player.TheVariants.{One, Zero}
 use Rattle.omega_game.specs.Game.{Node}
 use Rattle.omega_game_answers.specs.Laws.{IsSolved}
-use Rattle.omega_game_answers.specs.Verify.{IsJudged}
+use Rattle.omega_game_answers.specs.Verify.{IsJudgedGame}
 use Rattle.omega_game_answers.specs.declared.solve.asked.Asked.{Asked}
 use Rattle.omega_game_answers.specs.declared.solve.asked.Asked.TheVariants as way
 use Rattle.omega_game_answers.specs.solve.Refusing.{IsSolvedFor}
@@ -26,7 +26,7 @@ exact-both nodes (way.Player player) budget output both answer =
 
 exact-answer : (text : List ℕ) (asked : Asked) (from : Option ℕ) (budget : ℕ) (output : List ℕ)
     → ((player : Player) → IsSolvedFor asked player) → IsSolveAnswer text asked from budget output
-    → (nodes : List Node) × IsJudged text from nodes × IsExactSolutionOf nodes output
+    → (nodes : List Node) × IsJudgedGame text from nodes × IsExactSolutionOf nodes output
 exact-answer text asked None budget output both answer =
     (answer.game, answer.read, exact-both answer.game asked budget output both answer.solved)
 exact-answer text asked (Some identifier) budget output both answer =
@@ -41,5 +41,5 @@ exact-answer text asked (Some identifier) budget output both answer =
     )
 
 pub solved-judged : (text : List ℕ) (from : Option ℕ) (output : List ℕ) → IsSolved text from output
-    → (nodes : List Node) × IsJudged text from nodes × IsExactSolutionOf nodes output
+    → (nodes : List Node) × IsJudgedGame text from nodes × IsExactSolutionOf nodes output
 solved-judged text from output solved = exact-answer text solved.asked from solved.budget output solved.both solved.answer

@@ -17,7 +17,7 @@ use Rattle.omega_game_answers.specs.Part.{IsPartFrom}
 use Rattle.omega_game_answers.specs.solve.AnswerText.{IsAnswerOf, WinsExactly, answer_text}
 use Rattle.omega_game_answers.specs.declared.solve.asked.Asked.{Asked}
 use Rattle.omega_game_answers.specs.solve.Refusing.{IsSolvedFor, IsTooWide}
-use Rattle.omega_game_answers.specs.steps.GameRefusal.{IsGameRefusal}
+use Rattle.omega_game_answers.specs.steps.SolveGameRefusal.{IsSolveGameRefusal}
 use Rattle.omega_game_answers.specs.steps.PartRefusal.{IsPartRefusal}
 use Rattle.omega_game_answers.specs.steps.Places.{places_from}
 use Rattle.omega_game_answers.proofs.Places.{Contains-places_from, IsStrictlyIncreasing-places_from, places_from-true}
@@ -73,7 +73,7 @@ right_answer nodes player budget found output narrow is_found written = record {
 -- what is refused for a player's budget is refused of the game, which is too wide for no player for whom it is solved
 pub refused-budget : (nodes : List Node) (asked : Asked) (player : Player) (budget : ℕ) (refusal : Refusal)
     → ((other : Player) → IsSolvedFor asked other → is_too_wide other (priorities nodes) ≡ false) → IsSolvedFor asked player
-    → IsBudgetRefusal nodes player budget refusal → IsGameRefusal nodes asked None budget refusal
+    → IsBudgetRefusal nodes player budget refusal → IsSolveGameRefusal nodes asked None budget refusal
 refused-budget nodes asked player budget (Task fault) narrow solved_for (e, unfinished) =
     rw e (record { narrow = narrow; player = player; solved_for = solved_for; unfinished = unfinished })
 refused-budget nodes asked player budget Memory narrow solved_for h = tt
@@ -84,7 +84,7 @@ refused-budget nodes asked player budget Io narrow solved_for h = h
 
 -- what refuses taking the part of a node refuses the solving from it
 pub refused-unknown : (game : List Node) (asked : Asked) (identifier budget : ℕ) (refusal : Refusal)
-    → IsPartRefusal game identifier refusal → IsGameRefusal game asked (Some identifier) budget refusal
+    → IsPartRefusal game identifier refusal → IsSolveGameRefusal game asked (Some identifier) budget refusal
 refused-unknown game asked identifier budget (Task fault) (e, unknown) = rw e unknown
 refused-unknown game asked identifier budget Memory h = tt
 refused-unknown game asked identifier budget (Text fault) h = h
@@ -94,8 +94,8 @@ refused-unknown game asked identifier budget Io h = h
 
 -- what refuses the part of a node refuses the solving from it
 pub refused-part : (game : List Node) (asked : Asked) (identifier budget : ℕ) (part : List Node) (refusal : Refusal)
-    → IsPartFrom game identifier part → IsGameRefusal part asked None budget refusal
-    → IsGameRefusal game asked (Some identifier) budget refusal
+    → IsPartFrom game identifier part → IsSolveGameRefusal part asked None budget refusal
+    → IsSolveGameRefusal game asked (Some identifier) budget refusal
 refused-part game asked identifier budget part (Task UnknownNode) part_of h = absurd h
 refused-part game asked identifier budget part (Task TooWide) part_of h = record { part = part; part_of = part_of; fault_there = h }
 refused-part game asked identifier budget part (Task Budget) part_of h = record { part = part; part_of = part_of; fault_there = h }
@@ -111,7 +111,7 @@ refused-part game asked identifier budget part Io part_of h = h
 
 -- what refuses a table for a player refuses the solving for the player
 pub refused-prepare : (nodes : List Node) (asked : Asked) (player : Player) (budget : ℕ) (refusal : Refusal) → IsSolvedFor asked player
-    → IsPrepareRefusal player (priorities nodes) refusal → IsGameRefusal nodes asked None budget refusal
+    → IsPrepareRefusal player (priorities nodes) refusal → IsSolveGameRefusal nodes asked None budget refusal
 refused-prepare nodes asked player budget (Task fault) solved_for (e, wide) = rw e (record { player = player; solved_for = solved_for; wide = wide })
 refused-prepare nodes asked player budget Memory solved_for h = tt
 refused-prepare nodes asked player budget (Text fault) solved_for h = h
@@ -121,7 +121,7 @@ refused-prepare nodes asked player budget Io solved_for h = h
 
 -- a game that is too wide refuses the solving
 pub refused-wide : (nodes : List Node) (asked : Asked) (budget : ℕ) (refusal : Refusal) → (refusal ≡ Task TooWide) × IsTooWide nodes asked
-    → IsGameRefusal nodes asked None budget refusal
+    → IsSolveGameRefusal nodes asked None budget refusal
 refused-wide nodes asked budget refusal (e, wide) = rw e wide
 
 -- ---- a game under another name

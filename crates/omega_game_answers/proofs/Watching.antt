@@ -6,7 +6,7 @@ use Rattle.omega_text.specs.declared.refusal.task.TaskFault.TheVariants.{Budget}
 use Rattle.omega_game.specs.Game.{Node}
 use Rattle.omega_game.specs.declared.player.Player.{Player}
 use Rattle.omega_pg.specs.game.Refusing.{IsReadRefusal}
-use Rattle.omega_game_answers.specs.Watching.{AreRuns, LiftsGame}
+use Rattle.omega_game_answers.specs.Watching.{AreRuns, LiftsWholeGame}
 use Rattle.omega_game_answers.specs.declared.solve.asked.Asked.{Asked}
 use Rattle.omega_game_answers.specs.declared.solve.asked.Asked.TheVariants as way
 use Rattle.omega_watch.specs.Watching.{IsWatched}
@@ -22,12 +22,12 @@ runs_refused way.Search players refusal other (inr made) = inr (made_refused _ p
 runs_refused (way.Player player) players refusal other made = made_refused _ players refusal other made
 
 pub game_refused : (game : List Node) (asked : Asked) (refusal : Refusal) → refusal ≢ Task Budget
-    → (nodes : List Node) (players : List Player) → LiftsGame game asked None nodes players → LiftsGame game asked (Some refusal) nodes players
+    → (nodes : List Node) (players : List Player) → LiftsWholeGame game asked None nodes players → LiftsWholeGame game asked (Some refusal) nodes players
 game_refused game asked refusal other nodes players lifted = (lifted.0, runs_refused asked players refusal other lifted.1)
 
 -- a search that answers makes no run
 pub search_watched : {L : Type 0} (game : List Node) (tells : Progress → L → L → Type 0) (every budget : ℕ) (before : L)
-    → IsWatched (LiftsGame game way.Search) None tells every budget before before
+    → IsWatched (LiftsWholeGame game way.Search) None tells every budget before before
 search_watched game tells every budget before = record {
   nodes = game;
   players = [];
@@ -37,10 +37,10 @@ search_watched game tells every budget before = record {
 
 -- where the search gives nothing, the game is lifted for both players
 pub both_lifted : {L : Type 0} (game : List Node) (refusal : Option Refusal) (tells : Progress → L → L → Type 0) (every budget : ℕ) (before after : L)
-    → IsWatched (LiftsGame game way.Both) refusal tells every budget before after
-    → IsWatched (LiftsGame game way.Search) refusal tells every budget before after
+    → IsWatched (LiftsWholeGame game way.Both) refusal tells every budget before after
+    → IsWatched (LiftsWholeGame game way.Search) refusal tells every budget before after
 both_lifted game refusal tells every budget before after watched =
-    watched_as (LiftsGame game way.Both) (LiftsGame game way.Search) refusal tells every budget before after
+    watched_as (LiftsWholeGame game way.Both) (LiftsWholeGame game way.Search) refusal tells every budget before after
     (λ nodes players lifted. (lifted.0, inr lifted.1)) watched
 
 -- no text of a game is refused for the budget

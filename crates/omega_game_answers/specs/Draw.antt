@@ -5,7 +5,7 @@ use Rattle.omega_game.specs.Game.{Node}
 use Rattle.omega_game_drawing.specs.GameDrawing.{drawing_of_game, drawing_of_solution}
 use Rattle.omega_pg.specs.game.Text.{IsGameText}
 use Rattle.omega_pg.specs.solution.Text.{IsSolutionText}
-use Rattle.omega_pg.specs.declared.solution.Solution.{Solution}
+use Rattle.omega_game.specs.declared.solution.Solution.{Solution}
 use Rattle.omega_game_answers.specs.Verify.{IsVerifyRefusal}
 
 -- what `draw` answers: the text stands for a game, and its drawing is written

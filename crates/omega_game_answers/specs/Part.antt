@@ -14,8 +14,8 @@ pub record HasIdentifier (nodes : List Node) (identifier place : ℕ) : Type 0 w
   pub identified : (node_at nodes place).identifier ≡ identifier
 
 -- no node has the identifier
-abbrev pub IsUnknown : List Node → ℕ → Type 0
-IsUnknown nodes identifier = (place : ℕ) → ¬ HasIdentifier nodes identifier place
+abbrev pub IsUnknownIdentifier : List Node → ℕ → Type 0
+IsUnknownIdentifier nodes identifier = (place : ℕ) → ¬ HasIdentifier nodes identifier place
 
 -- part is the part of the game that the node with the identifier reaches
 pub record IsPartFrom (game : List Node) (identifier : ℕ) (part : List Node) : Type 0 where
@@ -33,7 +33,7 @@ pub record IsPartText (text : List ℕ) (identifier : ℕ) (part : List Node) : 
 pub record IsTextWithout (text : List ℕ) (identifier : ℕ) : Type 0 where
   pub game : List Node
   pub read : IsGameText text game
-  pub unknown : IsUnknown game identifier
+  pub unknown : IsUnknownIdentifier game identifier
 
 -- the refusal of a text's part: that of the text, or else that no node of its game has the identifier
 abbrev pub IsPartTextRefusal : List ℕ → ℕ → Refusal → Type 0

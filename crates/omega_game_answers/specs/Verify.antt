@@ -4,19 +4,18 @@ use Rattle.std.specs.List.{flat_map}
 use Rattle.omega_text.specs.declared.refusal.Refusal.{Refusal}
 use Rattle.omega_game.specs.declared.lasso.Lasso.{Lasso}
 use Rattle.omega_game.specs.declared.player.Player.{Player}
+use Rattle.omega_game.specs.declared.solution.Solution.{Solution}
 use Rattle.omega_game.specs.Counterexample.{IsCounterexample}
 use Rattle.omega_game.specs.Game.{Node, identifier_at}
 use Rattle.omega_game.specs.Player.{player_number}
+use Rattle.omega_game.specs.Solution.{WinsAsGiven, WinsGiven, choices_of, winner_at}
 use Rattle.omega_pg.specs.game.Refusing.{IsRefusal}
 use Rattle.omega_pg.specs.solution.Refusing.{IsSolutionRefusal}
 use Rattle.omega_pg.specs.solution.Text.{IsSolutionText}
-use Rattle.omega_pg.specs.solution.Solution.{choices_of, winner_at}
 use Rattle.omega_pg.specs.game.Text.{IsGameText}
-use Rattle.omega_pg.specs.declared.solution.Solution.{Solution}
 use Rattle.omega_io.specs.declared.exit.Exit.{Exit}
 use Rattle.omega_io.specs.declared.exit.Exit.TheVariants.{Done, No}
 use Rattle.omega_game_answers.specs.Part.{IsPartText, IsPartTextRefusal}
-use Rattle.omega_game_answers.specs.solve.Solution.{WinsAsGiven, WinsGiven}
 
 -- the identifiers of the nodes at the places, a space before each
 abbrev pub identifiers_text : List Node → List ℕ → List ℕ
@@ -44,35 +43,35 @@ pub record IsExplained (nodes : List Node) (solution : Solution) (output : List 
   pub written : output ≡ explained_text nodes player lasso
 
 -- `yes` where for each player the choices win from all nodes given to that player, else `no`, with an exit of its own; this is explained where that is asked for
-abbrev pub IsVerdict : List Node → Solution → Bool → Exit → List ℕ → Type 0
-IsVerdict nodes solution explain Done output = WinsAsGiven nodes solution × (output ≡ codes "yes\n")
-IsVerdict nodes solution false No output = (¬ WinsAsGiven nodes solution) × (output ≡ codes "no\n")
-IsVerdict nodes solution true No output = IsExplained nodes solution output
+abbrev pub IsSolutionVerdict : List Node → Solution → Bool → Exit → List ℕ → Type 0
+IsSolutionVerdict nodes solution explain Done output = WinsAsGiven nodes solution × (output ≡ codes "yes\n")
+IsSolutionVerdict nodes solution false No output = (¬ WinsAsGiven nodes solution) × (output ≡ codes "no\n")
+IsSolutionVerdict nodes solution true No output = IsExplained nodes solution output
 
 -- the game that is judged: that of the text, or where an identifier is given, the part of it that its node reaches
-abbrev pub IsJudged : List ℕ → Option ℕ → List Node → Type 0
-IsJudged game_text None game = IsGameText game_text game
-IsJudged game_text (Some identifier) game = IsPartText game_text identifier game
+abbrev pub IsJudgedGame : List ℕ → Option ℕ → List Node → Type 0
+IsJudgedGame game_text None game = IsGameText game_text game
+IsJudgedGame game_text (Some identifier) game = IsPartText game_text identifier game
 
 -- what `verify` answers: the texts stand for a game that is judged and for a solution of it, and the verdict is written
 pub record IsVerifyAnswer (game_text : List ℕ) (from : Option ℕ) (text : List ℕ) (explain : Bool) (exit : Exit) (output : List ℕ) : Type 0 where
   pub game : List Node
-  pub judged : IsJudged game_text from game
+  pub judged : IsJudgedGame game_text from game
   pub solution : Solution
   pub read : IsSolutionText game text solution
-  pub verdict : IsVerdict game solution explain exit output
+  pub verdict : IsSolutionVerdict game solution explain exit output
 
 -- the refusal of the game that is judged: that of the text, or where an identifier is given, that of the part
-abbrev pub IsJudgedRefusal : List ℕ → Option ℕ → Refusal → Type 0
-IsJudgedRefusal game_text None refusal = IsRefusal game_text refusal
-IsJudgedRefusal game_text (Some identifier) refusal = IsPartTextRefusal game_text identifier refusal
+abbrev pub IsJudgedGameRefusal : List ℕ → Option ℕ → Refusal → Type 0
+IsJudgedGameRefusal game_text None refusal = IsRefusal game_text refusal
+IsJudgedGameRefusal game_text (Some identifier) refusal = IsPartTextRefusal game_text identifier refusal
 
 -- the one text stands for a game that is judged, and the other is refused as a solution of it
 pub record RefusesSolution (game_text : List ℕ) (from : Option ℕ) (text : List ℕ) (refusal : Refusal) : Type 0 where
   pub game : List Node
-  pub judged : IsJudged game_text from game
+  pub judged : IsJudgedGame game_text from game
   pub refused : IsSolutionRefusal game text refusal
 
 -- the refusal of `verify`: that of the game that is judged, or else that of the solution's text
 abbrev pub IsVerifyRefusal : List ℕ → Option ℕ → List ℕ → Refusal → Type 0
-IsVerifyRefusal game_text from text refusal = IsJudgedRefusal game_text from refusal ⊎ RefusesSolution game_text from text refusal
+IsVerifyRefusal game_text from text refusal = IsJudgedGameRefusal game_text from refusal ⊎ RefusesSolution game_text from text refusal

@@ -5,7 +5,7 @@ use Rattle.omega_game.specs.declared.player.Player.{Player}
 use Rattle.omega_game.specs.declared.player.Player.TheVariants.{One, Zero}
 use Rattle.omega_game.specs.Game.{Node}
 use Rattle.omega_game_answers.specs.Part.{IsPartFrom}
-use Rattle.omega_game_answers.specs.Verify.{IsJudged}
+use Rattle.omega_game_answers.specs.Verify.{IsJudgedGame}
 use Rattle.omega_game_answers.specs.declared.solve.asked.Asked.{Asked}
 use Rattle.omega_game_answers.specs.declared.solve.asked.Asked.TheVariants as way
 use Rattle.omega_watch.specs.Watching.{AreMade, IsSpent}
@@ -17,8 +17,8 @@ AreRuns way.Search refusal players = ((players ≡ []) × (IsSpent refusal → �
 AreRuns (way.Player player) refusal players = AreMade (player ∷ []) refusal players
 
 -- a whole game is lifted
-abbrev pub LiftsGame : List Node → Asked → Option Refusal → List Node → List Player → Type 0
-LiftsGame game asked refusal nodes players = (nodes ≡ game) × AreRuns asked refusal players
+abbrev pub LiftsWholeGame : List Node → Asked → Option Refusal → List Node → List Player → Type 0
+LiftsWholeGame game asked refusal nodes players = (nodes ≡ game) × AreRuns asked refusal players
 
 -- the part of a game that the node with the identifier reaches is lifted
 abbrev pub LiftsPart : List Node → Asked → ℕ → Option Refusal → List Node → List Player → Type 0
@@ -26,4 +26,4 @@ LiftsPart game asked identifier refusal nodes players = IsPartFrom game identifi
 
 -- `solve` lifts the game of the text, or the part of it that a node reaches
 abbrev pub LiftsText : List ℕ → Asked → Option ℕ → Option Refusal → List Node → List Player → Type 0
-LiftsText text asked from refusal nodes players = IsJudged text from nodes × AreRuns asked refusal players
+LiftsText text asked from refusal nodes players = IsJudgedGame text from nodes × AreRuns asked refusal players

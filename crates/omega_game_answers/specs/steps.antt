@@ -1,5 +1,5 @@
 -- What stands between a text and its answer: cited by private contracts alone.
-pub mod GameRefusal
+pub mod SolveGameRefusal
 pub mod PartRefusal
 pub mod Places
 pub mod Solved

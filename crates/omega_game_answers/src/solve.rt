@@ -3,8 +3,8 @@ ghost use Rattle.omega_solve.specs.Limits.{most_lifts};
 ghost use Rattle.omega_text.specs.Cases.{or_memory};
 ghost use Rattle.omega_game_answers.specs.solve.Refusing.{IsSolveRefusal};
 ghost use Rattle.omega_game_answers.specs.solve.Solving.{IsSolveAnswer, SolvesPart, SolvesWhole};
-ghost use Rattle.omega_game_answers.specs.steps.GameRefusal.{IsGameRefusal};
-ghost use Rattle.omega_game_answers.specs.Watching.{LiftsGame, LiftsPart, LiftsText};
+ghost use Rattle.omega_game_answers.specs.steps.SolveGameRefusal.{IsSolveGameRefusal};
+ghost use Rattle.omega_game_answers.specs.Watching.{LiftsWholeGame, LiftsPart, LiftsText};
 ghost use Rattle.omega_watch.specs.Watching.{IsWatched, refusal_in};
 
 mod answer_text;
@@ -63,7 +63,7 @@ fn solve_part<T: MeasureTable, S: Schedule, L, W: Watch<L>>(
 ) -> Result<Vec<u8>, Refusal>
     requires { budget ≤ most_lifts }
     ensures answer { IfOk result (λ output. SolvesPart game asked identifier budget output.items) }
-    ensures refused { IfErr result (IsGameRefusal game asked (Some identifier) budget) }
+    ensures refused { IfErr result (IsSolveGameRefusal game asked (Some identifier) budget) }
     ensures told { IsWatched (LiftsPart game asked identifier) (refusal_in result) (W.tells watch.now) (W.pace watch.now) budget listener.old listener.new }
 {
     regions_of_parts();
@@ -83,8 +83,8 @@ fn solve_whole<T: MeasureTable, S: Schedule, L, W: Watch<L>>(
 ) -> Result<Vec<u8>, Refusal>
     requires { budget ≤ most_lifts }
     ensures answer { IfOk result (λ output. SolvesWhole game.now asked budget output.items) }
-    ensures refused { IfErr result (IsGameRefusal game.now asked None budget) }
-    ensures told { IsWatched (LiftsGame game.now asked) (refusal_in result) (W.tells watch.now) (W.pace watch.now) budget listener.old listener.new }
+    ensures refused { IfErr result (IsSolveGameRefusal game.now asked None budget) }
+    ensures told { IsWatched (LiftsWholeGame game.now asked) (refusal_in result) (W.tells watch.now) (W.pace watch.now) budget listener.old listener.new }
 {
     match asked {
         Asked::Both => solve_both::<T, S, L, W>(alloc, game, budget, watch, listener),

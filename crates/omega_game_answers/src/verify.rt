@@ -1,23 +1,21 @@
-ghost use Rattle.std.specs.Prelude.{◌≡◌, ◌≤◌, ◌↔◌, IfOk, IfErr, IsOkUnless, IsTrue, length};
+ghost use Rattle.std.specs.Prelude.{◌≡◌, ◌↔◌, IfOk, IfErr, IsOkUnless, IsTrue};
 ghost use Rattle.omega_text.specs.Cases.{or_memory};
 ghost use Rattle.omega_text.specs.declared.refusal.Refusal.TheVariants.{Memory};
-ghost use Rattle.omega_game.specs.Limits.{most_nodes};
-ghost use Rattle.omega_pg.specs.solution.Solution.{IsSolution, choices_of};
+ghost use Rattle.omega_game.specs.Solution.{IsSolution, WinsAsGiven, WinsGiven};
 ghost use Rattle.omega_pg.specs.solution.Refusing.{IsReadSolutionRefusal};
 ghost use Rattle.omega_pg.specs.solution.Text.{IsSolutionText};
 ghost use Rattle.omega_game_answers.specs.Part.{IsPartText, IsPartTextRefusal};
-ghost use Rattle.omega_game_answers.specs.Verify.{IsJudged, IsJudgedRefusal, IsVerdict, IsVerifyAnswer, IsVerifyRefusal};
-ghost use Rattle.omega_game_answers.specs.solve.Solution.{WinsAsGiven, WinsGiven};
+ghost use Rattle.omega_game_answers.specs.Verify.{IsJudgedGame, IsJudgedGameRefusal, IsSolutionVerdict, IsVerifyAnswer, IsVerifyRefusal};
 ghost use Rattle.omega_game_answers.specs.steps.Solved.{IsSolutionJudged};
-ghost use Rattle.omega_game_answers.specs.steps.Verdict.{given_to, is_given, verdict_exit, verdict_text};
+ghost use Rattle.omega_game_answers.specs.steps.Verdict.{verdict_exit, verdict_text};
 
 mod explaining;
 
 use crate::part::part_from;
 use explaining::explained;
-use omega_game::{Game, Player, Refusal, Strategy, check_strategy};
+use omega_game::{Game, Player, Refusal, Solution, check_strategy};
 use omega_io::Exit;
-use omega_pg::{Solution, read_game, read_solution};
+use omega_pg::{read_game, read_solution};
 use std::alloc::Global;
 
 /// Says whether the choices of the solution that a text stands for win, without solving its game, which has a text of
@@ -55,8 +53,8 @@ fn judged(
 /// The game that a text stands for, or where an identifier is given, the part of it that its node reaches. 1 to 4, 10 to
 /// 14, 54 or 60.
 fn judged_game(alloc: Global, text: &[u8], from: Option<u32>) -> Result<Game, Refusal>
-    ensures game { IfOk result (IsJudged text.now from) }
-    ensures refused { IfErr result (or_memory (IsJudgedRefusal text.now from)) }
+    ensures game { IfOk result (IsJudgedGame text.now from) }
+    ensures refused { IfErr result (or_memory (IsJudgedGameRefusal text.now from)) }
 {
     match from {
         None => read_game(alloc, text),
@@ -81,7 +79,7 @@ fn verdict_on(
     explain: bool,
 ) -> Result<(Exit, Vec<u8>), Refusal>
     requires { IsSolution game.now solution.now }
-    ensures verdict { IfOk result (λ made. IsVerdict game.now solution.now explain made.0 made.1.items) }
+    ensures verdict { IfOk result (λ made. IsSolutionVerdict game.now solution.now explain made.0 made.1.items) }
     ensures memory { IsOkUnless result Memory }
 {
     if explain {
@@ -135,46 +133,7 @@ fn wins_given(
     ensures memory { IsOkUnless result Memory }
 {
     game.keeps_limits();
-    let places = given_to(alloc, player, solution.winners.as_slice())?;
-    let strategy = strategy_of(solution, player);
+    let places = solution.places_given(alloc, player)?;
+    let strategy = solution.strategy(player);
     check_strategy(alloc, game, player, places.as_slice(), strategy)
-}
-
-/// The choices of a player.
-pub(crate) fn strategy_of(solution: &Solution, player: Player) -> &Strategy
-    ensures { result.now.choice ≡ choices_of solution.now player }
-{
-    match player {
-        Player::Zero => &solution.zero,
-        Player::One => &solution.one,
-    }
-}
-
-/// The places of the nodes given to a player. 60 alone.
-pub(crate) fn given_to(
-    alloc: Global,
-    player: Player,
-    winners: &[Player],
-) -> Result<Vec<u32>, Refusal>
-    requires { length winners.now ≤ most_nodes }
-    ensures places { IfOk result (λ places. places.items ≡ given_to player winners.now) }
-    ensures memory { IsOkUnless result Memory }
-{
-    let mut places = Vec::new(alloc);
-    for (place, winner) in winners.iter().enumerate() {
-        if is_given(player, *winner) {
-            places.push(place as u32)?;
-        }
-    }
-    Ok(places)
-}
-
-/// Whether a winner is the player.
-fn is_given(player: Player, winner: Player) -> bool
-    ensures { result ≡ is_given player winner }
-{
-    match player {
-        Player::Zero => matches!(winner, Player::Zero),
-        Player::One => matches!(winner, Player::One),
-    }
 }

@@ -5,8 +5,8 @@ use Rattle.omega_game.specs.Game.{Node, identifier_at, owner_at}
 use Rattle.omega_game.specs.Winning.{choice_at}
 use Rattle.omega_game.specs.declared.player.Player.{Player}
 use Rattle.omega_game.specs.declared.player.Player.TheVariants.{One, Zero}
-use Rattle.omega_pg.specs.declared.solution.Solution.{Solution}
-use Rattle.omega_pg.specs.solution.Solution.{choices_of, winner_at}
+use Rattle.omega_game.specs.declared.solution.Solution.{Solution}
+use Rattle.omega_game.specs.Solution.{choices_of, winner_at}
 use Rattle.omega_dot.specs.Labels.{line_end, name_line}
 use Rattle.omega_dot.specs.Numbered.{numbered}
 

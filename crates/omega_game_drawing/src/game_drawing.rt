@@ -2,13 +2,11 @@
 
 ghost use Rattle.std.specs.Prelude.{◌≡◌, ◌<◌, ◌++◌, IfOk, IsOkUnless, OnOk, Some, length};
 ghost use Rattle.omega_game.specs.Game.{node_at};
-ghost use Rattle.omega_game.specs.Winning.{choice_at};
-ghost use Rattle.omega_pg.specs.solution.Solution.{IsSolution, choices_of, winner_at};
+ghost use Rattle.omega_game.specs.Solution.{IsSolution, winner_at};
 ghost use Rattle.omega_game_drawing.specs.GameDrawing.{choice_in, drawing_of_game, drawing_of_solution, node_text};
 
 use crate::nodes::write_node;
-use omega_game::{Game, Player, Refusal};
-use omega_pg::Solution;
+use omega_game::{Game, Refusal, Solution};
 use std::alloc::Global;
 
 /// The drawing of a game as a graph in DOT: player 0's nodes as diamonds and player 1's as boxes, each with its
@@ -59,17 +57,6 @@ fn write_solved(
     ensures memory { IsOkUnless result Refusal.Memory }
 {
     let winner = solution.winners.as_slice()[place as usize];
-    let choice = choice_of(solution, game.owner(place), place);
+    let choice = solution.choice(game.owner(place), place);
     write_node(game, place, Some(winner), choice, out)
-}
-
-/// The choice of a player at a place.
-fn choice_of(solution: &Solution, player: Player, place: u32) -> Option<u32>
-    requires { place < length (choices_of solution.now player) }
-    ensures { result ≡ choice_at (choices_of solution.now player) place }
-{
-    match player {
-        Player::Zero => solution.zero.choice.as_slice()[place as usize],
-        Player::One => solution.one.choice.as_slice()[place as usize],
-    }
 }

@@ -4,6 +4,5 @@ pub mod Canonical
 pub mod Grammar
 pub mod Laws
 pub mod Refusing
-pub mod Solution
 pub mod Text
 pub mod reader

@@ -7,7 +7,6 @@ mod solution;
 
 pub use game::reading::read_game;
 pub use game::writing::write_game;
-pub use omega_game::{Game, GameFault, Player, Refusal, Seq, Strategy, TaskFault};
-pub use solution::Solution;
+pub use omega_game::{Game, GameFault, Player, Refusal, Seq, Solution, Strategy, TaskFault};
 pub use solution::reading::read_solution;
 pub use solution::writing::write_solution;

@@ -1,2 +1,1 @@
 mod Accepting
-mod PlacesGiven

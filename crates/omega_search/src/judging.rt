@@ -1,24 +1,23 @@
 //! Whether what a search suggests is right. Each player's choices are judged by the checker of strategies, by an order of
 //! the places that the search suggests too; since no node is in the regions of both players, winners that are accepted
 //! are exact.
-ghost use Rattle.std.specs.Prelude.{◌≡◌, ◌↔◌, ◌<◌, ◌^◌, length, All, IfOk, IfSome, IsOkUnless, IsTrue};
+ghost use Rattle.std.specs.Prelude.{◌≡◌, ◌<◌, ◌^◌, length, IfOk, IfSome, IsOkUnless, IsTrue};
+ghost use Rattle.omega_game.specs.Solution.{IsExactSolution, WinsGiven, choices_of};
 ghost use Rattle.omega_game.specs.Winning.{IsStrategy};
-ghost use Rattle.omega_search.specs.Regions.{AreRegions};
-ghost use Rattle.omega_search.specs.judging.Judging.{ChoosesWhereWon, HasPlaces, IsAccepted, WinsGiven};
+ghost use Rattle.omega_search.specs.judging.Judging.{ChoosesWhereWon, IsAccepted};
 
-use crate::regions::Regions;
-use omega_game::{Game, Player, Refusal, Seq, Strategy, check_strategy_by_order};
+use omega_game::{Game, Player, Refusal, Seq, Solution, Strategy, check_strategy_by_order};
 use omega_region::regions_are_apart;
 use omega_zielonka::Suggestion;
-use std::alloc::{AllocError, Global};
+use std::alloc::Global;
 
-/// The regions that a search suggests where each player's choices win from all places given to that player, none else.
+/// The solution that a search suggests where each player's choices win from all places given to that player, none else.
 pub(crate) fn judged(
     alloc: Global,
     game: &Game,
     suggestion: Suggestion,
-) -> Result<Option<Regions>, Refusal>
-    ensures exact { IfOk result (λ found. IfSome found (AreRegions game.now)) }
+) -> Result<Option<Solution>, Refusal>
+    ensures exact { IfOk result (λ found. IfSome found (IsExactSolution game.now)) }
     ensures memory { IsOkUnless result Refusal.Memory }
 {
     regions_are_apart();
@@ -28,53 +27,35 @@ pub(crate) fn judged(
         moves,
         order,
     } = suggestion;
-    let winners = Seq::from_vec(winners);
-    let zero = match accepted(
+    if winners.len() != game.len() || moves.len() != game.len() {
+        return Ok(None);
+    }
+    let zero = strategy_of(
         alloc,
         game,
         Player::Zero,
-        &winners,
+        winners.as_slice(),
         moves.as_slice(),
-        order.as_slice(),
-    )? {
-        Some(strategy) => strategy,
-        None => return Ok(None),
-    };
-    let one = match accepted(
+    )?;
+    let one = strategy_of(
         alloc,
         game,
         Player::One,
-        &winners,
+        winners.as_slice(),
         moves.as_slice(),
-        order.as_slice(),
-    )? {
-        Some(strategy) => strategy,
-        None => return Ok(None),
+    )?;
+    let solution = Solution {
+        winners: Seq::from_vec(winners),
+        zero,
+        one,
     };
-    Ok(Some(Regions { winners, zero, one }))
-}
-
-/// The player's choices, where they are a strategy that wins from all places given to the player, none else.
-fn accepted(
-    alloc: Global,
-    game: &Game,
-    player: Player,
-    winners: &Seq<Player>,
-    moves: &[u32],
-    order: &[u32],
-) -> Result<Option<Strategy>, Refusal>
-    ensures accepted { IfOk result (λ found. IfSome found (λ strategy. IsAccepted game.now player winners.now strategy.choice)) }
-    ensures memory { IsOkUnless result Refusal.Memory }
-{
-    let given = winners.as_slice();
-    if given.len() != game.len() || moves.len() != game.len() {
+    if !is_accepted(alloc, game, &solution, Player::Zero, order.as_slice())? {
         return Ok(None);
     }
-    let strategy = strategy_of(alloc, game, player, given, moves)?;
-    if !strategy.fits(game, player) || !wins_given(alloc, game, player, given, &strategy, order)? {
+    if !is_accepted(alloc, game, &solution, Player::One, order.as_slice())? {
         return Ok(None);
     }
-    Ok(Some(strategy))
+    Ok(Some(solution))
 }
 
 /// The player's choices: the moves at the places that the player owns and is given.
@@ -93,7 +74,7 @@ fn strategy_of(
     game.keeps_limits();
     let mut choice = Vec::with_capacity(alloc, winners.len())?;
     for place in 0..winners.len() {
-        let own = is_same(game.owner(place as u32), player) && is_same(winners[place], player);
+        let own = game.owner(place as u32).is_same(player) && winners[place].is_same(player);
         choice.push(if own { Some(moves[place]) } else { None })?;
     }
     Ok(Strategy {
@@ -101,43 +82,39 @@ fn strategy_of(
     })
 }
 
-/// Whether an order shows that the player's strategy wins from all places given to the player.
+/// Whether the player's choices are a strategy which an order shows to win from all nodes given to the player.
+fn is_accepted(
+    alloc: Global,
+    game: &Game,
+    solution: &Solution,
+    player: Player,
+    order: &[u32],
+) -> Result<bool, Refusal>
+    requires { length solution.now.winners ≡ length game.now }
+    ensures accepted { IfOk result (λ answer. IsTrue answer → IsAccepted game.now solution.now player) }
+    ensures memory { IsOkUnless result Refusal.Memory }
+{
+    if !solution.strategy(player).fits(game, player) {
+        return Ok(false);
+    }
+    wins_given(alloc, game, solution, player, order)
+}
+
+/// Whether an order shows that the player's choices win from all nodes given to the player.
 fn wins_given(
     alloc: Global,
     game: &Game,
+    solution: &Solution,
     player: Player,
-    winners: &[Player],
-    strategy: &Strategy,
     order: &[u32],
 ) -> Result<bool, Refusal>
-    requires winners { length winners.now ≡ length game.now }
-    requires strategy { IsStrategy game.now player strategy.now.choice }
-    ensures wins { IfOk result (λ answer. IsTrue answer → WinsGiven game.now player winners.now strategy.now.choice) }
+    requires winners { length solution.now.winners ≡ length game.now }
+    requires strategy { IsStrategy game.now player (choices_of solution.now player) }
+    ensures wins { IfOk result (λ answer. IsTrue answer → WinsGiven game.now solution.now player) }
     ensures memory { IsOkUnless result Refusal.Memory }
 {
     game.keeps_limits();
-    let places = places_of(alloc, player, winners)?;
+    let places = solution.places_given(alloc, player)?;
+    let strategy = solution.strategy(player);
     check_strategy_by_order(alloc, game, player, places.as_slice(), strategy, order)
-}
-
-/// The places given to the player.
-fn places_of(alloc: Global, player: Player, winners: &[Player]) -> Result<Vec<u32>, AllocError>
-    requires { length winners.now < 2 ^ 32 }
-    ensures inside { IfOk result (λ places. All (λ place. place < length winners.now) places.items) }
-    ensures all { IfOk result (λ places. HasPlaces winners.now player (length winners.now) places.items) }
-{
-    let mut places = Vec::new(alloc);
-    for place in 0..winners.len() {
-        if is_same(winners[place], player) {
-            places.push(place as u32)?;
-        }
-    }
-    Ok(places)
-}
-
-/// Whether two players are one.
-fn is_same(player: Player, other: Player) -> bool
-    ensures { IsTrue result ↔ (player ≡ other) }
-{
-    player == other
 }

@@ -3,9 +3,7 @@
 #![tactic(auto)]
 
 mod judging;
-mod regions;
 mod solving;
 
-pub use omega_game::{Game, Player, Refusal, Seq, Strategy};
-pub use regions::Regions;
+pub use omega_game::{Game, Player, Refusal, Seq, Solution, Strategy};
 pub use solving::solve_by_search;

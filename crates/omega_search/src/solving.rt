@@ -1,25 +1,24 @@
 ghost use Rattle.std.specs.Prelude.{IfOk, IfSome, IsOkUnless};
-ghost use Rattle.omega_search.specs.Regions.{AreRegions};
+ghost use Rattle.omega_game.specs.Solution.{IsExactSolution};
 
 use crate::judging::judged;
-use crate::regions::Regions;
-use omega_game::{Game, Refusal};
+use omega_game::{Game, Refusal, Solution};
 use omega_zielonka::search;
 use std::alloc::Global;
 
 /// The edges that the search may visit, for each place and each listed successor and for each bit of their number.
 const FUEL: u64 = 64;
 
-/// The regions of both players, with a strategy for each that wins from all of its region; or none, where the search
-/// gives up or what it suggests is not accepted. `Memory` where a request for memory is refused.
+/// An exact solution of the game: each node is given to the player in whose region it is, and each player's strategy
+/// wins from all of that region. None where the search gives up or what it suggests is not accepted. `Memory` where a request for memory is refused.
 ///
 /// The search is Zielonka's recursive algorithm with attractors (Zielonka 1998; van Dijk 2018), which takes exponential
 /// time at worst. So it visits at most about 64 · (n + m) · log (n + m) edges, for n nodes and m edges, as often again
 /// where it then searches by strongly connected components, and gives up: there are games of 32 nodes in one component
 /// where it does. It suggests an order of the places with its answer, by which this is judged in the time n + m. Another
 /// run gives the same.
-pub fn solve_by_search(alloc: Global, game: &Game) -> Result<Option<Regions>, Refusal>
-    ensures exact { IfOk result (λ found. IfSome found (AreRegions game.now)) }
+pub fn solve_by_search(alloc: Global, game: &Game) -> Result<Option<Solution>, Refusal>
+    ensures exact { IfOk result (λ found. IfSome found (IsExactSolution game.now)) }
     ensures memory { IsOkUnless result Refusal.Memory }
 {
     match search(alloc, game, fuel_for(game))? {

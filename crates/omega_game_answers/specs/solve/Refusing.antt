@@ -12,7 +12,7 @@ use Rattle.omega_pg.specs.game.Text.{IsGameText}
 use Rattle.omega_solve.specs.Within.{GoesOnAfter}
 use Rattle.omega_game_answers.specs.declared.solve.asked.Asked.{Asked}
 use Rattle.omega_game_answers.specs.declared.solve.asked.Asked.TheVariants as way
-use Rattle.omega_game_answers.specs.Part.{IsPartFrom, IsUnknown}
+use Rattle.omega_game_answers.specs.Part.{IsPartFrom, IsUnknownIdentifier}
 
 -- the game is solved for this player: for the one asked for, or for both
 abbrev pub IsSolvedFor : Asked → Player → Type 0
@@ -46,17 +46,17 @@ pub record IsPartFault (game : List Node) (asked : Asked) (identifier budget : �
   pub fault_there : IsWholeFault part asked budget fault
 
 -- the fault of solving a game, or where an identifier is given, the part that its node reaches: first, that no node has it
-abbrev pub IsSolvingFault : List Node → Asked → Option ℕ → ℕ → TaskFault → Type 0
-IsSolvingFault game asked None budget fault = IsWholeFault game asked budget fault
-IsSolvingFault game asked (Some identifier) budget UnknownNode = IsUnknown game identifier
-IsSolvingFault game asked (Some identifier) budget fault = IsPartFault game asked identifier budget fault
+abbrev pub IsSolveFault : List Node → Asked → Option ℕ → ℕ → TaskFault → Type 0
+IsSolveFault game asked None budget fault = IsWholeFault game asked budget fault
+IsSolveFault game asked (Some identifier) budget UnknownNode = IsUnknownIdentifier game identifier
+IsSolveFault game asked (Some identifier) budget fault = IsPartFault game asked identifier budget fault
 
 -- the text stands for a game that has this fault
-pub record IsTaskFault (text : List ℕ) (asked : Asked) (from : Option ℕ) (budget : ℕ) (fault : TaskFault) : Type 0 where
+pub record IsSolveTaskFault (text : List ℕ) (asked : Asked) (from : Option ℕ) (budget : ℕ) (fault : TaskFault) : Type 0 where
   pub game : List Node
   pub read : IsGameText text game
-  pub fault_there : IsSolvingFault game asked from budget fault
+  pub fault_there : IsSolveFault game asked from budget fault
 
 -- the refusal of `solve`: the fault of the game, or else the refusal of the text
 abbrev pub IsSolveRefusal : List ℕ → Asked → Option ℕ → ℕ → Refusal → Type 0
-IsSolveRefusal text asked from budget = or_task (IsTaskFault text asked from budget) (IsRefusal text)
+IsSolveRefusal text asked from budget = or_task (IsSolveTaskFault text asked from budget) (IsRefusal text)

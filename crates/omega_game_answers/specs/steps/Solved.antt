@@ -4,8 +4,8 @@ use Rattle.omega_game.specs.Game.{Node}
 use Rattle.omega_game_drawing.specs.GameDrawing.{drawing_of_solution}
 use Rattle.omega_io.specs.declared.exit.Exit.{Exit}
 use Rattle.omega_pg.specs.solution.Text.{IsSolutionText}
-use Rattle.omega_pg.specs.declared.solution.Solution.{Solution}
-use Rattle.omega_game_answers.specs.Verify.{IsVerdict}
+use Rattle.omega_game.specs.declared.solution.Solution.{Solution}
+use Rattle.omega_game_answers.specs.Verify.{IsSolutionVerdict}
 
 -- the text stands for a solution of the game, and the drawing of the game with it is written
 pub record IsSolutionDrawn (game : List Node) (text output : List ℕ) : Type 0 where
@@ -17,4 +17,4 @@ pub record IsSolutionDrawn (game : List Node) (text output : List ℕ) : Type 0 
 pub record IsSolutionJudged (game : List Node) (text : List ℕ) (explain : Bool) (exit : Exit) (output : List ℕ) : Type 0 where
   pub solution : Solution
   pub read : IsSolutionText game text solution
-  pub verdict : IsVerdict game solution explain exit output
+  pub verdict : IsSolutionVerdict game solution explain exit output

@@ -8,14 +8,14 @@ ghost use Rattle.omega_solve.specs.Limits.{most_lifts};
 ghost use Rattle.omega_text.specs.declared.refusal.Refusal.TheVariants.{Memory, Task};
 ghost use Rattle.omega_game_answers.specs.declared.solve.asked.Asked.TheVariants.{Both};
 ghost use Rattle.omega_game_answers.specs.solve.Solution.{IsRight, IsSolutionOf};
-ghost use Rattle.omega_game_answers.specs.steps.GameRefusal.{IsGameRefusal};
+ghost use Rattle.omega_game_answers.specs.steps.SolveGameRefusal.{IsSolveGameRefusal};
 ghost use Rattle.omega_game_answers.specs.steps.Winners.{winners_of};
-ghost use Rattle.omega_game_answers.specs.Watching.{LiftsGame};
+ghost use Rattle.omega_game_answers.specs.Watching.{LiftsWholeGame};
 ghost use Rattle.omega_watch.specs.Watching.{IsWatched, refusal_in};
 
-use omega_game::{Game, Player, Refusal, Seq, Strategy, TaskFault};
+use omega_game::{Game, Player, Refusal, Seq, Solution, Strategy, TaskFault};
 use omega_measure::fits;
-use omega_pg::{Solution, write_solution};
+use omega_pg::write_solution;
 use omega_region::{regions_are_apart, regions_cover};
 use omega_solve::{MeasureTable, Schedule, Solver};
 use omega_watch::{Renaming, Watch, found_watched};
@@ -31,8 +31,8 @@ pub fn solve_both<T: MeasureTable, S: Schedule, L, W: Watch<L>>(
 ) -> Result<Vec<u8>, Refusal>
     requires { budget ≤ most_lifts }
     ensures answer { IfOk result (λ output. IsSolutionOf game.now budget output.items) }
-    ensures refused { IfErr result (IsGameRefusal game.now Both None budget) }
-    ensures told { IsWatched (LiftsGame game.now Both) (refusal_in result) (W.tells watch.now) (W.pace watch.now) budget listener.old listener.new }
+    ensures refused { IfErr result (IsSolveGameRefusal game.now Both None budget) }
+    ensures told { IsWatched (LiftsWholeGame game.now Both) (refusal_in result) (W.tells watch.now) (W.pace watch.now) budget listener.old listener.new }
 {
     let solution = solution_of::<T, S, L, W>(alloc, game, budget, watch, listener)?;
     write_solution(alloc, game, &solution)
@@ -49,8 +49,8 @@ pub fn solution_of<T: MeasureTable, S: Schedule, L, W: Watch<L>>(
 ) -> Result<Solution, Refusal>
     requires { budget ≤ most_lifts }
     ensures right { IfOk result (IsRight game.now budget) }
-    ensures refused { IfErr result (IsGameRefusal game.now Both None budget) }
-    ensures told { IsWatched (LiftsGame game.now Both) (refusal_in result) (W.tells watch.now) (W.pace watch.now) budget listener.old listener.new }
+    ensures refused { IfErr result (IsSolveGameRefusal game.now Both None budget) }
+    ensures told { IsWatched (LiftsWholeGame game.now Both) (refusal_in result) (W.tells watch.now) (W.pace watch.now) budget listener.old listener.new }
 {
     fits_both(game)?;
     let renaming = Renaming::of(alloc, game)?;
@@ -70,8 +70,8 @@ fn lifted_solution<T: MeasureTable, S: Schedule, L, W: Watch<L>>(
     requires given { renaming.now.given ≡ game.now }
     requires narrow { (player : Player) → is_too_wide player (priorities game.now) ≡ false }
     ensures right { IfOk result (IsRight game.now budget) }
-    ensures refused { IfErr result (IsGameRefusal game.now Both None budget) }
-    ensures told { IsWatched (LiftsGame game.now Both) (refusal_in result) (W.tells watch.now) (W.pace watch.now) budget listener.old listener.new }
+    ensures refused { IfErr result (IsSolveGameRefusal game.now Both None budget) }
+    ensures told { IsWatched (LiftsWholeGame game.now Both) (refusal_in result) (W.tells watch.now) (W.pace watch.now) budget listener.old listener.new }
 {
     regions_are_apart();
     regions_cover();

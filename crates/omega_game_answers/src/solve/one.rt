@@ -2,8 +2,8 @@ ghost use Rattle.std.specs.Prelude.{◌≡◌, ◌≤◌, IfOk, IfErr, None};
 ghost use Rattle.omega_game_answers.specs.declared.solve.asked.Asked.TheVariants as way;
 ghost use Rattle.omega_solve.specs.Limits.{most_lifts};
 ghost use Rattle.omega_game_answers.specs.solve.AnswerText.{IsAnswerOf};
-ghost use Rattle.omega_game_answers.specs.steps.GameRefusal.{IsGameRefusal};
-ghost use Rattle.omega_game_answers.specs.Watching.{LiftsGame};
+ghost use Rattle.omega_game_answers.specs.steps.SolveGameRefusal.{IsSolveGameRefusal};
+ghost use Rattle.omega_game_answers.specs.Watching.{LiftsWholeGame};
 ghost use Rattle.omega_watch.specs.Watching.{IsWatched, refusal_in};
 
 use super::answer_text::write_answer;
@@ -23,8 +23,8 @@ pub fn solve_one<T: MeasureTable, S: Schedule, L, W: Watch<L>>(
 ) -> Result<Vec<u8>, Refusal>
     requires { budget ≤ most_lifts }
     ensures answer { IfOk result (λ output. IsAnswerOf game.now player budget output.items) }
-    ensures refused { IfErr result (IsGameRefusal game.now (way.Player player) None budget) }
-    ensures told { IsWatched (LiftsGame game.now (way.Player player)) (refusal_in result) (W.tells watch.now) (W.pace watch.now) budget listener.old listener.new }
+    ensures refused { IfErr result (IsSolveGameRefusal game.now (way.Player player) None budget) }
+    ensures told { IsWatched (LiftsWholeGame game.now (way.Player player)) (refusal_in result) (W.tells watch.now) (W.pace watch.now) budget listener.old listener.new }
 {
     let renaming = Renaming::of(alloc, game)?;
     let solver: Solver<'_, T, S> = renaming.prepare(alloc, player)?;

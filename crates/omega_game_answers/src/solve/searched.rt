@@ -1,14 +1,15 @@
 ghost use Rattle.std.specs.Prelude.{◌≤◌, IfOk, IfErr, None};
 ghost use Rattle.omega_solve.specs.Limits.{most_lifts};
 ghost use Rattle.omega_game_answers.specs.declared.solve.asked.Asked.TheVariants.{Search};
-ghost use Rattle.omega_game_answers.specs.solve.Solution.{IsExact, IsExactSolutionOf};
-ghost use Rattle.omega_game_answers.specs.steps.GameRefusal.{IsGameRefusal};
-ghost use Rattle.omega_game_answers.specs.Watching.{LiftsGame};
+ghost use Rattle.omega_game.specs.Solution.{IsExactSolution};
+ghost use Rattle.omega_game_answers.specs.solve.Solution.{IsExactSolutionOf};
+ghost use Rattle.omega_game_answers.specs.steps.SolveGameRefusal.{IsSolveGameRefusal};
+ghost use Rattle.omega_game_answers.specs.Watching.{LiftsWholeGame};
 ghost use Rattle.omega_watch.specs.Watching.{IsWatched, refusal_in};
 
 use super::both::solution_of;
-use omega_game::{Game, Refusal};
-use omega_pg::{Solution, write_solution};
+use omega_game::{Game, Refusal, Solution};
+use omega_pg::write_solution;
 use omega_search::solve_by_search;
 use omega_solve::{MeasureTable, Schedule};
 use omega_watch::Watch;
@@ -25,8 +26,8 @@ pub fn solve_by_judged_search<T: MeasureTable, S: Schedule, L, W: Watch<L>>(
 ) -> Result<Vec<u8>, Refusal>
     requires { budget ≤ most_lifts }
     ensures answer { IfOk result (λ output. IsExactSolutionOf game.now output.items) }
-    ensures refused { IfErr result (IsGameRefusal game.now Search None budget) }
-    ensures told { IsWatched (LiftsGame game.now Search) (refusal_in result) (W.tells watch.now) (W.pace watch.now) budget listener.old listener.new }
+    ensures refused { IfErr result (IsSolveGameRefusal game.now Search None budget) }
+    ensures told { IsWatched (LiftsWholeGame game.now Search) (refusal_in result) (W.tells watch.now) (W.pace watch.now) budget listener.old listener.new }
 {
     let solution = searched_solution::<T, S, L, W>(alloc, game, budget, watch, listener)?;
     write_solution(alloc, game, &solution)
@@ -41,16 +42,12 @@ fn searched_solution<T: MeasureTable, S: Schedule, L, W: Watch<L>>(
     listener: &mut L,
 ) -> Result<Solution, Refusal>
     requires { budget ≤ most_lifts }
-    ensures exact { IfOk result (IsExact game.now) }
-    ensures refused { IfErr result (IsGameRefusal game.now Search None budget) }
-    ensures told { IsWatched (LiftsGame game.now Search) (refusal_in result) (W.tells watch.now) (W.pace watch.now) budget listener.old listener.new }
+    ensures exact { IfOk result (IsExactSolution game.now) }
+    ensures refused { IfErr result (IsSolveGameRefusal game.now Search None budget) }
+    ensures told { IsWatched (LiftsWholeGame game.now Search) (refusal_in result) (W.tells watch.now) (W.pace watch.now) budget listener.old listener.new }
 {
     match solve_by_search(alloc, game)? {
-        Some(regions) => Ok(Solution {
-            winners: regions.winners,
-            zero: regions.zero,
-            one: regions.one,
-        }),
+        Some(solution) => Ok(solution),
         None => solution_of::<T, S, L, W>(alloc, game, budget, watch, listener),
     }
 }

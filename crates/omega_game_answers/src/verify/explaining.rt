@@ -1,14 +1,11 @@
 //! Why the choices of a solution do not win.
 ghost use Rattle.std.specs.Prelude.{◌≡◌, ◌<◌, ◌++◌, All, IfNone, IfOk, IfSome, IsOkUnless, OnOk, length, true};
 ghost use Rattle.omega_text.specs.declared.refusal.Refusal.TheVariants.{Memory};
-ghost use Rattle.omega_pg.specs.solution.Solution.{IsSolution};
-ghost use Rattle.omega_game_answers.specs.Verify.{IsVerdict, LosesGiven, explained_text, identifiers_text};
-ghost use Rattle.omega_game_answers.specs.solve.Solution.{WinsGiven};
+ghost use Rattle.omega_game.specs.Solution.{IsSolution, WinsGiven};
+ghost use Rattle.omega_game_answers.specs.Verify.{IsSolutionVerdict, LosesGiven, explained_text, identifiers_text};
 
-use crate::verify::{given_to, strategy_of};
-use omega_game::{Game, Lasso, Player, Refusal, counterexample};
+use omega_game::{Game, Lasso, Player, Refusal, Solution, counterexample};
 use omega_io::Exit;
-use omega_pg::Solution;
 use omega_text::write_number;
 use std::alloc::Global;
 
@@ -19,7 +16,7 @@ pub(crate) fn explained(
     solution: &Solution,
 ) -> Result<(Exit, Vec<u8>), Refusal>
     requires { IsSolution game.now solution.now }
-    ensures verdict { IfOk result (λ made. IsVerdict game.now solution.now true made.0 made.1.items) }
+    ensures verdict { IfOk result (λ made. IsSolutionVerdict game.now solution.now true made.0 made.1.items) }
     ensures memory { IsOkUnless result Memory }
 {
     if let Some(lasso) = lost_by(alloc, game, solution, Player::Zero)? {
@@ -48,8 +45,8 @@ fn lost_by(
     ensures memory { IsOkUnless result Memory }
 {
     game.keeps_limits();
-    let places = given_to(alloc, player, solution.winners.as_slice())?;
-    let strategy = strategy_of(solution, player);
+    let places = solution.places_given(alloc, player)?;
+    let strategy = solution.strategy(player);
     let found = counterexample(alloc, game, player, places.as_slice(), strategy)?;
     Ok(found)
 }

@@ -99,6 +99,22 @@ fn solution_of_game(alloc: Global, text: &str) -> Result<Solution, Refusal> {
     read_solution(alloc, &game, text.as_bytes())
 }
 
+/// The places that the solution of `GAME` for which a text stands gives to a player.
+fn places_given(alloc: Global, text: &str, player: Player) -> Result<Vec<u32>, Refusal> {
+    let game = read_game(alloc, GAME.as_bytes())?;
+    game.keeps_limits();
+    let solution = read_solution(alloc, &game, text.as_bytes())?;
+    Ok(solution.places_given(alloc, player)?)
+}
+
+/// Whether a text of a solution of `GAME` gives these places to a player.
+fn gives(alloc: Global, text: &str, player: Player, wanted: &[u32]) -> bool {
+    match places_given(alloc, text, player) {
+        Ok(places) => places.as_slice() == wanted,
+        Err(_refusal) => false,
+    }
+}
+
 /// Whether a text of a solution of `GAME` is refused with a number, and this place or none.
 fn is_refused(alloc: Global, text: &str, number: u32, place: Option<usize>) -> bool {
     match solution_of_game(alloc, text) {
@@ -134,4 +150,14 @@ fn other_solution_texts_are_refused(rt: HostRuntime) {
     for (row, (text, number, place)) in REFUSED.iter().enumerate() {
         assert_row(&rt, row, is_refused(rt.alloc(), text, *number, *place));
     }
+}
+
+#[test]
+fn places_are_given_to_their_winners(rt: HostRuntime) {
+    let by_owner = "paritysol 9; 4 0 9; 9 1 4;";
+    assert!(rt; gives(rt.alloc(), by_owner, Player::Zero, &[0]));
+    assert!(rt; gives(rt.alloc(), by_owner, Player::One, &[1]));
+    let all_to_one = "paritysol 9; 4 1; 9 1 4;";
+    assert!(rt; gives(rt.alloc(), all_to_one, Player::Zero, &[]));
+    assert!(rt; gives(rt.alloc(), all_to_one, Player::One, &[0, 1]));
 }

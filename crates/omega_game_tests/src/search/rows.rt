@@ -2,7 +2,7 @@
 use crate::samples::{assert_row, finish};
 use omega_game::Player::{One, Zero};
 use omega_game::{Game, GameBuilder, Player, Refusal};
-use omega_search::{Regions, solve_by_search};
+use omega_search::{Solution, solve_by_search};
 use std::alloc::Global;
 
 /// Identifier, priority and owner of a node, and its one or two successors.
@@ -88,7 +88,7 @@ fn byte_of(winner: Player, zero: Option<u32>, one: Option<u32>) -> u8 {
 }
 
 /// Whether these are the regions that stand there.
-fn are_regions(regions: &Regions, wanted: &[u8]) -> bool {
+fn are_regions(regions: &Solution, wanted: &[u8]) -> bool {
     let winners = regions.winners.as_slice();
     let zero = regions.zero.choice.as_slice();
     let one = regions.one.choice.as_slice();

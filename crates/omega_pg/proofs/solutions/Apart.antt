@@ -17,11 +17,11 @@ use Rattle.omega_game.specs.declared.player.Player.{Player}
 use Rattle.omega_game.specs.declared.player.Player.TheVariants.{One, Zero}
 use Rattle.omega_pg.specs.solution.BadSolution.{IsNoSolution, IsWrongSuccessor}
 use Rattle.omega_pg.specs.solution.Grammar.{Line, RawSolution, no_line, solution_syntax}
-use Rattle.omega_pg.specs.solution.Solution.{IsSolution, choices_of, winner_at}
+use Rattle.omega_game.specs.Solution.{IsSolution, choices_of, winner_at}
 use Rattle.omega_game.specs.Winning.{choice_at}
 use Rattle.omega_pg.specs.solution.Text.{line_at, raw_solution}
 use Rattle.omega_pg.specs.solution.Laws.{ReasonsAreExact, SolutionRefusalsAreOne, SolutionsAreNotRefused, SolutionsOfTextsAreOne}
-use Rattle.omega_pg.specs.declared.solution.Solution.{Solution}
+use Rattle.omega_game.specs.declared.solution.Solution.{Solution}
 use Rattle.omega_pg.proofs.reader.Deciding.{texts_one}
 use Rattle.omega_pg.proofs.solutions.Outcomes.{solution_of}
 use Rattle.omega_pg.proofs.solutions.Decided.{raw_decided}

@@ -10,7 +10,7 @@ use Rattle.omega_game.specs.declared.player.Player.{Player}
 use Rattle.omega_pg.specs.solution.Grammar.{Line}
 use Rattle.omega_pg.specs.solution.Canonical.{solution_line, solution_text}
 use Rattle.omega_pg.specs.solution.Text.{line_at}
-use Rattle.omega_pg.specs.declared.solution.Solution.{Solution}
+use Rattle.omega_game.specs.declared.solution.Solution.{Solution}
 
 -- a choice that stands at a place is chosen there
 pub Chooses-from_choice : (choices : List (Option ℕ)) (v w : ℕ) → choice_at choices v ≡ Some w → Chooses choices v w

@@ -11,10 +11,10 @@ use Rattle.omega_game.specs.declared.player.Player.{Player}
 use Rattle.omega_game.specs.declared.player.Player.TheVariants.{One, Zero}
 use Rattle.omega_pg.specs.solution.BadSolution.{IsNoSolution}
 use Rattle.omega_pg.specs.solution.Grammar.{Line, RawSolution, no_line}
-use Rattle.omega_pg.specs.solution.Solution.{IsSolution, choices_of}
+use Rattle.omega_game.specs.Solution.{IsSolution, choices_of}
 use Rattle.omega_pg.specs.solution.Text.{line_at, raw_solution}
 use Rattle.omega_pg.specs.solution.reader.Lines.{AreJudged, AreSaid, IsKept, entry_of}
-use Rattle.omega_pg.specs.declared.solution.Solution.{Solution}
+use Rattle.omega_game.specs.declared.solution.Solution.{Solution}
 
 -- a header with another number
 pub other_number : (nodes : List Node) (greatest : ℕ) (lines : List Line) → greatest_identifier nodes ≢ greatest

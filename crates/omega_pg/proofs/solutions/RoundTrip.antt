@@ -8,14 +8,14 @@ use Rattle.omega_text.specs.pg.Laws.{EndsAreGaps, NamesAreLongest, NumbersAreLon
 use Rattle.omega_game.specs.Game.{IsGame, IsWithinLimits, Node, owner_at, greatest_identifier, identifier_at}
 use Rattle.omega_text.specs.Limits.{most_number}
 use Rattle.omega_pg.specs.solution.Grammar.{Line, RawSolution, no_line, choice_symbols, line_symbols}
-use Rattle.omega_pg.specs.solution.Solution.{IsSolution, choices_of}
+use Rattle.omega_game.specs.Solution.{IsSolution, choices_of}
 use Rattle.omega_game.specs.Winning.{choice_at}
 use Rattle.omega_pg.specs.solution.Text.{line_at, raw_solution}
 use Rattle.omega_pg.specs.solution.Laws.{WrittenSolutionsAreRead}
 use Rattle.omega_pg.specs.solution.Canonical.{choice_part, solution_line, solution_text, written}
 use Rattle.omega_pg.specs.Symbols.{Symbol, number, paritysol, semicolon}
 use Rattle.omega_game.specs.Player.{player_number}
-use Rattle.omega_pg.specs.declared.solution.Solution.{Solution}
+use Rattle.omega_game.specs.declared.solution.Solution.{Solution}
 use Rattle.omega_pg.proofs.games.Written.{line_feed, player_number-le, space}
 use Rattle.omega_pg.proofs.reader.Pieces.{EndsNumber, IsWritten, end_written, number_written, paritysol_written, semicolon_written}
 use Rattle.omega_pg.proofs.games.RoundTrip.{identifier_fits}

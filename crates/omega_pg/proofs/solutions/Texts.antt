@@ -14,7 +14,7 @@ use Rattle.omega_pg.specs.solution.Text.{IsSolutionText}
 use Rattle.omega_pg.specs.solution.reader.Lines.{IsOutcome}
 use Rattle.omega_pg.specs.solution.reader.Reader.{HasBecome}
 use Rattle.omega_pg.specs.solution.reader.Reading.{HasTaken}
-use Rattle.omega_pg.specs.declared.solution.Solution.{Solution}
+use Rattle.omega_game.specs.declared.solution.Solution.{Solution}
 use Rattle.omega_pg.specs.declared.solution.lines.Lines.{Lines}
 use Rattle.omega_pg.specs.declared.solution.reader.Reader.{Reader}
 use Rattle.omega_pg.specs.declared.solution.stage.Stage.{Stage}

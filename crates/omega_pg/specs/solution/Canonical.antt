@@ -5,7 +5,7 @@ use Rattle.omega_game.specs.Game.{Node}
 use Rattle.omega_game.specs.Player.{player_number}
 use Rattle.omega_pg.specs.solution.Grammar.{Line, RawSolution}
 use Rattle.omega_pg.specs.solution.Text.{raw_solution}
-use Rattle.omega_pg.specs.declared.solution.Solution.{Solution}
+use Rattle.omega_game.specs.declared.solution.Solution.{Solution}
 
 -- a space and the identifier, if there is one
 abbrev pub choice_part : Option ℕ → List ℕ

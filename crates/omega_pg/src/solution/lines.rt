@@ -1,9 +1,8 @@
-ghost use Rattle.std.specs.Prelude.{◌≡◌, ◌<◌, ◌^◌, ◌≢◌, ◌↔◌, ℕ, [], ◌∷◌, ◌++◌, true, All, Contains, IfNone, IfSome, IsOkUnless, IsTrue, OnOk, length};
+ghost use Rattle.std.specs.Prelude.{◌≡◌, ◌<◌, ◌^◌, ◌≢◌, ◌↔◌, ℕ, [], ◌∷◌, ◌++◌, true, All, Contains, IfNone, IfSome, IsOkUnless, OnOk, length};
 ghost use Rattle.omega_game.specs.Game.{identifier_at};
 ghost use Rattle.omega_pg.specs.solution.reader.Lines.{IsWrongLine, Says};
 
-use crate::solution::Solution;
-use omega_game::{Game, Player, Refusal, Seq, Strategy, TaskFault};
+use omega_game::{Game, Player, Refusal, Seq, Solution, Strategy, TaskFault};
 use std::alloc::Global;
 
 /// The lines of a solution text as they are kept: a winner and two choices for each, by place.
@@ -115,7 +114,7 @@ fn said_choice(
     if place >= game.len() || game.id(place as u32) != id {
         return None;
     }
-    let own = is_same(game.owner(place as u32), winner);
+    let own = game.owner(place as u32).is_same(winner);
     match successor {
         None => (!own).then_some(None),
         Some(chosen) if own => {
@@ -137,11 +136,4 @@ fn place_with(game: &Game, places: &[u32], id: u32) -> Option<u32>
         }
     }
     None
-}
-
-/// Whether two players are one.
-fn is_same(player: Player, other: Player) -> bool
-    ensures { IsTrue result ↔ (player ≡ other) }
-{
-    player == other
 }

@@ -2,9 +2,8 @@ ghost use Rattle.std.specs.Prelude.{IfErr, IfOk};
 ghost use Rattle.omega_pg.specs.solution.Refusing.{IsReadSolutionRefusal};
 ghost use Rattle.omega_pg.specs.solution.Text.{IsSolutionText};
 
-use crate::solution::Solution;
 use crate::solution::reader::Reader;
-use omega_game::{Game, Refusal};
+use omega_game::{Game, Refusal, Solution};
 use omega_text::{PgKind, read_text};
 use std::alloc::Global;
 

@@ -1,13 +1,11 @@
 ghost use Rattle.std.specs.Prelude.{◌≡◌, ◌<◌, ◌++◌, IfOk, IfSome, IsOkUnless, OnOk, length, option_map};
 ghost use Rattle.omega_game.specs.Game.{IsGame, identifier_at};
-ghost use Rattle.omega_pg.specs.solution.Solution.{IsSolution, choices_of, winner_at};
-ghost use Rattle.omega_game.specs.Winning.{choice_at};
+ghost use Rattle.omega_game.specs.Solution.{IsSolution};
 ghost use Rattle.omega_pg.specs.solution.Text.{line_at};
 ghost use Rattle.omega_pg.specs.solution.Canonical.{choice_part, solution_line, solution_text};
 
 use crate::game::writing::write_part;
-use crate::solution::Solution;
-use omega_game::{Game, Player, Refusal};
+use omega_game::{Game, Refusal, Solution};
 use omega_text::write_number;
 use std::alloc::Global;
 
@@ -47,20 +45,9 @@ fn write_line(
     write_part(game.id(place), out)?;
     let winner = solution.winners.as_slice()[place as usize];
     write_number(u128::from(winner.number()), out)?;
-    write_choice(game, choice_of(solution, game.owner(place), place), out)?;
+    write_choice(game, solution.choice(game.owner(place), place), out)?;
     out.extend_from_slice(b";\n")?;
     Ok(())
-}
-
-/// The choice of a player at a place.
-fn choice_of(solution: &Solution, player: Player, place: u32) -> Option<u32>
-    requires { place < length (choices_of solution.now player) }
-    ensures { result ≡ choice_at (choices_of solution.now player) place }
-{
-    match player {
-        Player::Zero => solution.zero.choice.as_slice()[place as usize],
-        Player::One => solution.one.choice.as_slice()[place as usize],
-    }
 }
 
 /// Appends a space and the identifier of a chosen place, if there is one.

@@ -1,7 +1,7 @@
 -- `solve_part`: what is answered or refused for the part is that for its node.
 use Rattle.std.proofs.Common.{Some, rules}
 use Rattle.std.proofs.lemmas.Result.{IfErr-weaker, IfOk-weaker}
-use Rattle.omega_game_answers.specs.steps.GameRefusal.{IsGameRefusal}
+use Rattle.omega_game_answers.specs.steps.SolveGameRefusal.{IsSolveGameRefusal}
 use Rattle.omega_game_answers.proofs.Solving.{refused-part, refused-unknown}
 use Rattle.omega_game_answers.specs.steps.PartRefusal.{IsPartRefusal}
 use Rattle.omega_watch.proofs.Watched.{none_watched, spares, watched_alike, watched_as}
@@ -9,7 +9,7 @@ use Rattle.omega_game_answers.proofs.solve.solve_part.Goals as goal
 
 pub returns-in_err-part-clause-refused : goal.returns-in_err-part-clause-refused
 returns-in_err-part-clause-refused g c =
-    let refused : IsGameRefusal c.args.game c.args.asked (Some c.args.identifier) c.args.budget c.in_err-part.field-0.0 =
+    let refused : IsSolveGameRefusal c.args.game c.args.asked (Some c.args.identifier) c.args.budget c.in_err-part.field-0.0 =
     refused-unknown c.args.game c.args.asked c.args.identifier c.args.budget _ c.in_err-part.ensures.refused in
     search rules
 

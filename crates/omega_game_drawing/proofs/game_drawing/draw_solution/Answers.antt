@@ -1,7 +1,7 @@
 -- `draw_solution`: a node more, and at the end all nodes.
 use Rattle.std.proofs.Common.{Some, arith, codes}
 use Rattle.omega_game.specs.Game.{no_node}
-use Rattle.omega_pg.specs.solution.Solution.{winner_at}
+use Rattle.omega_game.specs.Solution.{winner_at}
 use Rattle.omega_game_drawing.specs.GameDrawing.{choice_in, node_text}
 use Rattle.omega_dot.proofs.Rows.{first_row_more, rows_end}
 use Rattle.omega_game_drawing.proofs.game_drawing.draw_solution.Goals as goal

@@ -1,6 +1,6 @@
 -- `draw_solution`: the nodes before this place are drawn.
 use Rattle.std.proofs.Common.{◌≡◌, ◌++◌, Some, take, codes}
-use Rattle.omega_pg.specs.solution.Solution.{winner_at}
+use Rattle.omega_game.specs.Solution.{winner_at}
 use Rattle.omega_game_drawing.specs.GameDrawing.{choice_in, node_text}
 use Rattle.omega_dot.specs.Numbered.{numbered}
 use Rattle.omega_game_drawing.proofs.game_drawing.draw_solution.Given as goal

@@ -8,9 +8,9 @@ use Rattle.omega_text.specs.declared.refusal.Refusal.{Refusal}
 use Rattle.omega_text.specs.declared.refusal.Refusal.TheVariants.{Task}
 use Rattle.omega_text.specs.declared.refusal.task.TaskFault.TheVariants.{BadSolution}
 use Rattle.omega_pg.specs.solution.Grammar.{Line, RawSolution, no_line}
-use Rattle.omega_pg.specs.solution.Solution.{IsSolution}
+use Rattle.omega_game.specs.Solution.{IsSolution}
 use Rattle.omega_pg.specs.solution.Text.{raw_solution}
-use Rattle.omega_pg.specs.declared.solution.Solution.{Solution}
+use Rattle.omega_game.specs.declared.solution.Solution.{Solution}
 
 -- a line says this choice of the node at a place
 pub record Says (nodes : List Node) (v : ℕ) (line : Line) (choice : Option ℕ) : Type 0 where

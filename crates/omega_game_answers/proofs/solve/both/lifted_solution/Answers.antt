@@ -5,7 +5,7 @@ use Rattle.omega_game.specs.Game.{priorities}
 use Rattle.omega_measure.specs.Table.{IsPrepareRefusal}
 use Rattle.omega_text.specs.declared.refusal.Refusal.TheVariants.{Memory}
 use Rattle.omega_game_answers.specs.declared.solve.asked.Asked.TheVariants.{Both}
-use Rattle.omega_game_answers.specs.steps.GameRefusal.{IsGameRefusal}
+use Rattle.omega_game_answers.specs.steps.SolveGameRefusal.{IsSolveGameRefusal}
 use Rattle.omega_game_answers.specs.steps.Winners.{winners_of}
 use Rattle.omega_game_answers.proofs.Solving.{budget_for, found_for, prepare_for, refused-budget, refused-prepare, told_for}
 use Rattle.omega_game_answers.proofs.Solutions.{right_solution}
@@ -14,7 +14,7 @@ use Rattle.omega_game_answers.proofs.solve.both.lifted_solution.Goals as goal
 
 pub returns-in_err-for_zero-clause-refused : goal.returns-in_err-for_zero-clause-refused
 returns-in_err-for_zero-clause-refused g c =
-    let refused : IsGameRefusal c.args.game.now Both None c.args.budget c.in_err-for_zero.field-0.0 =
+    let refused : IsSolveGameRefusal c.args.game.now Both None c.args.budget c.in_err-for_zero.field-0.0 =
     refused-prepare c.args.game.now Both Zero c.args.budget _ tt (prepare_for _ _ c.requires.given Zero _ c.in_err-for_zero.ensures.refused) in
     search rules
 
@@ -27,7 +27,7 @@ returns-in_err-for_zero-clause-told g c =
 pub returns-in_err-zero-clause-refused : goal.returns-in_err-zero-clause-refused
 returns-in_err-zero-clause-refused g c =
     let narrow = c.requires.narrow in
-    let refused : IsGameRefusal c.args.game.now Both None c.args.budget c.in_err-zero.field-0.0 =
+    let refused : IsSolveGameRefusal c.args.game.now Both None c.args.budget c.in_err-zero.field-0.0 =
     refused-budget c.args.game.now Both Zero c.args.budget _ (λ other _. narrow other) tt
     (budget_for _ _ c.requires.given Zero c.args.budget _ c.in_err-zero.ensures.refused) in
     search rules
@@ -40,7 +40,7 @@ returns-in_err-zero-clause-told g c =
 
 pub returns-in_err-for_one-clause-refused : goal.returns-in_err-for_one-clause-refused
 returns-in_err-for_one-clause-refused g c =
-    let refused : IsGameRefusal c.args.game.now Both None c.args.budget c.in_err-for_one.field-0.0 =
+    let refused : IsSolveGameRefusal c.args.game.now Both None c.args.budget c.in_err-for_one.field-0.0 =
     refused-prepare c.args.game.now Both One c.args.budget _ tt (prepare_for _ _ c.requires.given One _ c.in_err-for_one.ensures.refused) in
     search rules
 
@@ -56,7 +56,7 @@ returns-in_err-for_one-clause-told g c =
 pub returns-in_err-one-clause-refused : goal.returns-in_err-one-clause-refused
 returns-in_err-one-clause-refused g c =
     let narrow = c.requires.narrow in
-    let refused : IsGameRefusal c.args.game.now Both None c.args.budget c.in_err-one.field-0.0 =
+    let refused : IsSolveGameRefusal c.args.game.now Both None c.args.budget c.in_err-one.field-0.0 =
     refused-budget c.args.game.now Both One c.args.budget _ (λ other _. narrow other) tt
     (budget_for _ _ c.requires.given One c.args.budget _ c.in_err-one.ensures.refused) in
     search rules

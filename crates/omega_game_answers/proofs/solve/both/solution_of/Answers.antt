@@ -2,14 +2,14 @@
 use Rattle.std.proofs.Common.{◌≡◌, None, rules}
 use Rattle.omega_text.specs.declared.refusal.Refusal.TheVariants.{Memory}
 use Rattle.omega_game_answers.specs.declared.solve.asked.Asked.TheVariants.{Both}
-use Rattle.omega_game_answers.specs.steps.GameRefusal.{IsGameRefusal}
+use Rattle.omega_game_answers.specs.steps.SolveGameRefusal.{IsSolveGameRefusal}
 use Rattle.omega_game_answers.proofs.Solving.{refused-wide}
 use Rattle.omega_watch.proofs.Watched.{none_watched, spares, watched_alike}
 use Rattle.omega_game_answers.proofs.solve.both.solution_of.Goals as goal
 
 pub returns-in_err-fits_both-clause-refused : goal.returns-in_err-fits_both-clause-refused
 returns-in_err-fits_both-clause-refused g c =
-    let refused : IsGameRefusal c.args.game.now Both None c.args.budget c.in_err-fits_both.field-0.0 =
+    let refused : IsSolveGameRefusal c.args.game.now Both None c.args.budget c.in_err-fits_both.field-0.0 =
     refused-wide c.args.game.now Both c.args.budget _ c.in_err-fits_both.ensures.refused in
     search rules
 

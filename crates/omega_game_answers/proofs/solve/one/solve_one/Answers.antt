@@ -5,7 +5,7 @@ use Rattle.std.proofs.lemmas.Result.{IfOk-weaker}
 use Rattle.omega_game.specs.Game.{priorities}
 use Rattle.omega_measure.specs.Table.{IsPrepareRefusal}
 use Rattle.omega_game_answers.specs.declared.solve.asked.Asked.TheVariants as way
-use Rattle.omega_game_answers.specs.steps.GameRefusal.{IsGameRefusal}
+use Rattle.omega_game_answers.specs.steps.SolveGameRefusal.{IsSolveGameRefusal}
 use Rattle.omega_game_answers.proofs.Solving.{budget_for, found_for, narrow_for, prepare_for, refused-budget, refused-prepare, right_answer, told_for, won_within}
 use Rattle.omega_game_answers.proofs.Watching.{game_refused}
 use Rattle.omega_text.specs.declared.refusal.Refusal.TheVariants.{Memory}
@@ -31,7 +31,7 @@ returns-clause-answer g c =
 
 pub returns-in_err-solver-clause-refused : goal.returns-in_err-solver-clause-refused
 returns-in_err-solver-clause-refused g c =
-    let refused : IsGameRefusal c.args.game.now (way.Player c.args.player) None c.args.budget c.in_err-solver.field-0.0 =
+    let refused : IsSolveGameRefusal c.args.game.now (way.Player c.args.player) None c.args.budget c.in_err-solver.field-0.0 =
     refused-prepare c.args.game.now (way.Player c.args.player) c.args.player c.args.budget _ refl
     (prepare_for _ _ c.in_ok-renaming.ensures.given c.args.player _ c.in_err-solver.ensures.refused) in
     search rules
@@ -40,7 +40,7 @@ pub returns-in_err-found-clause-refused : goal.returns-in_err-found-clause-refus
 returns-in_err-found-clause-refused g c =
     let same = c.in_ok-renaming.ensures.given in
     let narrow = narrow_for _ _ same c.args.player (c.in_ok-solver.ensures.fits (refl {a = true})) in
-    let refused : IsGameRefusal c.args.game.now (way.Player c.args.player) None c.args.budget c.in_err-found.field-0.0 =
+    let refused : IsSolveGameRefusal c.args.game.now (way.Player c.args.player) None c.args.budget c.in_err-found.field-0.0 =
     refused-budget c.args.game.now (way.Player c.args.player) c.args.player c.args.budget _
     (λ other is. rw is narrow) refl (budget_for _ _ same c.args.player c.args.budget _ c.in_err-found.ensures.refused) in
     search rules

@@ -1,0 +1,2 @@
+-- Solutions.
+pub mod Given
