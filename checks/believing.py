@@ -57,8 +57,8 @@ part of the next.
 
 """
 
-BEHIND = """The last row is the contract of `obey`, which is all that the program does once its words are read: it contains every
-subcommand, the exit statuses, the lines of refusals, progress, and streams that fail.
+BEHIND = """The last row is the contract of `obey`, which is all that the program does once its words are read: it contains
+every subcommand, the exit statuses, the lines of refusals, progress, and streams that fail.
 
 **How to read one.** Each section below lists the files of `crates/CRATE/specs/` in an order in which nothing is cited
 before it was read, and how many lines of each file are needed. `checks/believing.py check --format pg` prints just
