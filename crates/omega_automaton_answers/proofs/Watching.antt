@@ -1,15 +1,12 @@
 -- What is told of the run of `empty`, also where it goes on to be refused.
-use Rattle.std.proofs.Common.{◌≢◌, ℕ, List, Option, None, Some, inl, inr, subst, sym}
+use Rattle.std.proofs.Common.{◌≢◌, ℕ, List, None, Some, inl, inr}
 use Rattle.omega_text.specs.declared.refusal.Refusal.{Refusal}
 use Rattle.omega_text.specs.declared.refusal.Refusal.TheVariants.{Task}
 use Rattle.omega_text.specs.declared.refusal.task.TaskFault.TheVariants.{Budget}
-use Rattle.omega_automaton.specs.Automaton.{Description}
-use Rattle.omega_empty.specs.EmptinessGame.{IsEmptinessGame}
 use Rattle.omega_game.specs.Game.{Node}
 use Rattle.omega_game.specs.declared.player.Player.{Player}
 use Rattle.omega_hoa.specs.Alone.{IsAutomatonRefusal}
-use Rattle.omega_automaton_answers.specs.Watching.{LiftsAutomaton, LiftsAutomatonText}
-use Rattle.omega_automaton_answers.specs.steps.Solving.{LiftsGame}
+use Rattle.omega_automaton_answers.specs.Watching.{LiftsAutomatonText}
 use Rattle.omega_watch.proofs.Watched.{made_refused}
 
 -- no text of an automaton is refused for the budget
@@ -23,19 +20,10 @@ text_spares text (inr (short, inr (lexemes, cut, inr segment))) = elim segment.r
 ]
 
 -- the run stays made, whatever refuses it later but the budget
-pub automaton_refused : (automaton : Description) (refusal : Refusal) → refusal ≢ Task Budget
-    → (nodes : List Node) (players : List Player) → LiftsAutomaton automaton None nodes players → LiftsAutomaton automaton (Some refusal) nodes players
-automaton_refused automaton refusal other nodes players lifted = (lifted.0, made_refused _ players refusal other lifted.1)
-
 pub text_refused : (text : List ℕ) (refusal : Refusal) → refusal ≢ Task Budget
     → (nodes : List Node) (players : List Player) → LiftsAutomatonText text None nodes players → LiftsAutomatonText text (Some refusal) nodes players
 text_refused text refusal other nodes players lifted = record {
   automaton = lifted.automaton;
   read = lifted.read;
-  lifts = automaton_refused lifted.automaton refusal other nodes players lifted.lifts;
+  lifts = (lifted.lifts.0, made_refused _ players refusal other lifted.lifts.1);
 }
-
--- a run in an emptiness game of the automaton is one of the automaton
-pub automaton_lifted : (automaton : Description) (game : List Node) (refusal : Option Refusal) → IsEmptinessGame automaton game
-    → (nodes : List Node) (players : List Player) → LiftsGame game refusal nodes players → LiftsAutomaton automaton refusal nodes players
-automaton_lifted automaton game refusal is nodes players lifted = (subst (IsEmptinessGame automaton) (sym lifted.0) is, lifted.1)

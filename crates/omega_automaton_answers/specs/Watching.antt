@@ -1,17 +1,11 @@
 -- In which game `empty` lifts.
-use Rattle.std.specs.Prelude.{ℕ, List, [], ◌∷◌, Option}
+use Rattle.std.specs.Prelude.{ℕ, List, Option}
 use Rattle.omega_text.specs.declared.refusal.Refusal.{Refusal}
 use Rattle.omega_automaton.specs.Automaton.{Description}
-use Rattle.omega_empty.specs.EmptinessGame.{IsEmptinessGame}
+use Rattle.omega_empty.specs.Watching.{LiftsAutomaton}
 use Rattle.omega_game.specs.declared.player.Player.{Player}
-use Rattle.omega_game.specs.declared.player.Player.TheVariants.{Zero}
 use Rattle.omega_game.specs.Game.{Node}
 use Rattle.omega_hoa.specs.Alone.{IsAutomatonText}
-use Rattle.omega_watch.specs.Watching.{AreMade}
-
--- `empty` lifts an emptiness game of the automaton, for player 0
-abbrev pub LiftsAutomaton : Description → Option Refusal → List Node → List Player → Type 0
-LiftsAutomaton automaton refusal nodes players = IsEmptinessGame automaton nodes × AreMade (Zero ∷ []) refusal players
 
 -- `empty` lifts an emptiness game of the automaton of the text
 pub record LiftsAutomatonText (text : List ℕ) (refusal : Option Refusal) (nodes : List Node) (players : List Player) : Type 0 where

@@ -1,3 +1,2 @@
 -- What stands between an automaton and its answer: cited by private contracts alone.
 pub mod Drawn
-pub mod Solving

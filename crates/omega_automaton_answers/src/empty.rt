@@ -1,13 +1,11 @@
 ghost use Rattle.std.specs.Prelude.{◌≡◌, ◌≤◌, IfOk, IfErr, IsOkUnless, OnOk};
 ghost use Rattle.omega_automaton_answers.specs.empty.Answer.{IsEmptyAnswer, IsEmptyRefusal, IsEmptySearchAnswer, IsEmptySearchRefusal, emptiness_text};
-ghost use Rattle.omega_automaton_answers.specs.Watching.{LiftsAutomaton, LiftsAutomatonText};
-ghost use Rattle.omega_automaton_answers.specs.steps.Solving.{IsSolvingRefusal, LiftsGame};
+ghost use Rattle.omega_automaton_answers.specs.Watching.{LiftsAutomatonText};
 ghost use Rattle.omega_watch.specs.Watching.{IsWatched, refusal_in};
 ghost use Rattle.omega_empty.specs.Refusing.{IsGameRefusal, IsGiven};
-ghost use Rattle.omega_empty.specs.Verdict.{IsDecidedWithin, IsEmptinessRefusal, IsSolvedWithin, IsVerdict};
-ghost use Rattle.omega_game.specs.declared.player.Player.TheVariants.{Zero};
+ghost use Rattle.omega_empty.specs.Verdict.{IsDecidedWithin, IsEmptinessRefusal, IsVerdict};
+ghost use Rattle.omega_empty.specs.Watching.{LiftsAutomaton};
 ghost use Rattle.omega_solve.specs.Limits.{most_lifts};
-ghost use Rattle.omega_solve.specs.Within.{IsFound};
 ghost use Rattle.omega_text.specs.Cases.{or_memory};
 ghost use Rattle.omega_text.specs.declared.refusal.Refusal.TheVariants.{Memory};
 
@@ -16,10 +14,9 @@ mod lasso_text;
 use crate::automaton_text::automaton_in;
 use lasso_text::lasso_text;
 use omega_automaton::Automaton;
-use omega_empty::{Verdict, emptiness_game, lasso, verdict_of};
-use omega_game::{Game, Player, Refusal};
-use omega_solve::{Found, Nested, PackedTable, Solver};
-use omega_watch::{Renaming, Watch, found_watched};
+use omega_empty::{Verdict, emptiness_watched, lasso};
+use omega_game::Refusal;
+use omega_watch::Watch;
 use std::alloc::Global;
 
 /// An accepting lasso of the automaton that a text stands for, or `empty` where no lasso accepts, by lifting in the
@@ -67,36 +64,7 @@ fn decided<L, W: Watch<L>>(
     ensures refused { IfErr result (IsEmptinessRefusal automaton budget) }
     ensures told { IsWatched (LiftsAutomaton automaton) (refusal_in result) (W.tells watch.now) (W.pace watch.now) budget listener.old listener.new }
 {
-    let game = emptiness_game(alloc, &automaton)?;
-    let found = found_in(alloc, &game, budget, watch, listener)?;
-    verdict_of(alloc, &automaton, &game, &found)
-}
-
-/// What lifting finds in a game for player 0; the listener is told of the run. 50, 51 or 60.
-fn found_in<L, W: Watch<L>>(
-    alloc: Global,
-    game: &Game,
-    budget: u64,
-    watch: &W,
-    listener: &mut L,
-) -> Result<Found, Refusal>
-    requires { budget ≤ most_lifts }
-    ensures found { IfOk result (IsFound game.now Zero budget) }
-    ensures solved { OnOk result (IsSolvedWithin budget game.now) }
-    ensures refused { IfErr result (IsSolvingRefusal budget game.now) }
-    ensures told { IsWatched (LiftsGame game.now) (refusal_in result) (W.tells watch.now) (W.pace watch.now) budget listener.old listener.new }
-{
-    let renaming = Renaming::of(alloc, game)?;
-    let solver: Solver<'_, PackedTable, Nested> = renaming.prepare(alloc, Player::Zero)?;
-    found_watched(
-        alloc,
-        solver,
-        &renaming,
-        Player::Zero,
-        budget,
-        watch,
-        listener,
-    )
+    emptiness_watched(alloc, &automaton, budget, watch, listener)
 }
 
 /// The verdict on an automaton, which is let go, by a search. 13, 40, 41, 42 or 60.

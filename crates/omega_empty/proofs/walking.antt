@@ -3,3 +3,4 @@ pub mod Choices
 pub mod Refused
 pub mod Starts
 pub mod Verdicts
+pub mod Watching

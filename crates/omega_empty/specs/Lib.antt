@@ -10,4 +10,5 @@ pub mod Words
 pub mod Laws
 pub mod GameLaws
 pub mod Verdict
+pub mod Watching
 pub mod layout

@@ -1,12 +1,15 @@
 ghost use Rattle.std.specs.Prelude.{◌≡◌, ◌≤◌, IfErr, IfOk, IsOkUnless, OnOk, drop, length, take};
-ghost use Rattle.omega_text.specs.Cases.{never, or_memory, or_task};
 ghost use Rattle.omega_game.specs.declared.player.Player.TheVariants.{Zero};
 ghost use Rattle.omega_solve.specs.Headline.{IsExact};
 ghost use Rattle.omega_solve.specs.Limits.{most_lifts};
+ghost use Rattle.omega_solve.specs.Within.{IsFound};
+ghost use Rattle.omega_watch.specs.Watching.{IsWatched, refusal_in};
 ghost use Rattle.omega_empty.specs.EmptinessGame.{IsEmptinessGame};
 ghost use Rattle.omega_empty.specs.Refusing.{IsGiven};
-ghost use Rattle.omega_empty.specs.Verdict.{IsDecidedWithin, IsEmptinessRefusal, IsSolvedWithin, IsSolvingFault, IsVerdict};
+ghost use Rattle.omega_empty.specs.Verdict.{IsDecidedWithin, IsEmptinessRefusal, IsSolvedWithin, IsVerdict};
+ghost use Rattle.omega_empty.specs.Watching.{LiftsAutomaton};
 ghost use Rattle.omega_empty.specs.layout.Following.{IsWonStart};
+ghost use Rattle.omega_empty.specs.layout.Solving.{IsSolvingRefusal, LiftsGame};
 
 use crate::following::follow_choices;
 use crate::game_laws::unwon_is_empty;
@@ -17,6 +20,7 @@ use omega_automaton::{Automaton, Refusal};
 use omega_game::{Game, Player};
 use omega_solve::{Found, Nested, PackedTable, Solver};
 use omega_text::Seq;
+use omega_watch::{Renaming, Unwatched, Watch, found_watched};
 use std::alloc::Global;
 
 /// Whether an automaton is empty, or an accepting lasso, found with at most so many lifts in its emptiness game. Refused
@@ -29,37 +33,54 @@ pub fn emptiness(alloc: Global, automaton: &Automaton, budget: u64) -> Result<Ve
     ensures budget { OnOk result (IsDecidedWithin budget automaton.now) }
     ensures refused { IfErr result (IsEmptinessRefusal automaton.now budget) }
 {
-    let game = emptiness_game(alloc, automaton)?;
-    decided(alloc, automaton, &game, budget)
+    emptiness_watched(alloc, automaton, budget, &Unwatched, &mut ())
 }
 
-/// The verdict on an automaton of which this is the emptiness game. 50, 51 or 60.
-fn decided(
+/// The same, while the listener is told of the run.
+pub fn emptiness_watched<L, W: Watch<L>>(
     alloc: Global,
     automaton: &Automaton,
-    game: &Game,
     budget: u64,
+    watch: &W,
+    listener: &mut L,
 ) -> Result<Verdict, Refusal>
-    requires budget { budget ≤ most_lifts }
-    requires game { IsEmptinessGame automaton.now game.now }
+    requires { budget ≤ most_lifts }
     ensures verdict { IfOk result (IsVerdict automaton.now) }
-    ensures solved { OnOk result (IsSolvedWithin budget game.now) }
-    ensures refused { IfErr result (or_task (IsSolvingFault budget game.now) (or_memory never)) }
+    ensures given { OnOk result (IsGiven automaton.now) }
+    ensures budget { OnOk result (IsDecidedWithin budget automaton.now) }
+    ensures refused { IfErr result (IsEmptinessRefusal automaton.now budget) }
+    ensures told { IsWatched (LiftsAutomaton automaton.now) (refusal_in result) (W.tells watch.now) (W.pace watch.now) budget listener.old listener.new }
 {
-    let found = found_within(alloc, game, budget)?;
-    verdict_of(alloc, automaton, game, &found)
+    let game = emptiness_game(alloc, automaton)?;
+    let found = found_in(alloc, &game, budget, watch, listener)?;
+    verdict_of(alloc, automaton, &game, &found)
 }
 
-/// What player 0 wins of a game, with at most so many lifts. 50 where the table of lifting would be too wide, 51 where the
-/// budget does not suffice, or 60.
-fn found_within(alloc: Global, game: &Game, budget: u64) -> Result<Found, Refusal>
+/// What lifting finds in a game for player 0; the listener is told of the run. 50, 51 or 60.
+fn found_in<L, W: Watch<L>>(
+    alloc: Global,
+    game: &Game,
+    budget: u64,
+    watch: &W,
+    listener: &mut L,
+) -> Result<Found, Refusal>
     requires { budget ≤ most_lifts }
-    ensures exact { IfOk result (λ found. IsExact game.now Zero found.won.items found.choice.items) }
+    ensures found { IfOk result (IsFound game.now Zero budget) }
     ensures solved { OnOk result (IsSolvedWithin budget game.now) }
-    ensures refused { IfErr result (or_task (IsSolvingFault budget game.now) (or_memory never)) }
+    ensures refused { IfErr result (IsSolvingRefusal budget game.now) }
+    ensures told { IsWatched (LiftsGame game.now) (refusal_in result) (W.tells watch.now) (W.pace watch.now) budget listener.old listener.new }
 {
-    let solver: Solver<'_, PackedTable, Nested> = Solver::prepare(alloc, game, Player::Zero)?;
-    Found::by(alloc, solver, budget)
+    let renaming = Renaming::of(alloc, game)?;
+    let solver: Solver<'_, PackedTable, Nested> = renaming.prepare(alloc, Player::Zero)?;
+    found_watched(
+        alloc,
+        solver,
+        &renaming,
+        Player::Zero,
+        budget,
+        watch,
+        listener,
+    )
 }
 
 /// What an exact answer for player 0 in the emptiness game of an automaton says of it. The lasso begins at the first start

@@ -18,7 +18,7 @@ mod turning;
 mod usable;
 mod verdict;
 
-pub use deciding::{emptiness, verdict_of};
+pub use deciding::{emptiness, emptiness_watched, verdict_of};
 pub use game_laws::{unwon_is_empty, won_starts_accept, won_walks_accept};
 pub use games::emptiness_game;
 pub use laws::{

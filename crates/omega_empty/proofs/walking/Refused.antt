@@ -1,23 +1,17 @@
 -- Refusals of deciding: those of the emptiness game, and those of solving it.
 use Rattle.std.proofs.Common.{◌≡◌, ℕ, List, Ok, Err, Result, IfOk, IfErr, IsErrAnd, OnOk, false, inl, inr, subst, sym}
-use Rattle.omega_text.specs.Cases.{never, or_memory, or_task}
 use Rattle.omega_text.specs.declared.refusal.Refusal.{Refusal}
 use Rattle.omega_text.specs.declared.refusal.Refusal.TheVariants.{Automaton, Game, Io, Memory, Task, Text}
 use Rattle.omega_automaton.specs.Automaton.{Description}
 use Rattle.omega_game.specs.Game.{Node, priorities}
 use Rattle.omega_game.specs.declared.player.Player.TheVariants.{Zero}
 use Rattle.omega_measure.specs.Table.{IsPrepareRefusal, is_too_wide}
-use Rattle.omega_solve.specs.Headline.{IsExact}
-use Rattle.omega_solve.specs.Solver.{State, start_of}
 use Rattle.omega_solve.specs.Within.{IsBudgetRefusal, IsFound}
 use Rattle.omega_solve.specs.declared.found.Found.{Found}
 use Rattle.omega_empty.specs.EmptinessGame.{IsEmptinessGame}
 use Rattle.omega_empty.specs.Refusing.{IsGameRefusal, IsGiven}
 use Rattle.omega_empty.specs.Verdict.{IsEmptinessRefusal, IsSolvedWithin, IsSolvingFault}
-
--- the refusal of solving an emptiness game
-abbrev IsSolvingRefusal : ℕ → List Node → Refusal → Type 0
-IsSolvingRefusal budget game = or_task (IsSolvingFault budget game) (or_memory never)
+use Rattle.omega_empty.specs.layout.Solving.{IsSolvingRefusal}
 
 -- a game whose table is too wide is not solved
 pub too_wide_refused : (budget : ℕ) (game : List Node) (refusal : Refusal) → IsPrepareRefusal Zero (priorities game) refusal → IsSolvingRefusal budget game refusal
@@ -29,7 +23,7 @@ too_wide_refused budget game Memory is = tt
 too_wide_refused budget game Io is = is
 
 -- nor is one for which the budget does not suffice
-spent_refused : (budget : ℕ) (game : List Node) (refusal : Refusal) → is_too_wide Zero (priorities game) ≡ false → IsBudgetRefusal game Zero budget refusal → IsSolvingRefusal budget game refusal
+pub spent_refused : (budget : ℕ) (game : List Node) (refusal : Refusal) → is_too_wide Zero (priorities game) ≡ false → IsBudgetRefusal game Zero budget refusal → IsSolvingRefusal budget game refusal
 spent_refused budget game (Text fault) fits is = is
 spent_refused budget game (Game fault) fits is = is
 spent_refused budget game (Automaton fault) fits is = is
@@ -37,33 +31,17 @@ spent_refused budget game (Task fault) fits is = subst (IsSolvingFault budget ga
 spent_refused budget game Memory fits is = tt
 spent_refused budget game Io fits is = is
 
--- what a new solver finds is exact
-pub found_exact : (solver : State) (budget : ℕ) (game : List Node) (answer : Result Found Refusal) → solver ≡ start_of game Zero
-    → IfOk answer (IsFound solver.nodes solver.player budget) → IfOk answer (λ found. IsExact game Zero found.won.items found.choice.items)
-found_exact solver budget game (Err refusal) same is = tt
-found_exact solver budget game (Ok found) same is = (subst (λ (s : State). IsFound s.nodes s.player budget found) same is).exact
-
--- and it is found within the budget, of a game that is not too wide
-pub found_solved : (solver : State) (budget : ℕ) (game : List Node) (answer : Result Found Refusal) → solver ≡ start_of game Zero
-    → is_too_wide Zero (priorities game) ≡ false → IfOk answer (IsFound solver.nodes solver.player budget)
-    → OnOk answer (IsSolvedWithin budget game)
-found_solved solver budget game (Err refusal) same fits is = tt
-found_solved solver budget game (Ok found) same fits is = record {
-  fits = fits;
-  lifts = found.lifts;
-  ends = (subst (λ (s : State). IsFound s.nodes s.player budget found) same is).ended;
-}
+-- what is found in a game that is not too wide solves it within the budget
+pub found_solved : (budget : ℕ) (given game : List Node) (answer : Result Found Refusal) → given ≡ game → is_too_wide Zero (priorities given) ≡ false
+    → IfOk answer (IsFound given Zero budget) → OnOk answer (IsSolvedWithin budget game)
+found_solved budget given game (Err refusal) same fits is = tt
+found_solved budget given game (Ok found) same fits is =
+    subst (IsSolvedWithin budget) same (record { fits = fits; lifts = found.lifts; ends = is.ended })
 
 -- what holds without the value of an answer holds of each answer
 pub on_ok : {A : Type 0} (answer : Result A Refusal) (wanted : Type 0) → wanted → OnOk answer wanted
 on_ok (Ok value) wanted holds = holds
 on_ok (Err refusal) wanted holds = tt
-
--- where it is refused, the game is not solved
-pub found_refused : (solver : State) (budget : ℕ) (game : List Node) (answer : Result Found Refusal) → solver ≡ start_of game Zero → is_too_wide Zero (priorities game) ≡ false
-    → IfErr answer (IsBudgetRefusal solver.nodes solver.player budget) → IfErr answer (IsSolvingRefusal budget game)
-found_refused solver budget game (Ok found) same fits is = tt
-found_refused solver budget game (Err refusal) same fits is = spent_refused budget game refusal fits (subst (λ (s : State). IsBudgetRefusal s.nodes s.player budget refusal) same is)
 
 -- an automaton without an emptiness game is not decided
 pub ungiven_refused : (a : Description) (budget : ℕ) (refusal : Refusal) → IsGameRefusal a refusal → IsEmptinessRefusal a budget refusal

@@ -5,27 +5,27 @@ use Rattle.omega_game.specs.declared.player.Player.TheVariants.{Zero}
 use Rattle.omega_game.specs.Game.{priorities}
 use Rattle.omega_measure.specs.Table.{IsPrepareRefusal}
 use Rattle.omega_text.specs.declared.refusal.Refusal.TheVariants.{Memory}
-use Rattle.omega_automaton_answers.specs.steps.Solving.{IsSolvingRefusal}
-use Rattle.omega_automaton_answers.proofs.Emptiness.{refused-lifts, refused-prepare, refused_so, solved-within}
+use Rattle.omega_empty.specs.layout.Solving.{IsSolvingRefusal}
+use Rattle.omega_empty.proofs.walking.Refused.{found_solved, passed_on, spent_refused, too_wide_refused}
 use Rattle.omega_watch.proofs.Watched.{none_watched, one_made, one_watched, spares, watched_alike}
-use Rattle.omega_automaton_answers.proofs.empty.found_in.Goals as goal
+use Rattle.omega_empty.proofs.deciding.found_in.Goals as goal
 
 pub returns-in_err-solver-clause-refused : goal.returns-in_err-solver-clause-refused
 returns-in_err-solver-clause-refused g c =
     let refused : IsSolvingRefusal c.args.budget c.args.game.now c.in_err-solver.field-0.0 =
     subst (λ game. IsSolvingRefusal c.args.budget game c.in_err-solver.field-0.0) c.in_ok-renaming.ensures.given
-    (refused-prepare c.args.budget _ _ c.in_err-solver.ensures.refused) in
-    refused_so c.from_residual-in_err-solver.result _ _ c.from_residual-in_err-solver.ensures.1 (λ refusal e. rw e refused)
+    (too_wide_refused c.args.budget _ _ c.in_err-solver.ensures.refused) in
+    passed_on c.from_residual-in_err-solver.result _ _ c.from_residual-in_err-solver.ensures.1 refused
 
 pub returns-clause-solved : goal.returns-clause-solved
 returns-clause-solved g c =
-    solved-within c.args.budget _ _ c.found_watched.result c.in_ok-renaming.ensures.given (c.in_ok-solver.ensures.fits refl) c.found_watched.ensures.found
+    found_solved c.args.budget _ _ c.found_watched.result c.in_ok-renaming.ensures.given (c.in_ok-solver.ensures.fits refl) c.found_watched.ensures.found
 
 pub returns-clause-refused : goal.returns-clause-refused
 returns-clause-refused g c =
     IfErr-weaker c.found_watched.result _ _
     (λ refusal h. subst (λ game. IsSolvingRefusal c.args.budget game refusal) c.in_ok-renaming.ensures.given
-    (refused-lifts c.args.budget _ refusal (c.in_ok-solver.ensures.fits refl) h))
+    (spent_refused c.args.budget _ refusal (c.in_ok-solver.ensures.fits refl) h))
     c.found_watched.ensures.refused
 
 pub returns-in_err-renaming-clause-told : goal.returns-in_err-renaming-clause-told
