@@ -51,6 +51,8 @@ FAULTY = [
     b"HOA: v1 Acceptance: 0 " + b"(" * 256 + b"t" + b")" * 256 + b" --BODY-- --END--",
     b"HOA: v1 Acceptance: 0 t Alias: @a " + b"!" * 256 + b"t --BODY-- --END--",
     b"HOA: v1 Acceptance: 0 t --BODY-- State: [" + b"&".join([b"t"] * 257) + b"] 0 --END--",
+    b"HOA: v1 Acceptance: 0 t Alias: @d0 t " + b"".join(
+        b"Alias: @d%d @d%d&@d%d " % (k, k - 1, k - 1) for k in range(1, 17)) + b"--BODY-- --END--",
 ]
 
 
