@@ -112,6 +112,15 @@ fn size_among(alloc: Global, aliases: &Aliases, postfix: &str) -> Result<u32, Re
     expanded_size(alloc, &label(alloc, postfix)?, aliases)
 }
 
+// The text of a label over definitions once expanded.
+fn text_over(alloc: Global, definitions: &[&str], postfix: &str) -> Result<Vec<u8>, Refusal> {
+    text_among(alloc, &aliases(alloc, definitions)?, postfix)
+}
+
+fn text_among(alloc: Global, aliases: &Aliases, postfix: &str) -> Result<Vec<u8>, Refusal> {
+    written(alloc, &expand(alloc, &label(alloc, postfix)?, aliases)?)
+}
+
 // `A` is defined by `B`, which comes later.
 static LATER: [&str; 2] = ["B", "0"];
 
@@ -131,6 +140,48 @@ static DOUBLED_SIZES: [(&str, Result<u32, u32>); 5] = [
     ("P!", Ok(65_536)),
     ("P0&", Err(33)),
 ];
+
+// The first is negated by the second, and a third has both.
+static NESTED: [&str; 3] = ["01|", "A!", "BA2||"];
+
+// Labels over definitions, and their text once expanded or the number of the refusal.
+static LATER_TEXTS: [(&str, Result<&str, u32>); 4] = [
+    ("A", Err(27)),
+    ("B", Ok("0")),
+    ("B!(A|", Err(27)),
+    ("B!(1&", Ok("!0&1")),
+];
+
+static NESTED_TEXTS: [(&str, Result<&str, u32>); 5] = [
+    ("A", Ok("0|1")),
+    ("B", Ok("!(0|1)")),
+    ("C", Ok("!(0|1)|(0|1|2)")),
+    ("3A&", Ok("3&(0|1)")),
+    ("D", Err(27)),
+];
+
+// Asserts the texts of labels over definitions.
+fn assert_texts(
+    rt: &impl Abort,
+    alloc: Global,
+    definitions: &[&str],
+    rows: &[(&str, Result<&str, u32>)],
+) {
+    for (row, (postfix, want)) in rows.iter().enumerate() {
+        assert_row(
+            rt,
+            row,
+            is_expanded(text_over(alloc, definitions, postfix), *want),
+        );
+    }
+}
+
+fn is_expanded(found: Result<Vec<u8>, Refusal>, want: Result<&str, u32>) -> bool {
+    match want {
+        Ok(text) => is_text(found, text),
+        Err(number) => number_of(found) == number,
+    }
+}
 
 // Asserts the sizes of labels over definitions.
 fn assert_sizes(
@@ -158,6 +209,12 @@ fn is_size(found: Result<u32, Refusal>, want: Result<u32, u32>) -> bool {
 #[test]
 fn definitions_see_earlier_ones(rt: HostRuntime) {
     assert_sizes(&rt, rt.alloc(), LATER.as_slice(), LATER_SIZES.as_slice());
+    assert_texts(&rt, rt.alloc(), LATER.as_slice(), LATER_TEXTS.as_slice());
+}
+
+#[test]
+fn aliases_are_replaced(rt: HostRuntime) {
+    assert_texts(&rt, rt.alloc(), NESTED.as_slice(), NESTED_TEXTS.as_slice());
 }
 
 #[test]
@@ -246,7 +303,7 @@ fn labels_are_judged(rt: HostRuntime) {
     }
 }
 
-static PRIORITIES: [(Order, Parity, u32, &[u32], u32); 22] = [
+static PRIORITIES: [(Order, Parity, u32, &[u32], u32); 23] = [
     (Order::Max, Parity::Even, 3, &[0], 2),
     (Order::Max, Parity::Even, 3, &[1], 3),
     (Order::Max, Parity::Even, 3, &[2], 4),
@@ -263,6 +320,7 @@ static PRIORITIES: [(Order, Parity, u32, &[u32], u32); 22] = [
     (Order::Min, Parity::Odd, 3, &[1], 2),
     (Order::Min, Parity::Odd, 3, &[2], 1),
     (Order::Min, Parity::Odd, 3, &[], 0),
+    (Order::Min, Parity::Odd, 2, &[], 1),
     (Order::Min, Parity::Odd, 2, &[1], 2),
     (Order::Min, Parity::Odd, 2, &[0, 1], 3),
     (Order::Max, Parity::Even, 0, &[], 1),
@@ -388,6 +446,33 @@ fn is_kind(found: Result<AccKind, Refusal>, want: AccKind) -> bool {
         Ok(kind) => kind == want,
         Err(_) => false,
     }
+}
+
+// The parity kind of a formula, named by parity.
+fn parity_kind(
+    alloc: Global,
+    letters: &str,
+    count: u32,
+    postfix: &str,
+) -> Result<ParityKind, Refusal> {
+    parity_of(
+        &name(alloc, "parity", letters)?,
+        count,
+        &formula(alloc, postfix)?,
+    )
+}
+
+fn is_max_even_two(found: Result<ParityKind, Refusal>) -> bool {
+    match found {
+        Ok(kind) => kind.order == Order::Max && kind.parity == Parity::Even && kind.count == 2,
+        Err(_) => false,
+    }
+}
+
+#[test]
+fn parity_has_its_formula(rt: HostRuntime) {
+    assert!(rt; is_max_even_two(parity_kind(rt.alloc(), "xe2", 2, "b0&")));
+    assert!(rt; number_of(parity_kind(rt.alloc(), "xe2", 2, "1a|")) == 40);
 }
 
 fn is_parity(found: Result<AccKind, Refusal>, order: Order, parity: Parity, count: u32) -> bool {

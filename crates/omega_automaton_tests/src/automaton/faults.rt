@@ -6,7 +6,7 @@ use omega_raw::{RawEdge, RawEdges, RawItem, RawState, StateName};
 use std::alloc::Global;
 
 // Items, body, and the number of the refusal of a text of version v1 with both, or 0.
-static ITEMS: [(&str, &str, u32); 51] = [
+static ITEMS: [(&str, &str, u32); 52] = [
     ("States: 1 States: 1", "", 21),
     ("Acceptance: 0 t AP: 0 AP: 0", "", 21),
     ("Acceptance: 0 t Acceptance: 0 t", "", 21),
@@ -77,6 +77,7 @@ static ITEMS: [(&str, &str, u32); 51] = [
         0,
     ),
     ("Acceptance: 1 Foo(0)", "", 31),
+    ("Acceptance: 1 Foo(1)", "", 25),
     ("Acceptance: 1 Inf(0)&inf(0)", "", 31),
 ];
 

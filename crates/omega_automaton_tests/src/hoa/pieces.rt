@@ -129,6 +129,41 @@ fn no_cut_changes_the_items(rt: HostRuntime) {
     }
 }
 
+// An aborted segment, and a segment with a token with which no automaton goes on, at this place.
+const BROKEN: &str = "HOA: --ABORT-- HOA: v1 States: x --BODY-- --END-- ";
+
+const BROKEN_AT: Told = (3, Some(31));
+
+// Whether of two pieces the one that completes the second segment is refused there, and all that comes behind it.
+fn is_broken_in_two(alloc: Global, front: &[u8], back: &[u8]) -> bool {
+    let mut items = Vec::new(alloc);
+    let mut stream = Stream::new(alloc);
+    let first = told(stream.feed(front, &mut items));
+    (first == (0, None) || first == BROKEN_AT)
+        && told(stream.feed(back, &mut items)) == BROKEN_AT
+        && told(stream.finish()) == BROKEN_AT
+        && counts(items.as_slice()) == (1, 0)
+}
+
+// Whether the bytes, one by one, are refused so.
+fn is_broken_in_bytes(alloc: Global, text: &[u8]) -> bool {
+    let mut items = Vec::new(alloc);
+    let mut stream = Stream::new(alloc);
+    !feed_bytes(&mut stream, text, &mut items)
+        && told(stream.finish()) == BROKEN_AT
+        && counts(items.as_slice()) == (1, 0)
+}
+
+#[test]
+fn no_cut_changes_the_place_of_a_fault(rt: HostRuntime) {
+    let text = BROKEN.as_bytes();
+    for cut in 0..text.len() + 1 {
+        let (front, back) = (&text[..cut], &text[cut..]);
+        assert_row(&rt, cut, is_broken_in_two(rt.alloc(), front, back));
+    }
+    assert!(rt; is_broken_in_bytes(rt.alloc(), text));
+}
+
 // Whether the bytes give, one by one, an aborted segment and an automaton.
 fn is_whole_in_bytes(alloc: Global, text: &[u8]) -> bool {
     let mut items = Vec::new(alloc);
