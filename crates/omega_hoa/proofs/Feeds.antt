@@ -52,24 +52,30 @@ answered_before refusal seen items kept is = subst (λ before. MatchOption befor
 -- a piece passes the limit
 pub too_long : (seen : List ℕ) (items : List Item) (kept : Kept) (piece : List ℕ) → IsTaken seen items kept → most_text < kept.begins + length kept.bytes + length piece
     → IsFed (seen ++ piece) items (record kept { refused = Some (Text TooLong) })
-too_long seen items kept piece taken long = inl (refl, record {
-  front = seen;
-  behind = piece;
-  split = refl;
-  taken = record { lexemes = taken.lexemes; settled = taken.settled; divided = taken.divided; bytes = taken.bytes; total = taken.total; short = taken.short; tied = taken.tied; sound = taken.sound };
-  long = omega (arith, length-append seen piece, taken.total, long);
-})
+too_long seen items kept piece taken long = inl (
+  refl,
+  record {
+    front = seen;
+    behind = piece;
+    split = refl;
+    taken = record { lexemes = taken.lexemes; settled = taken.settled; divided = taken.divided; bytes = taken.bytes; total = taken.total; short = taken.short; tied = taken.tied; sound = taken.sound };
+    long = omega (arith, length-append seen piece, taken.total, long);
+  },
+)
 
 -- what is refused so far is so with more bytes behind it
 refused_longer : (seen piece : List ℕ) (items : List Item) (kept : Kept) (refusal : Refusal) → IsRefusedSoFar seen items kept refusal → IsRefusedSoFar (seen ++ piece) items kept refusal
 refused_longer seen piece items kept refusal refused = elim refused [
-  | inl past ↦ inl (past.0, record {
-    front = past.1.front;
-    behind = past.1.behind ++ piece;
-    split = ap (λ bytes. bytes ++ piece) past.1.split ∙ append_assoc past.1.front past.1.behind piece;
-    taken = past.1.taken;
-    long = let long = past.1.long in omega (arith, long, length-append seen piece);
-  })
+  | inl past ↦ inl (
+    past.0,
+    record {
+      front = past.1.front;
+      behind = past.1.behind ++ piece;
+      split = ap (λ bytes. bytes ++ piece) past.1.split ∙ append_assoc past.1.front past.1.behind piece;
+      taken = past.1.taken;
+      long = let long = past.1.long in omega (arith, long, length-append seen piece);
+    },
+  )
   | inr always ↦ inr (λ more. subst (λ source. IsStreamFault source items refusal) (sym (append_assoc seen piece more)) (always (piece ++ more)))
 ]
 
