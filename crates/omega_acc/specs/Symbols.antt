@@ -1,4 +1,5 @@
--- What a grammar of the Hanoi format sees of a token, and what the expressions of labels and of acceptance formulas have in common (HOA v1).
+-- What a grammar of the Hanoi format sees of a token, and what the expressions of labels and of acceptance formulas
+-- have in common (HOA v1).
 use Rattle.std.specs.Prelude.{ℕ, Bool, true, false, List, [], ◌∷◌}
 use Rattle.omega_text.specs.Cases.{never, or_memory, or_text}
 use Rattle.omega_text.specs.Lexeme.{Lexeme}
@@ -8,7 +9,8 @@ use Rattle.omega_text.specs.declared.refusal.Refusal.{Refusal}
 use Rattle.omega_text.specs.declared.refusal.text.TextFault.{TextFault}
 use Rattle.omega_text.specs.declared.refusal.text.TextFault.TheVariants.{Syntax}
 
--- what a grammar sees of a token: a number's value, the bytes of an alias name, an identifier, a header name or a string, and of the others the kind
+-- what a grammar sees of a token: a number's value, the bytes of an alias name, an identifier,
+-- a header name or a string, and of the others the kind
 pub data Symbol : Type 0 where
   number : ℕ → Symbol
   name : List ℕ → Symbol

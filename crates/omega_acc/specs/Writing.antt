@@ -1,4 +1,5 @@
--- How expressions are written (docs/formats.md, labels and acceptance formulas): no spaces, and parentheses only where an operator needs them.
+-- How expressions are written (docs/formats.md, labels and acceptance formulas): no spaces,
+-- and parentheses only where an operator needs them.
 use Rattle.std.specs.Prelude.{ℕ, Bool, nat_le, nat_lt, if◌then◌else◌, List, [], ◌∷◌, ◌++◌, codes, decimal}
 use Rattle.omega_acc.specs.formula.Acceptance.{AccTree}
 use Rattle.omega_acc.specs.formula.Acceptance as acc
@@ -21,7 +22,8 @@ atom_text bytes = record { rank = 3; bytes = bytes }
 abbrev pub negated_text : Text → Text
 negated_text part = record { rank = 3; bytes = 33 ∷ bracketed (nat_lt part.rank 3) part.bytes }
 
--- two parts and their operator: the left one in parentheses if it binds less tightly, the right one also if it binds as tightly
+-- two parts and their operator: the left one in parentheses if it binds less tightly,
+-- the right one also if it binds as tightly
 abbrev pub joined_text : ℕ → ℕ → Text → Text → Text
 joined_text rank sign left right = record {
   rank = rank;

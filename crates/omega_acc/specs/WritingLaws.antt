@@ -1,4 +1,5 @@
--- How written expressions are read back (docs/formats.md, labels and acceptance formulas): the canonical text of a tree is the tokens of one expression as it is written, which means that tree.
+-- How written expressions are read back (docs/formats.md, labels and acceptance formulas):
+-- the canonical text of a tree is the tokens of one expression as it is written, which means that tree.
 use Rattle.std.specs.Prelude.{◌≡◌, ◌≢◌, ℕ, ◌+◌, ◌≤◌, Bool, false, nat_le, nat_lt, if◌then◌else◌, List, [], ◌∷◌, ◌++◌, Some, codes, drop, length, map, slice_index}
 use Rattle.omega_acc.specs.formula.Meaning.{acc_meant}
 use Rattle.omega_acc.specs.formula.Reading.{IsAccOf, acc_spelled}
@@ -75,12 +76,14 @@ pub record AreThere (source : List ℕ) (from to : ℕ) (symbols : List Symbol) 
   pub cuts : Cuts hoa_format source from lexemes to
   pub spells : map symbol_of lexemes ≡ symbols
 
--- where the canonical text of a label stands, apart from what follows, there are the tokens of the label as it is written
+-- where the canonical text of a label stands, apart from what follows,
+-- there are the tokens of the label as it is written
 abbrev pub LabelTextsAreLabels : Type 0
 LabelTextsAreLabels = (tree : LabelTree) (source behind : List ℕ) (from : ℕ) → NumbersFit tree → StandsApart behind
     → drop from source ≡ (label_text tree).bytes ++ behind → AreThere source from (from + length (label_text tree).bytes) (spelled (label_written tree))
 
--- where the canonical text of a formula stands, apart from what follows, there are the tokens of the formula as it is written
+-- where the canonical text of a formula stands, apart from what follows,
+-- there are the tokens of the formula as it is written
 abbrev pub AccTextsAreFormulas : Type 0
 AccTextsAreFormulas = (tree : AccTree) (source behind : List ℕ) (from : ℕ) → SetsFit tree → StandsApart behind
     → drop from source ≡ (acc_text tree).bytes ++ behind → AreThere source from (from + length (acc_text tree).bytes) (acc_spelled (acc_written tree))

@@ -10,8 +10,8 @@ use itoa::Buffer;
 use omega_text::Refusal;
 use std::alloc::Global;
 
-/// The text of an expression, made from its last node to its first and from its last byte to its first: whether a part stands
-/// in parentheses is known where its operator is met, which is before any of its bytes, and so no byte moves.
+/// The text of an expression, made from its last node to its first and from its last byte to its first: whether a part
+/// stands in parentheses is known where its operator is met, which is before any of its bytes, and so no byte moves.
 ///
 /// Up to 64 bytes and 24 signs take no memory.
 #[derive(Drop)]
@@ -19,8 +19,8 @@ pub(crate) struct Backward {
     /// The bytes so far, which are the end of the text.
     bytes: Leftward,
     waiting: Signs,
-    /// How tightly the part has to bind that comes next, to stand without parentheses: 1 for `|`, 2 for `&`, 3 for the rest.
-    /// None where the text is whole.
+    /// How tightly the part has to bind that comes next, to stand without parentheses: 1 for `|`, 2 for `&`, 3 for the
+    /// rest. None where the text is whole.
     wanted: Option<u32>,
 }
 
@@ -111,8 +111,8 @@ impl Backward {
         Ok(())
     }
 
-    /// Appends the text to others, once no part comes any more. A part that is missing, as none is in a label, is empty. After
-    /// a refusal those are as before.
+    /// Appends the text to others, once no part comes any more. A part that is missing, as none is in a label, is
+    /// empty. After a refusal those are as before.
     pub(crate) fn append_to(&mut self, out: &mut Vec<u8>) -> Result<(), Refusal>
         ensures ok { OnOk result (out.new.items ≡ out.old.items ++ whole_text self.old []) }
         ensures same { OnErr result (out.new.items ≡ out.old.items) }

@@ -23,7 +23,8 @@ use omega_text::{Refusal, Seq};
 use std::alloc::Global;
 use std::marker::Model;
 
-/// A node of a label, expanded or as it is written. Its parts stand before it; of an alias it has the length of the name.
+/// A node of a label, expanded or as it is written. Its parts stand before it;
+/// of an alias it has the length of the name.
 ///
 /// Both kinds of labels have the same nodes, so that one without aliases is expanded in the memory that it has.
 #[derive(Clone, Copy, Debug, Default, PartialEq, Eq)]
@@ -40,8 +41,8 @@ pub(crate) enum LabelNode {
 
 /// A label without aliases and parentheses, at most 256 deep.
 ///
-/// Contracts see its tree. Reading, comparing and dropping it need no recursion. It takes 24 bytes, and memory only where it has
-/// a proposition from 250 on or over 21 atoms and operators.
+/// Contracts see its tree. Reading, comparing and dropping it need no recursion. It takes 24 bytes, and memory only
+/// where it has a proposition from 250 on or over 21 atoms and operators.
 #[derive(Debug, Drop)]
 pub struct Label {
     written: Compact,

@@ -31,7 +31,8 @@ pub fn formulas_are_one()
     ensures { FormulasAreOne }
 {}
 
-/// Where the canonical text of a label stands, apart from what follows, there are the tokens of that label as it is written.
+/// Where the canonical text of a label stands, apart from what follows,
+/// there are the tokens of that label as it is written.
 pub fn label_texts_are_labels()
     ensures { LabelTextsAreLabels }
 {
@@ -52,8 +53,8 @@ pub fn written_labels_are_shallowest()
     ensures { WrittenLabelsAreShallowest }
 {}
 
-/// Where the canonical text of an acceptance formula stands, apart from what follows, there are the tokens of that formula as it
-/// is written.
+/// Where the canonical text of an acceptance formula stands, apart from what follows, there are the tokens of that
+/// formula as it is written.
 pub fn acc_texts_are_formulas()
     ensures { AccTextsAreFormulas }
 {

@@ -1,6 +1,7 @@
 //! Label and acceptance formulas of omega-automata, aliases, acceptance kinds and priorities.
 //!
-//! What belongs to labels stands in `label`, what belongs to acceptance formulas in `formula`; what both stand on, beside them.
+//! What belongs to labels stands in `label`, what belongs to acceptance formulas in `formula`; what both stand on,
+//! beside them.
 #![tactic(auto)]
 
 mod backward;

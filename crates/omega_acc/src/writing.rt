@@ -11,8 +11,8 @@ use crate::formula::{Acc, AccNode};
 use crate::label::{Label, LabelNode};
 use omega_text::Refusal;
 
-/// Appends the canonical text of a label: no spaces, and parentheses only where an operator needs them. After refusal 60
-/// the vector is as before.
+/// Appends the canonical text of a label: no spaces, and parentheses only where an operator needs them. After refusal
+/// 60 the vector is as before.
 pub fn write_label(label: &Label, out: &mut Vec<u8>) -> Result<(), Refusal>
     ensures ok { OnOk result (out.new.items ≡ out.old.items ++ (label_text label.now).bytes) }
     ensures same { OnErr result (out.new.items ≡ out.old.items) }
@@ -25,8 +25,8 @@ pub fn write_label(label: &Label, out: &mut Vec<u8>) -> Result<(), Refusal>
     Ok(())
 }
 
-/// Appends the canonical text of an acceptance formula: no spaces, and parentheses only where an operator needs them. After
-/// refusal 60 the vector is as before.
+/// Appends the canonical text of an acceptance formula: no spaces, and parentheses only where an operator needs them.
+/// After refusal 60 the vector is as before.
 pub fn write_acc(formula: &Acc, out: &mut Vec<u8>) -> Result<(), Refusal>
     ensures ok { OnOk result (out.new.items ≡ out.old.items ++ (acc_text formula.now).bytes) }
     ensures same { OnErr result (out.new.items ≡ out.old.items) }

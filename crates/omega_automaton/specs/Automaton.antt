@@ -1,4 +1,5 @@
--- Omega-automata as values: their parts, their edges, and what each automaton keeps (HOA v1; docs/formats.md, automata).
+-- Omega-automata as values: their parts, their edges, and what each automaton keeps (HOA v1;
+-- docs/formats.md, automata).
 use Rattle.std.specs.Prelude.{◌≡◌, ℕ, ◌+◌, ◌<◌, ◌≤◌, Bool, false, ◌||◌, List, [], ◌∷◌, ◌++◌, length, map, sum_by, nat_eq, Option, None, Some, All, IfSome, slice_get}
 use Rattle.std.specs.List.{flat_map, list_any}
 use Rattle.std.specs.List.Sorted.{IsStrictlyIncreasing}

@@ -52,12 +52,14 @@ begins_capital (byte ∷ rest) = nat_le 65 byte && nat_le byte 90
 unfoldable pub has_unknown_capital : RawAutomaton → Bool
 has_unknown_capital raw = list_any (λ item. passes (λ header. begins_capital header.name) (unknown_in item)) raw.items
 
--- whether states that a start or an edge lists are out of range: not all below a count, or none at all, which no text writes
+-- whether states that a start or an edge lists are out of range: not all below a count, or none at all,
+-- which no text writes
 abbrev pub are_out_of_range : ℕ → List ℕ → Bool
 are_out_of_range count [] = true
 are_out_of_range count (state ∷ states) = list_any (nat_le count) (state ∷ states)
 
--- whether a state of the body is out of range: it is not below a count, or an edge of it lists states that are out of range
+-- whether a state of the body is out of range: it is not below a count,
+-- or an edge of it lists states that are out of range
 abbrev pub is_out_of_range : ℕ → RawState → Bool
 is_out_of_range count state = nat_le count state.number || list_any (λ edge. are_out_of_range count edge.targets) state.edges
 
@@ -216,8 +218,8 @@ abbrev pub label_total : List Defined → RawState → ℕ
 label_total definitions state =
     size_under definitions state.label + sum_by (λ edge. size_under definitions edge.label) state.edges
 
--- 33: whether an alias or a label, its aliases replaced, has over 65,536 tree nodes, or all labels together over 16,777,216;
--- of what is also too deep 32 speaks
+-- 33: whether an alias or a label, its aliases replaced, has over 65,536 tree nodes, or all labels together over
+-- 16,777,216; of what is also too deep 32 speaks
 unfoldable pub has_large_expression : RawAutomaton → Bool
 has_large_expression raw =
     some_meaning is_large raw

@@ -29,6 +29,7 @@ MeaningsHaveNoFault = (raw : RawAutomaton) (a : Description) (fault : AutomatonF
 abbrev pub MeaningsAreThere : Type 0
 MeaningsAreThere = (raw : RawAutomaton) → fault_of raw ≡ None → (a : Description) × Means raw a
 
--- what an automaton that is written means is an automaton: numbers below their counts, each state defined at most once, and the limits
+-- what an automaton that is written means is an automaton: numbers below their counts, each state defined at most once,
+-- and the limits
 abbrev pub MeaningsAreAutomata : Type 0
 MeaningsAreAutomata = (raw : RawAutomaton) (a : Description) → Means raw a → IsAutomaton a

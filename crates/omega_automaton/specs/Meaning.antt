@@ -1,4 +1,5 @@
--- What an automaton text without a fault means: the value, part by part (docs/formats.md, meaning of an automaton text).
+-- What an automaton text without a fault means: the value, part by part (docs/formats.md,
+-- meaning of an automaton text).
 use Rattle.std.specs.Prelude.{◌≡◌, ◌↔◌, ℕ, List, [], Option, Some, None, Contains, option_and_then, unwrap_or}
 use Rattle.std.specs.List.{AllZip, filter_map, flat_map}
 use Rattle.std.specs.List.Sorted.{IsStrictlyIncreasing}

@@ -9,8 +9,8 @@ use std::marker::Model;
 
 /// The edges of a state in the order written. Contracts see the list of edges.
 ///
-/// Edges without labels that lead to one state and are in one set at most take 12 bytes each, where all edges of the state are
-/// such, else 64.
+/// Edges without labels that lead to one state and are in one set at most take 12 bytes each, where all edges of the
+/// state are such, else 64.
 #[derive(Debug, Drop)]
 pub struct Edges {
     held: Held,

@@ -26,8 +26,8 @@ pub fn meanings_are_there()
     ensures { MeaningsAreThere }
 {}
 
-/// What an automaton that is written means keeps what each automaton does: numbers are below their counts, each state is
-/// defined at most once, and the limits hold.
+/// What an automaton that is written means keeps what each automaton does: numbers are below their counts, each state
+/// is defined at most once, and the limits hold.
 pub fn meanings_are_automata()
     ensures { MeaningsAreAutomata }
 {}

@@ -31,10 +31,10 @@ use std::alloc::Global;
 
 /// The automaton that one means as it is written (HOA v1; docs/formats.md, meaning of an automaton text).
 ///
-/// Refusals 20 to 33 exactly by the fault with the least number that applies, and 60. The parts are moved and not copied, but
-/// for labels with aliases, which are replaced, and marks that do not rise. Takes time and memory by the length of what is
-/// written and by the size of the labels so replaced, and by nothing that a number in it says. More than 4,294,967,295
-/// edges, which no text has, are refused 60.
+/// Refusals 20 to 33 exactly by the fault with the least number that applies, and 60. The parts are moved and not
+/// copied, but for labels with aliases, which are replaced, and marks that do not rise. Takes time and memory by the
+/// length of what is written and by the size of the labels so replaced, and by nothing that a number in it says. More
+/// than 4,294,967,295 edges, which no text has, are refused 60.
 pub fn automaton_of(alloc: Global, raw: RawAutomaton) -> Result<Automaton, Refusal>
     ensures ok { IfOk result (λ automaton. Means raw automaton) }
     ensures err { IfErr result (IsMeaningless raw) }
@@ -52,7 +52,8 @@ pub fn automaton_of(alloc: Global, raw: RawAutomaton) -> Result<Automaton, Refus
     ))
 }
 
-/// Gathers the items, and makes the body where none of the faults 27 to 33 applies. Refusals by the least of them, and 60.
+/// Gathers the items, and makes the body where none of the faults 27 to 33 applies. Refusals by the least of them,
+/// and 60.
 fn body_with(
     alloc: Global,
     gathered: &mut Gathered,

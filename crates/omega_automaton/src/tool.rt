@@ -1,6 +1,7 @@
 use omega_text::ByteString;
 
-/// The tool that wrote an automaton (HOA v1, `tool:`): the bytes of one or two strings between their quotes, as they are.
+/// The tool that wrote an automaton (HOA v1, `tool:`): the bytes of one or two strings between their quotes,
+/// as they are.
 #[derive(Debug, Drop)]
 pub struct Tool {
     pub name: ByteString,

@@ -1,4 +1,5 @@
--- The drawing of an automaton, and of an automaton with a lasso. States that nothing defines are drawn where an arrow leads to them.
+-- The drawing of an automaton, and of an automaton with a lasso.
+-- States that nothing defines are drawn where an arrow leads to them.
 use Rattle.std.specs.Prelude.{ℕ, ◌==◌, Bool, if◌then◌else◌, Option, Some, None, List, [], ◌∷◌, ◌++◌, codes, decimal, length, slice_index}
 use Rattle.std.specs.List.{flat_map}
 use Rattle.omega_acc.specs.label.Label.{LabelTree}
@@ -13,7 +14,8 @@ use Rattle.omega_automaton_drawing.specs.Roles.{role_of}
 use Rattle.omega_automaton_drawing.specs.declared.role.Role.{Role}
 use Rattle.omega_automaton_drawing.specs.declared.role.Role.TheVariants.{Cycle, Plain, Stem}
 
--- the front of the graph: from left to right, and above it the automaton's name, if it has one, and its acceptance formula
+-- the front of the graph: from left to right, and above it the automaton's name, if it has one,
+-- and its acceptance formula
 abbrev pub front : Description → List ℕ
 front a =
     codes "digraph automaton {\n  rankdir=LR;\n  labelloc=t;\n  label=\"" ++ (name_line a.name ++ ((acc_text a.acceptance).bytes

@@ -14,9 +14,9 @@ use std::alloc::Global;
 ///
 /// Its name and its acceptance formula stand above it. A state has its number, its name, its own label in brackets and
 /// its sets in braces; an edge its label, with the names of propositions, and its sets. An arrow from nowhere leads to
-/// each start. A universal branch, and a start of several states, leads to a point and from there to each of its states.
-/// States that are only counted, and neither defined nor started from nor entered, are not drawn. The text is in the DOT
-/// language (graphviz.org/doc/info/lang.html). The cost is linear in it.
+/// each start. A universal branch, and a start of several states, leads to a point and from there to each of its
+/// states. States that are only counted, and neither defined nor started from nor entered, are not drawn. The text is
+/// in the DOT language (graphviz.org/doc/info/lang.html). The cost is linear in it.
 pub fn draw_automaton(alloc: Global, automaton: &Automaton) -> Result<Vec<u8>, Refusal>
     ensures text { IfOk result (λ text. text.items ≡ drawing_of_automaton automaton.now) }
     ensures memory { IsOkUnless result Refusal.Memory }

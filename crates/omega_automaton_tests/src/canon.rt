@@ -84,7 +84,8 @@ fn canonical_texts_are_their_own(rt: HostRuntime) {
     }
 }
 
-// An automaton of one proposition with aliases `@a0` as `0&0` and each next one as the one before it twice, up to this one.
+// An automaton of one proposition with aliases `@a0` as `0&0` and each next one as the one before it twice,
+// up to this one.
 fn doubling(alloc: Global, last: u32) -> Result<Vec<u8>, Refusal> {
     let mut text = Vec::new(alloc);
     text.extend_from_slice(b"HOA: v1 AP: 1 \"a\" Acceptance: 0 t Alias: @a0 0&0")?;

@@ -1,4 +1,5 @@
--- Nodes' priorities in another order: the same are borne, by as many nodes, so that measures and allowances are the same.
+-- Nodes' priorities in another order: the same are borne, by as many nodes,
+-- so that measures and allowances are the same.
 use Rattle.std.proofs.Common.{◌≡◌, ℕ, zero, suc, ◌+◌, ◌*◌, ◌<◌, ◌≤◌, ◌==◌, Bool, not, cond, IsTrue, List, [], ◌∷◌, None, Some, length, map, max, fold, filter, count_by, replicate, sum_by, get_or, nat_lt, nat_le, take, option_map, refl, sym, ap, ap₂, subst, ◌∙◌, arith}
 use Rattle.std.specs.Ordering.{is_gt, is_lt}
 use Rattle.omega_game.specs.declared.player.Player.{Player}

@@ -8,8 +8,9 @@ use Rattle.omega_solve.specs.Solver.{State, HasLiftDue, IsFinished, IsReached, s
 use Rattle.omega_budget.specs.Reordering.{IsReordering, state_by_place}
 use Rattle.omega_budget.specs.Within.{GoesOnAfter}
 
--- For every game, in whatever order it is solved: however a budget is dealt out to a new solver of the other game, what it has done is, by the places that were
--- given, a lifting run of the game itself, of at most as many lifts as its bound; budgets that together reach the bound suffice; and its answer is exact
+-- For every game, in whatever order it is solved: however a budget is dealt out to a new solver of the other game, what
+-- it has done is, by the places that were given, a lifting run of the game itself,
+-- of at most as many lifts as its bound; budgets that together reach the bound suffice; and its answer is exact
 abbrev pub HeadlineByPlace : Type 0
 HeadlineByPlace =
     (nodes other : List Node) (ranks places : List ℕ) (player : Player) (budgets : List ℕ) (solver : State)

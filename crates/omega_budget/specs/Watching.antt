@@ -27,8 +27,8 @@ TellsEach tells player every most zero before after = after ≡ before
 TellsEach {L} tells player every most (suc times) before after =
     (between : L) × TellsEach tells player every most times before between × tells (progress player (suc times * every) most) between after
 
--- so many reports tell of a run of so many lifts: each time that so many more are made and one is still due. So the last lifts are told of where the run is
--- spent, and not where it is done
+-- so many reports tell of a run of so many lifts: each time that so many more are made and one is still due. So the
+-- last lifts are told of where the run is spent, and not where it is done
 abbrev pub AreReports : Outcome → (every lifts times : ℕ) → Type 0
 AreReports Done every lifts times = (0 < times → times * every < lifts) × (lifts ≤ times * every + every)
 AreReports Spent every lifts times = (times * every ≤ lifts) × (lifts < times * every + every)
@@ -52,7 +52,8 @@ refusal_in (Err refusal) = Some refusal
 abbrev pub IsSpent : Option Refusal → Type 0
 IsSpent refusal = refusal ≡ Some (Task Budget)
 
--- a run for the player within the budget made so many lifts, and ended with one due where the budget refused it and with none due else; a listener was told of it
+-- a run for the player within the budget made so many lifts,
+-- and ended with one due where the budget refused it and with none due else; a listener was told of it
 pub record TellsRun {L : Type 0} (tells : Progress → L → L → Type 0) (every : ℕ) (nodes : List Node) (player : Player) (budget lifts : ℕ) (refusal : Option Refusal) (before after : L)
     : Type 0 where
   pub outcome : Outcome
@@ -88,7 +89,8 @@ TellsRuns {L} tells every nodes (player ∷ other ∷ players) budget refusal be
     (lifts : ℕ) × (between : L) × TellsRun tells every nodes player budget lifts None before between
     × TellsRuns tells every nodes (other ∷ players) budget refusal between after
 
--- of the runs for all these players those for some were made: for all where nothing is refused, and for at least one where the budget refuses it
+-- of the runs for all these players those for some were made: for all where nothing is refused,
+-- and for at least one where the budget refuses it
 pub record AreMade (all : List Player) (refusal : Option Refusal) (players : List Player) : Type 0 where
   pub first : (count : ℕ) × (players ≡ take count all)
   pub whole : refusal ≡ None → players ≡ all
@@ -100,7 +102,8 @@ pub record IsUntried (refusal : Option Refusal) (players : List Player) : Type 0
   pub refused : refusal ≢ None
   pub before : IsSpent refusal → ⊥
 
--- a listener was told of the runs for these players in a game, of which this holds; of nothing where it was refused before
+-- a listener was told of the runs for these players in a game, of which this holds;
+-- of nothing where it was refused before
 pub record IsWatched {L : Type 0} (Runs : Option Refusal → List Node → List Player → Type 0) (refusal : Option Refusal) (tells : Progress → L → L → Type 0) (every budget : ℕ) (before after : L)
     : Type 0 where
   pub nodes : List Node

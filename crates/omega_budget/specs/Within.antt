@@ -46,8 +46,9 @@ abbrev pub EndsSo : Outcome → List Node → Player → (budget lifts : ℕ) �
 EndsSo Done nodes player budget lifts = EndsWithin nodes player budget lifts
 EndsSo Spent nodes player budget lifts = (lifts ≡ budget) × GoesOnAfter nodes player budget
 
--- what is found within a budget: an exact answer, after so many lifts. It is read in the table that they lead to: a place is won whose measure is below top,
--- and each of these that the player owns has its first successor of least allowance
+-- what is found within a budget: an exact answer, after so many lifts. It is read in the table that they lead to: a
+-- place is won whose measure is below top, and each of these that the player owns has its first
+-- successor of least allowance
 pub record IsFound (nodes : List Node) (player : Player) (budget : ℕ) (found : Found) : Type 0 where
   pub exact : IsExact nodes player found.won.items found.choice.items
   pub ended : EndsWithin nodes player budget found.lifts
@@ -62,7 +63,8 @@ IsBudgetFault nodes player budget fault = (fault ≡ Budget) × GoesOnAfter node
 abbrev pub IsBudgetRefusal : List Node → Player → ℕ → Refusal → Type 0
 IsBudgetRefusal nodes player budget = or_task (IsBudgetFault nodes player budget) (or_memory never)
 
--- the fault of solving a game within a budget: it is too wide, or else a lifting run of exactly the budget's entries leaves a lift due
+-- the fault of solving a game within a budget: it is too wide,
+-- or else a lifting run of exactly the budget's entries leaves a lift due
 abbrev pub IsSolvingFault : List Node → Player → ℕ → TaskFault → Type 0
 IsSolvingFault nodes player budget TooWide = is_too_wide player (priorities nodes) ≡ true
 IsSolvingFault nodes player budget Budget = (is_too_wide player (priorities nodes) ≡ false) × GoesOnAfter nodes player budget

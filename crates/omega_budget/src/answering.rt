@@ -15,8 +15,8 @@ use omega_solve::{MeasureTable, Schedule, Solver, headline};
 use std::alloc::Global;
 
 impl Reordered<'_> {
-    /// A solver with every measure 0 and all places pending: of the other game with its places in rising order, which is the
-    /// order that suits it, or of the game that was given. 50 where the table would be too wide, or 60.
+    /// A solver with every measure 0 and all places pending: of the other game with its places in rising order, which
+    /// is the order that suits it, or of the game that was given. 50 where the table would be too wide, or 60.
     pub(crate) fn prepare<T: MeasureTable, S: Schedule>(
         &self,
         alloc: Global,

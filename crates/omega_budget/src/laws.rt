@@ -4,9 +4,10 @@ ghost use Rattle.omega_budget.specs.Laws.{SpentBudgetsAreBelowTheBound, Headline
 use omega_lift::runs_are_bounded;
 use omega_solve::headline;
 
-/// The headline of the program: in whatever order a game is solved, and however the budget is dealt out, a solver makes at
-/// most as many lifts as the bound of the game that was given, budgets that together reach it suffice, and the answer by the
-/// places that were given is exactly the player's region, with one strategy that wins from all of it (Jurdziński 2000).
+/// The headline of the program: in whatever order a game is solved, and however the budget is dealt out, a solver makes
+/// at most as many lifts as the bound of the game that was given, budgets that together reach it suffice, and the
+/// answer by the places that were given is exactly the player's region,
+/// with one strategy that wins from all of it (Jurdziński 2000).
 pub fn headline_by_place()
     ensures { HeadlineByPlace }
 {

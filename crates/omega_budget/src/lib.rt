@@ -1,5 +1,5 @@
-//! Parity games solved within a budget: in an order of their own, with a listener who is told of the run, and answered by
-//! the places that were given.
+//! Parity games solved within a budget: in an order of their own, with a listener who is told of the run, and answered
+//! by the places that were given.
 #![tactic(auto)]
 
 mod answering;

@@ -7,13 +7,13 @@ use omega_order::Ranking;
 use std::alloc::Global;
 use std::marker::Model;
 
-/// How many successors a node may list in the mean where a game is built anew: with more, the other game would take more
-/// memory than its order saves time.
+/// How many successors a node may list in the mean where a game is built anew: with more, the other game would take
+/// more memory than its order saves time.
 const MOST_SUCCESSORS_REORDERED: usize = 4;
 
 /// A game, and another with the same nodes in the order in which a solver is to lift them: rows, successors and
-/// predecessors then lie in the order of work. What is found there is said by the places of the game that was given. It is
-/// made once and serves both players.
+/// predecessors then lie in the order of work. What is found there is said by the places of the game that was given. It
+/// is made once and serves both players.
 #[derive(Drop)]
 pub struct Reordered<'g> {
     given: &'g Game,
@@ -73,7 +73,8 @@ impl<'g> Reordered<'g> {
         self.given
     }
 
-    /// The other game has the nodes of the game, each at its rank. Does nothing: it hands on what each reordering keeps.
+    /// The other game has the nodes of the game, each at its rank. Does nothing:
+    /// it hands on what each reordering keeps.
     pub(crate) fn keeps_nodes(&self)
         ensures reordered { IsReordered self.now }
         ensures game { IsGame self.now.given }

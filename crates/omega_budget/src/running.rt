@@ -9,8 +9,8 @@ use crate::watching::{Progress, Watch};
 use omega_game::{Game, Player, bound};
 use omega_solve::{MeasureTable, Outcome, Schedule, Solver};
 
-/// Runs a new solver for a game and a player, and tells the listener each time that so many lifts more were made and one
-/// is still due: of lifts of which there are at most so many.
+/// Runs a new solver for a game and a player, and tells the listener each time that so many lifts more were made and
+/// one is still due: of lifts of which there are at most so many.
 pub(crate) fn run_watched<T: MeasureTable, S: Schedule, L, W: Watch<L>>(
     solver: &mut Solver<'_, T, S>,
     game: &Game,

@@ -37,7 +37,8 @@ pub trait Watch<L> {
         ensures { tells self.now progress listener.old listener.new };
 }
 
-/// Nobody is told. Budgets are dealt out all the same, so that runs make the same lifts whether they are told of or not.
+/// Nobody is told. Budgets are dealt out all the same, so that runs make the same lifts whether
+/// they are told of or not.
 pub struct Unwatched;
 
 impl<L> Watch<L> for Unwatched {

@@ -1,4 +1,5 @@
--- The parts of lines in the canonical text of an automaton (HOA v1; docs/formats.md, the canonical text of an automaton).
+-- The parts of lines in the canonical text of an automaton (HOA v1; docs/formats.md, the
+-- canonical text of an automaton).
 use Rattle.std.specs.Prelude.{ℕ, Option, Some, None, List, [], ◌∷◌, ◌++◌, codes, decimal}
 use Rattle.std.specs.List.{flat_map}
 use Rattle.omega_acc.specs.label.Label.{LabelTree}

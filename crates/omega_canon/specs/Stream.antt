@@ -1,4 +1,5 @@
--- The canonical text of a stream: the canonical texts of its automata one behind the other; segments that are aborted are left out.
+-- The canonical text of a stream: the canonical texts of its automata one behind the other;
+-- segments that are aborted are left out.
 use Rattle.std.specs.Prelude.{ℕ, List, [], ◌∷◌}
 use Rattle.std.specs.List.{flat_map}
 use Rattle.omega_hoa.specs.declared.item.Item.{Item}

@@ -1,4 +1,5 @@
--- What an automaton keeps whose canonical text is one: identifiers, strings and numbers that a text can have (docs/formats.md, HOA tokens).
+-- What an automaton keeps whose canonical text is one: identifiers,
+-- strings and numbers that a text can have (docs/formats.md, HOA tokens).
 use Rattle.std.specs.Prelude.{◌≡◌, ℕ, ◌<◌, ◌≤◌, List, IfSome, length}
 use Rattle.std.specs.List.{AllByRecursion}
 use Rattle.omega_text.specs.Forms.{IsWord}

@@ -1,4 +1,5 @@
--- The automaton as its canonical text writes it: no aliases, parentheses only where an operator needs them, marks only where there are some.
+-- The automaton as its canonical text writes it: no aliases, parentheses only where an operator needs them,
+-- marks only where there are some.
 use Rattle.std.specs.Prelude.{ℕ, Option, Some, None, List, [], ◌∷◌, ◌++◌, codes, length, map, option_map}
 use Rattle.omega_acc.specs.WritingLaws.{acc_written, label_written}
 use Rattle.omega_acc.specs.declared.formula.name.AccName.{AccName}

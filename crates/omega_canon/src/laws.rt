@@ -36,8 +36,8 @@ pub fn canonical_texts_are_spelled()
     written_formulas_mean();
 }
 
-/// The canonical text of an automaton that was read, alone or in a stream, is within the limit of texts the text of that
-/// automaton: `read_one` reads it back.
+/// The canonical text of an automaton that was read, alone or in a stream, is within the limit of texts the text of
+/// that automaton: `read_one` reads it back.
 pub fn canonical_texts_are_read()
     ensures { CanonicalTextsAreRead }
 {
@@ -57,8 +57,8 @@ pub fn canonical_texts_are_read()
     meanings_are_automata();
 }
 
-/// The canonical texts of the automata of a stream, one behind the other, are within the limit of texts a stream of these
-/// automata: `read_stream` reads them back. Segments that are aborted are left out.
+/// The canonical texts of the automata of a stream, one behind the other, are within the limit of texts a stream of
+/// these automata: `read_stream` reads them back. Segments that are aborted are left out.
 pub fn canonical_streams_are_read()
     ensures { CanonicalStreamsAreRead }
 {

@@ -30,7 +30,8 @@ id_of name.Progress = codes "progress"
 abbrev pub IsFaultOf : Mistake → Line → Type 0
 IsFaultOf found line = IsFault line × (found ≢ mistake.Memory)
 
--- the line for the subcommand of this name with these options: what it asks for, or the fault that tells what is wrong with it
+-- the line for the subcommand of this name with these options: what it asks for,
+-- or the fault that tells what is wrong with it
 abbrev pub IsLineOf : List ℕ → Options → Line → Type 0
 IsLineOf subcommand options line =
     Asks subcommand options line ⊎ ((found : Mistake) × IsMistake subcommand options found × IsFaultOf found line)

@@ -1,4 +1,5 @@
--- Lines of the labels that DOT draws, and how names stand in them (the DOT language, graphviz.org/doc/info/lang.html; escString).
+-- Lines of the labels that DOT draws, and how names stand in them (the DOT language,
+-- graphviz.org/doc/info/lang.html; escString).
 use Rattle.std.specs.Prelude.{ℕ, ◌==◌, nat_lt, if◌then◌else◌, Option, Some, None, List, [], ◌∷◌, ◌++◌, codes}
 use Rattle.std.specs.List.{flat_map}
 

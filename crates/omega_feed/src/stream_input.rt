@@ -11,11 +11,12 @@ use omega_io::{Input, PIECE, read_piece};
 use omega_text::{MOST_TEXT, Refusal, TextFault};
 use std::alloc::Global;
 
-/// What is told of the items of a stream that an input gives. 1 to 4, 20 to 33, 60 or 61: the refusal of the text, memory, or a
-/// read that failed.
+/// What is told of the items of a stream that an input gives. 1 to 4, 20 to 33, 60 or 61: the refusal of the text,
+/// memory, or a read that failed.
 ///
-/// The text is never whole in memory: it is read in pieces, and what is kept of it is the segment that has not ended, and what
-/// is told. Where it is refused, the rest is read on, to its end or to the first byte past the greatest length of a text.
+/// The text is never whole in memory: it is read in pieces, and what is kept of it is the segment that has not ended,
+/// and what is told. Where it is refused, the rest is read on,
+/// to its end or to the first byte past the greatest length of a text.
 pub fn tell_stream<T: ItemText, R: Input>(alloc: Global, input: &mut R) -> Result<Vec<u8>, Refusal>
     requires { R.failed input.old < 2 ^ 64 - 1 }
     ensures told { IfOk result (λ told. ReadsWhole (R.remaining input.old) (R.remaining input.new) (λ text. IsTelling T.text text told.items)) }

@@ -50,7 +50,8 @@ has_undefined specs = list_any (λ spec. list_any (λ successor. specified_times
 abbrev pub listed_successors : List NodeSpec → ℕ
 listed_successors specs = sum_by (λ spec. length spec.successors) specs
 
--- the fault of specifications behind a header that is too small or not: of those that apply the one with the least number, or none
+-- the fault of specifications behind a header that is too small or not:
+-- of those that apply the one with the least number, or none
 abbrev pub fault_with : Bool → List NodeSpec → Option GameFault
 fault_with small specs =
     if has_duplicate specs then Some DuplicateNode else

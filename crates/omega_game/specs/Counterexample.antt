@@ -6,8 +6,8 @@ use Rattle.omega_game.specs.Game.{Node}
 use Rattle.omega_game.specs.Player.{loses}
 use Rattle.omega_game.specs.Winning.{IsWalk, IsClosedWalk, greatest_on}
 
--- the lasso shows that the strategy does not win from one of the places: from there its stem is a walk to the first place of
--- its cycle, and round the cycle a closed walk leads from this place, whose greatest priority loses
+-- the lasso shows that the strategy does not win from one of the places: from there its stem is a walk to the first
+-- place of its cycle, and round the cycle a closed walk leads from this place, whose greatest priority loses
 pub record IsCounterexample (nodes : List Node) (player : Player) (choices : List (Option ℕ)) (places : List ℕ) (lasso : Lasso) : Type 0 where
   pub start : ℕ
   pub listed : Contains places start

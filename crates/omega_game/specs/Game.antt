@@ -59,7 +59,8 @@ edge_count nodes = sum_by (λ node. length node.successors) nodes
 abbrev pub HasEdge : List Node → ℕ → ℕ → Type 0
 HasEdge nodes v w = Contains (successors_at nodes v) w
 
--- a non-empty list of nodes in rising order of identifiers, each with a non-empty list of successors that are nodes of the game
+-- a non-empty list of nodes in rising order of identifiers, each with a non-empty list of successors
+-- that are nodes of the game
 pub record IsGame (nodes : List Node) : Type 0 where
   pub inhabited : 0 < length nodes
   pub rising : IsStrictlyIncreasing (identifiers nodes)

@@ -24,7 +24,8 @@ abbrev pub restricted : List Node → List ℕ → List Node
 restricted nodes kept =
     map (λ v. record (node_at nodes v) { successors = map (new_place kept) (node_at nodes v).successors }) kept
 
--- part is the game of the nodes to which a list of listed edges leads from v, itself included, which stand at the kept places
+-- part is the game of the nodes to which a list of listed edges leads from v, itself included,
+-- which stand at the kept places
 pub record IsPartAt (nodes : List Node) (v : ℕ) (kept : List ℕ) (part : List Node) : Type 0 where
   pub rising : IsStrictlyIncreasing kept
   pub reached : (u : ℕ) → Contains kept u ↔ Reaches nodes v u

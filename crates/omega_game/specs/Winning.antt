@@ -12,13 +12,15 @@ choice_at choices v = slice_index_or choices v None
 abbrev pub Chooses : List (Option ℕ) → ℕ → ℕ → Type 0
 Chooses choices v w = slice_get choices v ≡ Some (Some w)
 
--- a strategy of the player: an entry for each place, where a choice is a listed successor of a node that the player owns
+-- a strategy of the player: an entry for each place, where a choice is a listed successor of a
+-- node that the player owns
 pub record IsStrategy (nodes : List Node) (player : Player) (choices : List (Option ℕ)) : Type 0 where
   pub entries : length choices ≡ length nodes
   pub owned : (v w : ℕ) → Chooses choices v w → owner_at nodes v ≡ player
   pub listed : (v w : ℕ) → Chooses choices v w → HasEdge nodes v w
 
--- the strategy leaves the edge from v to w possible: it is listed, and a choice of the player at v, if there is one, is w
+-- the strategy leaves the edge from v to w possible: it is listed, and a choice of the player at v, if there is one,
+-- is w
 pub record Leaves (nodes : List Node) (player : Player) (choices : List (Option ℕ)) (v w : ℕ) : Type 0 where
   pub listed : HasEdge nodes v w
   pub chosen : owner_at nodes v ≡ player → (c : ℕ) → Chooses choices v c → w ≡ c

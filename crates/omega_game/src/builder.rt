@@ -15,8 +15,8 @@ use omega_text::{GameFault, Refusal};
 use std::alloc::{AllocError, Global};
 use std::marker::Model;
 
-/// Specifications that are handed over one by one, kept flat: no vector for each node. Behind 2^32 successors, or behind
-/// names of 2^32 bytes, the next is refused with `Memory` too, since a place in them takes four bytes.
+/// Specifications that are handed over one by one, kept flat: no vector for each node. Behind 2^32 successors, or
+/// behind names of 2^32 bytes, the next is refused with `Memory` too, since a place in them takes four bytes.
 #[derive(Drop)]
 pub struct GameBuilder {
     ids: Vec<u32>,
@@ -61,9 +61,9 @@ impl GameBuilder {
         }
     }
 
-    /// No specification, and room for so many with so many successors in all: adding them asks for no memory, and the room
-    /// is no more than they need, which is in no contract. Names have none. `Memory` where a request for memory is refused,
-    /// as where the room is beyond what there is.
+    /// No specification, and room for so many with so many successors in all: adding them asks for no memory, and the
+    /// room is no more than they need, which is in no contract. Names have none. `Memory` where a request for memory is
+    /// refused, as where the room is beyond what there is.
     pub fn with_room(alloc: Global, nodes: usize, successors: usize) -> Result<Self, Refusal>
         ensures empty { IfOk result (λ builder. builder ≡ []) }
         ensures memory { IsOkUnless result Refusal.Memory }

@@ -26,11 +26,11 @@ use std::alloc::{AllocError, Global};
 /// none is listed. `Memory` where a request for memory is refused. A walk may take each edge that the choices leave
 /// possible: at a node with a choice that one, at each other node all.
 ///
-/// A search for strongly connected components (Tarjan 1972) for each halving of the priorities borne suggests an answer,
-/// which is checked. For n nodes, m edges and d priorities that are borne, whether they lose or not, the cost is near
-/// (m + n) · log d, after the nodes are sorted by priority, where the suggestion is confirmed. Else each place of a losing
-/// priority is tested by a search of its own: n · m at worst. Tests show no suggestion that is not confirmed, and no
-/// proof excludes one.
+/// A search for strongly connected components (Tarjan 1972) for each halving of the priorities borne suggests an
+/// answer, which is checked. For n nodes, m edges and d priorities that are borne, whether they lose or not, the cost
+/// is near (m + n) · log d, after the nodes are sorted by priority, where the suggestion is confirmed. Else each place
+/// of a losing priority is tested by a search of its own: n · m at worst. Tests show no suggestion that is not
+/// confirmed, and no proof excludes one.
 pub fn check_strategy(
     alloc: Global,
     game: &Game,
@@ -65,10 +65,10 @@ pub fn check_strategy_fast(
     Ok(found)
 }
 
-/// Whether an order of places shows that a strategy of the player wins from each of the places: each edge that it leaves
-/// possible where it reaches leads forward in the order, or back to a place whose priority does not lose and is the
-/// greatest on the way. No says nothing. For n nodes and m edges the cost is n + m. `Memory` where a request for memory
-/// is refused.
+/// Whether an order of places shows that a strategy of the player wins from each of the places: each edge that it
+/// leaves possible where it reaches leads forward in the order, or back to a place whose priority does not lose and is
+/// the greatest on the way. No says nothing. For n nodes and m edges the cost is n + m. `Memory` where a request for
+/// memory is refused.
 pub fn check_strategy_by_order(
     alloc: Global,
     game: &Game,

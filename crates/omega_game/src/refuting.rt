@@ -20,14 +20,14 @@ use omega_text::{Refusal, Seq};
 use std::alloc::{AllocError, Global};
 use ways::way_to;
 
-/// Why a strategy of the player does not win from each of the places, which may come in any order and repeatedly: a walk
-/// from one of them that the strategy leaves possible, to a cycle on which the player loses. None exactly where it wins
-/// from each. `Memory` where a request for memory is refused.
+/// Why a strategy of the player does not win from each of the places, which may come in any order and repeatedly: a
+/// walk from one of them that the strategy leaves possible, to a cycle on which the player loses. None exactly where it
+/// wins from each. `Memory` where a request for memory is refused.
 ///
 /// The decision is that of `check_strategy`, at its cost, and rests on a place of a losing priority that comes back to
-/// itself. The cycle begins there. The stem is a shortest walk to it from one of the places, and the cycle a shortest one
-/// through no greater priority, so that it visits no place twice. Both are found by searches in breadth, linear in nodes
-/// and edges.
+/// itself. The cycle begins there. The stem is a shortest walk to it from one of the places, and the cycle a shortest
+/// one through no greater priority, so that it visits no place twice. Both are found by searches in breadth, linear in
+/// nodes and edges.
 pub fn counterexample(
     alloc: Global,
     game: &Game,

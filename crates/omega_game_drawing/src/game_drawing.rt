@@ -27,8 +27,8 @@ pub fn draw_game(alloc: Global, game: &Game) -> Result<Vec<u8>, Refusal>
     Ok(out)
 }
 
-/// The drawing of a game with a solution of it: as that of the game, each node filled in its winner's colour, light blue
-/// for player 0 and orange for player 1, and each edge to a choice bold. 60 alone.
+/// The drawing of a game with a solution of it: as that of the game, each node filled in its winner's colour, light
+/// blue for player 0 and orange for player 1, and each edge to a choice bold. 60 alone.
 pub fn draw_solution(alloc: Global, game: &Game, solution: &Solution) -> Result<Vec<u8>, Refusal>
     requires { IsSolution game.now solution.now }
     ensures text { IfOk result (λ text. text.items ≡ drawing_of_solution game.now solution.now) }

@@ -22,7 +22,8 @@ fn game_of(alloc: Global, priorities: &[u16]) -> Result<Game, Refusal>
     builder.finish()
 }
 
-/// A game in which node i has priority 2 * i + 1, or that of the node `most` if i is above it, and is its own successor.
+/// A game in which node i has priority 2 * i + 1, or that of the node `most` if i is above it,
+/// and is its own successor.
 fn odd_game(alloc: Global, nodes: u16, most: u16) -> Result<Game, Refusal> {
     let mut builder = GameBuilder::new(alloc);
     builder.add_node(0, 1, Player::Zero, 0)?;

@@ -30,8 +30,8 @@ fn is_found(found: Result<Option<Lasso>, Refusal>, stem: &[u32], cycle: &[u32]) 
     }
 }
 
-/// A player, the listed places, the player's choices, and the places of the stem and of the cycle; an empty cycle stands
-/// for none.
+/// A player, the listed places, the player's choices, and the places of the stem and of the cycle; an empty cycle
+/// stands for none.
 type Asked = (
     Player,
     &'static [u32],

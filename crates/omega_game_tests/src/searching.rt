@@ -119,9 +119,10 @@ fn large_random_games_are_confirmed(rt: HostRuntime) {
     }
 }
 
-/// Adds components that nest as in a binary tree: component i, from 1 on, is a cycle of an even place and an odd one of the
-/// priority below, both above all inside, and has the components 2i and 2i + 1 inside. These go back to the even place,
-/// so that no odd place recurs; but that of component `flaw`, if there is one, goes back to the odd place around it too.
+/// Adds components that nest as in a binary tree: component i, from 1 on, is a cycle of an even place and an odd one of
+/// the priority below, both above all inside, and has the components 2i and 2i + 1 inside. These go back to the even
+/// place, so that no odd place recurs; but that of component `flaw`, if there is one,
+/// goes back to the odd place around it too.
 fn add_nested(builder: &mut GameBuilder, components: u16, flaw: u16) -> Result<(), Refusal> {
     for component in 1..=components {
         add_component(builder, u32::from(component), u32::from(components))?;

@@ -52,8 +52,8 @@ Exit status:
 
 `omega <COMMAND> --help` says more about a command.";
 
-/// What `clap` finds in the words of a command line, of which the first is the program's name. Where help or the version
-/// is asked for, the error has the text.
+/// What `clap` finds in the words of a command line, of which the first is the program's name. Where help or the
+/// version is asked for, the error has the text.
 pub fn matches_of<'a>(alloc: Global, words: &'a [String]) -> Result<ArgMatches<'a>, Error>
     ensures found { IfOk result (λ found. subcommand_rows_of found ≡ subcommand_of program (map string_bytes words.now)) }
     ensures kinds { FailsBy (fault_of program (map string_bytes words.now)) result }

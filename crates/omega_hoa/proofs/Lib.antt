@@ -1,4 +1,5 @@
--- Lemmas: answers and lists that grow, cuts in parts, segments token by token, the tokens that bytes settle, and automata as they are written.
+-- Lemmas: answers and lists that grow, cuts in parts, segments token by token, the tokens that bytes settle,
+-- and automata as they are written.
 pub mod AnyCut
 pub mod Cutting
 pub mod Dividing

@@ -130,7 +130,8 @@ Agree left one other = (one ≡ other) ⊎ AreOfSegment left one other
 abbrev IsPart : List (Lexeme HoaKind) → Type 0
 IsPart rest = (rest ≡ []) ⊎ IsOpen rest
 
--- why a text is refused behind whole segments, in four cases: a fault of tokens, a token other than `HOA:`, a segment without end, a segment that is no automaton
+-- why a text is refused behind whole segments, in four cases: a fault of tokens, a token other than `HOA:`,
+-- a segment without end, a segment that is no automaton
 data Why (source : List ℕ) (rest : List (Lexeme HoaKind)) (from : ℕ) (refusal : Refusal) : Type 0 where
   lexical : IsPart rest → (fault : TextFault) → refusal ≡ Text fault → hoa_format.faults source from fault → Why source rest from refusal
   stray : rest ≡ [] → (lexeme : Lexeme HoaKind) → hoa_format.follows source from lexeme → (Opens lexeme → ⊥) → refusal ≡ Text (Syntax lexeme.span.start) → Why source rest from refusal

@@ -24,7 +24,8 @@ pub record IsAutomatonText (source : List ℕ) (automaton : Description) : Type 
   pub segment : IsSegment End lexemes
   pub value : IsAutomatonOf lexemes automaton
 
--- the tokens begin with no segment, or with one that has no `--END--`: 3 at the first token or at the length of an empty text, at the length, or at `--ABORT--`
+-- the tokens begin with no segment, or with one that has no `--END--`:
+-- 3 at the first token or at the length of an empty text, at the length, or at `--ABORT--`
 abbrev pub HasNoSegmentAt : ℕ → List (Lexeme HoaKind) → ℕ → Type 0
 HasNoSegmentAt length lexemes at = ((lexemes ≡ []) × (at ≡ length))
     ⊎ (((first : Lexeme HoaKind) × (rest : List (Lexeme HoaKind)) × (lexemes ≡ first ∷ rest) × (Opens first → ⊥) × (at ≡ first.span.start))
@@ -35,7 +36,8 @@ HasNoSegmentAt length lexemes at = ((lexemes ≡ []) × (at ≡ length))
 abbrev pub IsInGrammar : List (Lexeme HoaKind) → Type 0
 IsInGrammar lexemes = (raw : RawAutomaton) × IsRawOf lexemes raw
 
--- the tokens begin with a segment that ends with `--END--`, and are refused: by its syntax, then by a token behind it, then by its meaning
+-- the tokens begin with a segment that ends with `--END--`, and are refused: by its syntax, then by a token behind it,
+-- then by its meaning
 pub record IsSegmentRefused (lexemes : List (Lexeme HoaKind)) (refusal : Refusal) : Type 0 where
   pub segment : List (Lexeme HoaKind)
   pub rest : List (Lexeme HoaKind)
@@ -48,7 +50,8 @@ pub record IsSegmentRefused (lexemes : List (Lexeme HoaKind)) (refusal : Refusal
 abbrev pub AreRefused : ℕ → List (Lexeme HoaKind) → Refusal → Type 0
 AreRefused length lexemes refusal = ((at : ℕ) × (refusal ≡ Text (Syntax at)) × HasNoSegmentAt length lexemes at) ⊎ IsSegmentRefused lexemes refusal
 
--- the refusal of a text that is not that of one automaton: its length first, then a fault of tokens wherever it stands, then what the tokens are
+-- the refusal of a text that is not that of one automaton: its length first, then a fault of tokens wherever it stands,
+-- then what the tokens are
 abbrev pub IsAutomatonRefusal : List ℕ → Refusal → Type 0
 IsAutomatonRefusal source refusal = ((refusal ≡ Text TooLong) × (most_text < length source))
     ⊎ ((length source ≤ most_text)

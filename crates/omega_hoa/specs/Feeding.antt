@@ -19,7 +19,8 @@ abbrev pub IsRest : Bool → List (Lexeme HoaKind) → Type 0
 IsRest true lexemes = IsOpen lexemes
 IsRest false lexemes = lexemes ≡ []
 
--- the tokens of a text that may go on in any way are whole segments with these items, up to a place, and then such a rest
+-- the tokens of a text that may go on in any way are whole segments with these items, up to a place,
+-- and then such a rest
 pub record IsDivided (seen : List ℕ) (lexemes : List (Lexeme HoaKind)) (items : List Item) (begins : ℕ) (inside : Bool) : Type 0 where
   pub front : List (Lexeme HoaKind)
   pub rest : List (Lexeme HoaKind)

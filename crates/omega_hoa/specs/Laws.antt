@@ -1,4 +1,5 @@
--- What holds of texts of one automaton, of streams, of streams in pieces, and of automata in tokens, whatever the code does.
+-- What holds of texts of one automaton, of streams, of streams in pieces, and of automata in tokens,
+-- whatever the code does.
 use Rattle.std.specs.Prelude.{◌≡◌, ℕ, ◌⊎◌, List, ◌++◌, Option, Some, None, MatchOption}
 use Rattle.std.specs.List.{AllByRecursion}
 use Rattle.omega_text.specs.Cut.{Cuts}
@@ -21,7 +22,8 @@ use Rattle.omega_hoa.specs.Segment.{IsNoRaw, IsRawOf}
 use Rattle.omega_hoa.specs.Stream.{IsSegment, IsStreamFault, IsStreamRefusal, IsStreamText}
 use Rattle.omega_hoa.specs.declared.item.Item.{Item}
 
--- two refusals 3 of the tokens of one whole segment, which are those of no automaton: their places are shown by tests alone
+-- two refusals 3 of the tokens of one whole segment, which are those of no automaton:
+-- their places are shown by tests alone
 pub record AreOfSegment (segment : List (Lexeme HoaKind)) (one other : Refusal) : Type 0 where
   pub whole : IsSegment End segment
   pub unread : IsNoRaw segment
@@ -66,7 +68,8 @@ StreamsAreUnrefused = (source : List ℕ) (items : List Item) (refusal : Refusal
 abbrev pub StreamsOrRefused : Type 0
 StreamsOrRefused = (source : List ℕ) → ((items : List Item) → IsStreamText source items → ⊥) → ((refusal : Refusal) → IsStreamRefusal source refusal → ⊥) → ⊥
 
--- what a stream answers at its end that was fed with these bytes, and gave these items: nothing where they are a stream, else what refuses them, or what refused them before
+-- what a stream answers at its end that was fed with these bytes, and gave these items:
+-- nothing where they are a stream, else what refuses them, or what refused them before
 abbrev pub IsAnsweredAtEnd : List ℕ → List Item → Kept → Option Refusal → Type 0
 IsAnsweredAtEnd seen items kept None = IsStreamText seen items
 IsAnsweredAtEnd seen items kept (Some refusal) = MatchOption kept.refused (IsStreamFault seen items refusal) (λ before. refusal ≡ before)
@@ -78,13 +81,15 @@ AnswersAreAlike source None (Some other) = ⊥
 AnswersAreAlike source (Some one) None = ⊥
 AnswersAreAlike source (Some one) (Some other) = AreAlike source one other
 
--- two streams that were fed with the same bytes, in whichever pieces, and of which none passed the limit, gave the same items and answer alike at their ends
+-- two streams that were fed with the same bytes, in whichever pieces, and of which none passed the limit,
+-- gave the same items and answer alike at their ends
 abbrev pub CutsChangeNothing : Type 0
 CutsChangeNothing = (seen : List ℕ) (items others : List Item) (kept left : Kept) (one other : Option Refusal) → IsFed seen items kept → IsFed seen others left
     → (one ≡ Some (Text TooLong) → ⊥) → (other ≡ Some (Text TooLong) → ⊥) → IsAnsweredAtEnd seen items kept one → IsAnsweredAtEnd seen others left other
     → (items ≡ others) × AnswersAreAlike seen one other
 
--- the first of the tokens are a whole segment, which ends with `--END--` and is that of this automaton as it is written, and then come the rest
+-- the first of the tokens are a whole segment, which ends with `--END--` and is that of this automaton as it is
+-- written, and then come the rest
 pub record FillsSegment (tokens : List (Lexeme HoaKind)) (raw : RawAutomaton) (rest : List (Lexeme HoaKind)) : Type 0 where
   pub segment : List (Lexeme HoaKind)
   pub split : tokens ≡ segment ++ rest

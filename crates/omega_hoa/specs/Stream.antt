@@ -60,7 +60,8 @@ IsStream lexemes [] = lexemes ≡ []
 IsStream lexemes (item ∷ items) = (segment : List (Lexeme HoaKind)) × (rest : List (Lexeme HoaKind))
     × (lexemes ≡ segment ++ rest) × IsItemOf segment item × IsStream rest items
 
--- outside segments, a text goes on from a place with a fault of tokens, or with a token other than `HOA:`, where it is refused 3
+-- outside segments, a text goes on from a place with a fault of tokens, or with a token other than `HOA:`,
+-- where it is refused 3
 abbrev pub IsFaultOutside : List ℕ → ℕ → TextFault → Type 0
 IsFaultOutside source from (Lex at) = Faults source from (Lex at)
 IsFaultOutside source from (Number at) = Faults source from (Number at)
@@ -74,7 +75,8 @@ IsFaultInside source from (Number at) = Faults source from (Number at)
 IsFaultInside source from (Syntax at) = Ends source from × (at ≡ length source)
 IsFaultInside source from TooLong = ⊥
 
--- behind whole segments stand these tokens, up to a place, and what refuses the text: a fault outside segments, a fault inside one, or a whole one that is no automaton
+-- behind whole segments stand these tokens, up to a place, and what refuses the text: a fault outside segments,
+-- a fault inside one, or a whole one that is no automaton
 abbrev pub IsRefusedBehind : List ℕ → List (Lexeme HoaKind) → ℕ → Refusal → Type 0
 IsRefusedBehind source lexemes from refusal = ((lexemes ≡ []) × or_text (IsFaultOutside source from) never refusal)
     ⊎ ((IsOpen lexemes × or_text (IsFaultInside source from) never refusal)

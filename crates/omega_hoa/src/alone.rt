@@ -12,12 +12,12 @@ use omega_automaton::Automaton;
 use omega_text::{HoaKind, MOST_TEXT, Refusal, TextFault, TokenKind};
 use std::alloc::Global;
 
-/// The automaton of a text that holds one segment, ended by `--END--`. 1 to 4, 20 to 33 or 60: the refusal of the text, or
-/// memory.
+/// The automaton of a text that holds one segment, ended by `--END--`. 1 to 4, 20 to 33 or 60: the refusal of the text,
+/// or memory.
 ///
-/// A fault of tokens comes first, wherever it stands; then 3: at the first token if that is not `HOA:`, at the length of a text
-/// without the end of a segment, at an `--ABORT--` that ends it, inside the segment, at a token behind it. What the segment
-/// means comes last. The bytes are looked at once, those of the segment once more.
+/// A fault of tokens comes first, wherever it stands; then 3: at the first token if that is not `HOA:`, at the length
+/// of a text without the end of a segment, at an `--ABORT--` that ends it, inside the segment, at a token behind it.
+/// What the segment means comes last. The bytes are looked at once, those of the segment once more.
 pub fn read_one(alloc: Global, bytes: &[u8]) -> Result<Automaton, Refusal>
     ensures automaton { IfOk result (IsAutomatonText bytes.now) }
     ensures refused { IfErr result (or_memory (IsAutomatonRefusal bytes.now)) }

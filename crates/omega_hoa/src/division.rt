@@ -12,15 +12,16 @@ use crate::segment::read_segment;
 use omega_text::{HoaKind, PlacedToken, Refusal, Settled, Span, TextFault, TokenKind};
 use std::alloc::Global;
 
-/// How the tokens of a stream are divided so far: where the last whole segment ends, and whether another has begun behind it.
+/// How the tokens of a stream are divided so far: where the last whole segment ends,
+/// and whether another has begun behind it.
 #[derive(Clone, Copy, Debug, PartialEq, Eq)]
 pub(crate) struct Division {
     pub(crate) begins: usize,
     pub(crate) inside: bool,
 }
 
-/// The division with the tokens that a byte settles; the items of segments that they end are pushed. 1 to 3, 20 to 33 or 60: the
-/// refusal of the text, or memory; the items of the segments before stand there then.
+/// The division with the tokens that a byte settles; the items of segments that they end are pushed. 1 to 3, 20 to 33
+/// or 60: the refusal of the text, or memory; the items of the segments before stand there then.
 ///
 /// The bytes are those of the text from `first` on.
 pub(crate) fn take_all(
@@ -46,8 +47,8 @@ pub(crate) fn take_all(
     }
 }
 
-/// The division with one token more, if there is one; the item of a segment that it ends is pushed. 1 to 3, 20 to 33 or 60: the
-/// refusal of the text, or memory; nothing is pushed then.
+/// The division with one token more, if there is one; the item of a segment that it ends is pushed. 1 to 3, 20 to 33 or
+/// 60: the refusal of the text, or memory; nothing is pushed then.
 ///
 /// The bytes are those of the text from `first` on.
 fn take_settled(

@@ -1,4 +1,5 @@
-//! What holds of texts of one automaton, of streams and of automata in tokens, whatever the code does: each call does nothing and states one law.
+//! What holds of texts of one automaton, of streams and of automata in tokens, whatever the code does:
+//! each call does nothing and states one law.
 ghost use Rattle.omega_hoa.specs.Laws.{AutomataAreOne, AutomataAreUnrefused, AutomataFillSegments, AutomataOrRefused, CutsChangeNothing, RefusalsAreOne, StreamFaultsAreOne, StreamsAreOne, StreamsAreUnrefused, StreamsOrRefused};
 
 use omega_automaton::{meanings_are_one, meanings_are_there};
@@ -53,8 +54,8 @@ pub fn streams_are_one()
     meanings_are_one();
 }
 
-/// A text that is no stream is refused behind at most one list of items, and has at most one refusal but for the place of 3
-/// inside a segment.
+/// A text that is no stream is refused behind at most one list of items, and has at most one refusal but for the place
+/// of 3 inside a segment.
 pub fn stream_faults_are_one()
     ensures { StreamFaultsAreOne }
 {
@@ -81,8 +82,8 @@ pub fn streams_or_refused()
     meanings_are_there();
 }
 
-/// In whichever pieces a text within the limit is fed to a `Stream`, its items are the same, and what is answered at its end is
-/// alike: nothing, or the same refusal but for the place of 3 inside a segment.
+/// In whichever pieces a text within the limit is fed to a `Stream`, its items are the same, and what is answered at
+/// its end is alike: nothing, or the same refusal but for the place of 3 inside a segment.
 pub fn pieces_change_nothing()
     ensures { CutsChangeNothing }
 {

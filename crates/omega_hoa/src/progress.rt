@@ -14,8 +14,8 @@ pub(crate) struct Progress {
     pub(crate) division: Division,
 }
 
-/// Reads the bytes from a place to their end, and pushes the items of the segments that end there. 1 to 3, 20 to 33 or 60: the
-/// refusal of the text, or memory; the items of the segments before stand there then.
+/// Reads the bytes from a place to their end, and pushes the items of the segments that end there. 1 to 3, 20 to 33 or
+/// 60: the refusal of the text, or memory; the items of the segments before stand there then.
 ///
 /// The bytes are those of the text from `first` on. Each is scanned once, those of a segment that ends once more.
 pub(crate) fn read_bytes(
@@ -45,7 +45,8 @@ pub(crate) fn read_bytes(
     Ok(reached)
 }
 
-/// Inside a segment, reads the bytes from a place on, up to one that may end it or settles a fault; and that one's place.
+/// Inside a segment, reads the bytes from a place on, up to one that may end it or settles a fault;
+/// and that one's place.
 fn pass_inside(bytes: &[u8], first: usize, from: usize, progress: Progress) -> (Progress, usize)
     requires within { from ≤ length bytes.now }
     requires so_far { IsProgressSome bytes.now first from progress }

@@ -15,8 +15,8 @@ use omega_text::laws::cuts_are_one;
 use omega_text::{HoaKind, Refusal, TextCursor, TextFault};
 use std::alloc::Global;
 
-/// The automaton of a segment that ends with `--END--`, whose bytes begin at a place of a longer text. 3, 20 to 33 or 60: its
-/// fault, or memory. The place of 3 counts from the first byte of that text.
+/// The automaton of a segment that ends with `--END--`, whose bytes begin at a place of a longer text. 3, 20 to 33 or
+/// 60: its fault, or memory. The place of 3 counts from the first byte of that text.
 ///
 /// The bytes are read once.
 pub(crate) fn read_segment(alloc: Global, bytes: &[u8], begins: usize) -> Result<Automaton, Refusal>

@@ -16,7 +16,8 @@ use std::marker::Model;
 
 /// Reads a stream of automata that comes in pieces, cut anywhere.
 ///
-/// It keeps the bytes behind the last whole segment, where they begin, how they are cut so far, and a refusal once there is one.
+/// It keeps the bytes behind the last whole segment, where they begin, how they are cut so far,
+/// and a refusal once there is one.
 #[derive(Drop)]
 pub struct Stream {
     bytes: Vec<u8>,
@@ -58,14 +59,15 @@ impl Stream {
         }
     }
 
-    /// Reads the next piece, and appends the items of the segments that end in it. 1 to 4, 20 to 33 or 60: in the call whose
-    /// piece settles it.
+    /// Reads the next piece, and appends the items of the segments that end in it. 1 to 4, 20 to 33 or 60: in the call
+    /// whose piece settles it.
     ///
-    /// A piece that would bring the bytes above `MOST_TEXT` is refused 4, and nothing of it is taken. After 60 the stream and
-    /// `out` are as before, and the piece may be fed again. After any other refusal the items before it stand in `out`, and
-    /// each later call answers it.
+    /// A piece that would bring the bytes above `MOST_TEXT` is refused 4, and nothing of it is taken. After 60 the
+    /// stream and `out` are as before, and the piece may be fed again. After any other refusal the items before it
+    /// stand in `out`, and each later call answers it.
     ///
-    /// A piece is kept until its segments have ended. Each byte is scanned once, those of a segment that ends once more.
+    /// A piece is kept until its segments have ended. Each byte is scanned once,
+    /// those of a segment that ends once more.
     pub fn feed(&mut self, piece: &[u8], out: &mut Vec<Item>) -> Result<(), Refusal>
         ensures refused_before { IfSome self.old.refused (λ refusal. (result ≡ Err refusal) × (self.new ≡ self.old) × (out.new.items ≡ out.old.items)) }
         ensures too_long { self.old.refused ≡ None → most_text < self.old.begins + length self.old.bytes + length piece.now
@@ -86,8 +88,8 @@ impl Stream {
 
     /// Ends the stream. 1, 2, 3 or the refusal that is kept. No memory is taken.
     ///
-    /// A fault of tokens that the end settles comes first; then 3 at a token outside segments that the end settles, or at the
-    /// length of the bytes inside one.
+    /// A fault of tokens that the end settles comes first; then 3 at a token outside segments that the end settles, or
+    /// at the length of the bytes inside one.
     pub fn finish(self) -> Result<(), Refusal>
         ensures refused_before { IfSome self.refused (λ refusal. result ≡ Err refusal) }
         ensures ok { OnOk result ((seen : List ℕ) (items : List Item) → IsFed seen items self → IsStreamText seen items) }

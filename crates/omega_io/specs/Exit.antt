@@ -5,7 +5,8 @@ use Rattle.omega_text.specs.declared.refusal.Refusal.{Refusal}
 use Rattle.omega_io.specs.declared.exit.Exit.{Exit}
 use Rattle.omega_io.specs.declared.exit.Exit.TheVariants.{Done, No}
 
--- the status after a refusal: 3 where the budget is used up, 4 for want of memory, 5 for a failed read or write, 1 for all others
+-- the status after a refusal: 3 where the budget is used up, 4 for want of memory, 5 for a failed read or write,
+-- 1 for all others
 abbrev pub refusal_status : Refusal → ℕ
 refusal_status refusal =
     if number_of refusal == 51 then 3 else

@@ -32,8 +32,8 @@ pub fn read_all<R: Input>(alloc: Global, input: &mut R) -> Result<Vec<u8>, Refus
     Ok(text)
 }
 
-/// The next bytes of a text of which so many were read, within the first byte past the greatest length of a text; none only
-/// at the end of the input. 61.
+/// The next bytes of a text of which so many were read, within the first byte past the greatest length of a text; none
+/// only at the end of the input. 61.
 pub fn read_piece<R: Input>(input: &mut R, total: usize, piece: &mut [u8]) -> Result<usize, Refusal>
     requires reads { R.failed input.old < 2 ^ 64 - 1 }
     requires more { total ≤ most_text }

@@ -224,7 +224,8 @@ won_suffices nodes player table choices v w game h stable chosen s edge = go (ca
         (value.1.greatest n w (allowance_towards nodes player table v w) edge.listed allows)
         (not_due nodes player table v value.0 stable within value.1))
 
--- what is known along the edges that a strategy leaves possible: won places lead to won places, and the measures suffice
+-- what is known along the edges that a strategy leaves possible: won places lead to won places,
+-- and the measures suffice
 pub record Descends (nodes : List Node) (player : Player) (choices : List (Option ℕ)) (table : List Measure) : Type 0 where
   pub suffices :
       (v w : ℕ) → IsSome (measure_at table v) → Leaves nodes player choices v w

@@ -26,8 +26,8 @@ within_each : (f g : ℕ → ℕ) (qs : List ℕ) → ((q : ℕ) → g q ≤ f q
 within_each f g [] h = tt
 within_each f g (q ∷ qs) h = (h q, within_each f g qs h)
 
--- the witness of a strategy: for each losing priority, how many of its nodes lie on the walks that the strategy leaves possible from a place
--- and that meet no greater priority
+-- the witness of a strategy: for each losing priority, how many of its nodes lie on the walks that the strategy leaves
+-- possible from a place and that meet no greater priority
 module _ (nodes : List Node) (player : Player) (choices : List (Option ℕ)) (game : IsGame nodes) (strategy : IsStrategy nodes player choices) where
   -- whether u lies on a walk from v whose priorities are at most q
   abbrev is_reached : ℕ → ℕ → ℕ → Bool
@@ -82,7 +82,8 @@ module _ (nodes : List Node) (player : Player) (choices : List (Option ℕ)) (ga
       measure_from_within player (priorities nodes) (Some (witness v))
       (within_each (bearers (priorities nodes)) (count_at v) (losing_priorities player (priorities nodes)) (count_within v))
 
-  -- what is joined from the end of an edge is joined from its beginning, within a priority at least that of the beginning
+  -- what is joined from the end of an edge is joined from its beginning,
+  -- within a priority at least that of the beginning
   joined_from_before :
       (q v w u : ℕ) → priority_at nodes v ≤ q → Leaves nodes player choices v w
       → IsReached q w u → IsReached q v u

@@ -6,7 +6,8 @@ use Rattle.omega_game.specs.Game.{Node, HasEdge, owner_at, priorities, priority_
 use Rattle.omega_game.specs.Player.{loses}
 use Rattle.omega_lift.specs.Measure.{Measure, IsMeasure, IsAtMost, compare_from}
 
--- x suffices at priority p towards y: at least y on the entries for priorities at least p, above it there if p loses. Top always does
+-- x suffices at priority p towards y: at least y on the entries for priorities at least p, above it there if p loses.
+-- Top always does
 abbrev pub suffices : Player → List ℕ → ℕ → Measure → Measure → Bool
 suffices player priorities p None y = true
 suffices player priorities p (Some xs) None = false
@@ -29,7 +30,8 @@ abbrev pub IsAllowanceOf : List Node → Player → List Measure → ℕ → ℕ
 IsAllowanceOf nodes player table v w x =
     IsAllowance player (priorities nodes) (priority_at nodes v) (measure_at table w) x
 
--- x is the lift value of v, to which Lift(ρ, v) raises it in the literature: the least allowance over its successors if the player owns v, else the greatest
+-- x is the lift value of v, to which Lift(ρ, v) raises it in the literature:
+-- the least allowance over its successors if the player owns v, else the greatest
 pub record IsLiftValue (nodes : List Node) (player : Player) (table : List Measure) (v : ℕ) (x : Measure) : Type 0 where
   pub successor : ℕ
   pub listed : HasEdge nodes v successor

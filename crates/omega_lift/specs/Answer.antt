@@ -19,7 +19,8 @@ pub record IsFirstLeast (nodes : List Node) (player : Player) (table : List Meas
   pub least : (j u : ℕ) (y : Measure) → slice_get (successors_at nodes v) j ≡ Some u → IsAllowanceOf nodes player table v u y → IsAtMost allowance y
   pub first : (j u : ℕ) (y : Measure) → j < index → slice_get (successors_at nodes v) j ≡ Some u → IsAllowanceOf nodes player table v u y → IsAbove y allowance
 
--- the choices of an answer: a won place that the player owns has its first successor of least allowance, all others none
+-- the choices of an answer: a won place that the player owns has its first successor of least allowance,
+-- all others none
 pub record AreChoices (nodes : List Node) (player : Player) (table : List Measure) (choices : List (Option ℕ)) : Type 0 where
   pub entries : length choices ≡ length nodes
   pub chosen :

@@ -47,7 +47,8 @@ AllowancesAreMonotone =
     → compare_from player priorities p y z ≢ Greater
     → IsAllowance player priorities p y x → IsAllowance player priorities p z w → IsAtMost x w
 
--- the allowance towards a measure that is greater on the entries for priorities at least p is greater, if the lesser is below top
+-- the allowance towards a measure that is greater on the entries for priorities at least p is greater,
+-- if the lesser is below top
 abbrev pub AllowancesAreStrict : Type 0
 AllowancesAreStrict =
     (player : Player) (priorities : List ℕ) (p : ℕ) (y z x w : Measure)

@@ -202,7 +202,8 @@ IsUsed name.Solution options = text_of name.Solution options ≢ None
 IsUsed name.Lasso options = GivesFlag (text_of name.Lasso options) true
 IsUsed name.Progress options = GivesFlag (text_of name.Progress options) true
 
--- the option that is not given beside the search of the subcommand: that of `solve` is for both players, that of `empty` makes no lifts
+-- the option that is not given beside the search of the subcommand: that of `solve` is for both players,
+-- that of `empty` makes no lifts
 abbrev pub IsApartFromSearch : List ℕ → OptionName → Type 0
 IsApartFromSearch subcommand option =
     ((subcommand ≡ codes "solve") × (option ≡ name.Player))
@@ -229,7 +230,8 @@ pub record IsOfOtherFormat (subcommand : List ℕ) (options : Options) (option :
   pub is_other : other ≢ format
   pub used : IsUsed option options
 
--- what is wrong: no subcommand has the name, or an option that it takes is faulty, or two are not given together, or one is for another format; or memory is wanting
+-- what is wrong: no subcommand has the name, or an option that it takes is faulty, or two are not given together,
+-- or one is for another format; or memory is wanting
 abbrev pub IsMistake : List ℕ → Options → Mistake → Type 0
 IsMistake subcommand options mistake.Unknown = IsUnknown subcommand
 IsMistake subcommand options mistake.Memory = Unit {0}

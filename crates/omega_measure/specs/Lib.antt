@@ -1,4 +1,5 @@
--- The words of tables of measures, with those of games and of lifting that they cite; what only the tables' layout needs is in layout.
+-- The words of tables of measures, with those of games and of lifting that they cite;
+-- what only the tables' layout needs is in layout.
 pub use Rattle.omega_text.specs.Cases
 pub use Rattle.omega_game.specs.Game
 pub use Rattle.omega_game.specs.Winning

@@ -8,8 +8,8 @@ ghost use Rattle.omega_measure.specs.Table.{is_too_wide};
 use crate::limits::MOST_CELLS;
 use omega_game::{Game, Player, PriorityCount};
 
-/// Whether a table of the player's measures over a game has at most `MOST_CELLS` cells. Takes no memory, and a step for each
-/// priority that is borne.
+/// Whether a table of the player's measures over a game has at most `MOST_CELLS` cells. Takes no memory, and a step for
+/// each priority that is borne.
 pub fn fits(game: &Game, player: Player) -> bool
     ensures { result ≡ not (is_too_wide player (priorities game.now)) }
 {

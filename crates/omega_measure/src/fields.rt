@@ -34,7 +34,8 @@ fn top() -> Field
     }
 }
 
-/// The field behind another for an entry up to a limit: in the same word where there is room, else in front of the next.
+/// The field behind another for an entry up to a limit: in the same word where there is room,
+/// else in front of the next.
 fn next(before: Field, limit: u32) -> Field
     requires room { before.shift < 64 }
     requires word { before.word < 2 ^ 32 - 1 }

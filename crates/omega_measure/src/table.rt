@@ -9,8 +9,8 @@ use std::alloc::Global;
 use std::cmp::Ordering;
 
 /// A table with a measure for each place of a game: top, or an entry for each priority that is borne and loses for
-/// the player (Jurdziński 2000). Only `prepare` answers that memory was refused, so that a table takes there all that it
-/// needs.
+/// the player (Jurdziński 2000). Only `prepare` answers that memory was refused, so that a table takes there all that
+/// it needs.
 pub trait MeasureTable: Drop {
     /// The player, the nodes' priorities and the measures, however they are kept.
     ghost content: { Self → Content };
@@ -29,16 +29,16 @@ pub trait MeasureTable: Drop {
         requires { place < length (content self.now).measures }
         ensures { IsTrue result ↔ (measure_at (content self.now).measures place ≡ None) };
 
-    /// The measures at two places compared on the entries for priorities at least `p`; top is above all others. How many
-    /// entries these are is searched for among the losing priorities.
+    /// The measures at two places compared on the entries for priorities at least `p`; top is above all others. How
+    /// many entries these are is searched for among the losing priorities.
     fn compare(&self, a: u32, b: u32, p: u32) -> Ordering
         requires first { a < length (content self.now).measures }
         requires second { b < length (content self.now).measures }
         ensures { let table = content self.now in
             result ≡ compare_from table.player table.priorities p (measure_at table.measures a) (measure_at table.measures b) };
 
-    /// The same on the entries for priorities at least that of a place. How many entries these are was found when the table
-    /// was made.
+    /// The same on the entries for priorities at least that of a place. How many entries these are was found when the
+    /// table was made.
     fn compare_for(&self, place: u32, a: u32, b: u32) -> Ordering
         requires at { place < length (content self.now).measures }
         requires first { a < length (content self.now).measures }

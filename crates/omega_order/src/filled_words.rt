@@ -8,8 +8,8 @@ const RANKS: usize = 64;
 /// How many ranks a word here stands for.
 const RANKS_NOTED: usize = 4096;
 
-/// A bit for each word of a set of ranks: whether it is filled. Nothing is claimed of it but that it is safe: a rank that is
-/// found by it is looked up in the set.
+/// A bit for each word of a set of ranks: whether it is filled. Nothing is claimed of it but that it is safe: a rank
+/// that is found by it is looked up in the set.
 #[derive(Drop)]
 pub struct FilledWords {
     bits: Vec<u64>,
@@ -61,7 +61,8 @@ impl FilledWords {
     }
 }
 
-/// The least rank of a set from a rank on, by the words of the set that are filled. Whoever uses it tests that it is in the set.
+/// The least rank of a set from a rank on, by the words of the set that are filled.
+/// Whoever uses it tests that it is in the set.
 #[inline(always)]
 pub fn least_from(words: &[u64], filled: &FilledWords, from: usize) -> Option<usize> {
     let first = from / RANKS;

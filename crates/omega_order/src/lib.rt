@@ -1,6 +1,6 @@
 //! Orders of a game's places in which few lifts are made, and what a schedule keeps along one: the ranks of the places,
-//! sets of ranks, and a pace. Proved is that each place has a rank of its own and that sets are sets; how good an order or
-//! a pace is, nothing claims.
+//! sets of ranks, and a pace. Proved is that each place has a rank of its own and that sets are sets; how good an order
+//! or a pace is, nothing claims.
 #![tactic(auto)]
 
 mod components;

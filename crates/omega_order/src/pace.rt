@@ -1,10 +1,10 @@
 //! When a nested schedule sweeps over the ranks, and when it stays with the least.
 
-/// Sweeps and focus in turn. A sweep goes over the pending ranks from the least to the greatest, and leaves what becomes
-/// pending behind it to the next one. In focus always the least pending rank is taken, as long as there is fuel. So a short
-/// cycle counts to top in focus while the others wait, and a region that must rise together does so in sweeps. Each goes on
-/// in proportion to what the other took, and both grow, so that a long focus is not disturbed. Nothing is claimed of it
-/// but that it is safe: numbers that would wrap stay where they are.
+/// Sweeps and focus in turn. A sweep goes over the pending ranks from the least to the greatest, and leaves what
+/// becomes pending behind it to the next one. In focus always the least pending rank is taken, as long as there is
+/// fuel. So a short cycle counts to top in focus while the others wait, and a region that must rise together does so in
+/// sweeps. Each goes on in proportion to what the other took, and both grow, so that a long focus is not disturbed.
+/// Nothing is claimed of it but that it is safe: numbers that would wrap stay where they are.
 #[derive(Drop)]
 pub struct Pace {
     /// Where to look for the next rank.

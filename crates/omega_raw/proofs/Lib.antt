@@ -1,4 +1,5 @@
--- Lemmas on symbols and the tokens that they spell, on the parts of a text and on its rows; that tokens are written in one way.
+-- Lemmas on symbols and the tokens that they spell, on the parts of a text and on its rows;
+-- that tokens are written in one way.
 pub mod ContentLemmas
 pub mod FollowLemmas
 pub mod PartLemmas

@@ -1,4 +1,5 @@
--- The grammar of automata as a spelling: each definition gives the symbols of a row of the table in docs/formats.md, and then others (HOA v1).
+-- The grammar of automata as a spelling: each definition gives the symbols of a row of the table in docs/formats.md,
+-- and then others (HOA v1).
 use Rattle.std.specs.Prelude.{◌≡◌, ℕ, ◌<◌, Bool, true, false, Option, Some, None, List, [], ◌∷◌, codes, if◌then◌else◌, length}
 use Rattle.std.specs.List.{AllByRecursion}
 use Rattle.std.specs.Str.{bytes_eq}

@@ -1,4 +1,5 @@
--- What the grammar of automata is written in: tokens with what they say, and the expressions of labels and of acceptance.
+-- What the grammar of automata is written in: tokens with what they say,
+-- and the expressions of labels and of acceptance.
 use Rattle.std.specs.Prelude.{◌≡◌, ℕ, ◌-◌, List, [], ◌∷◌, length, take, drop}
 use Rattle.omega_acc.specs.formula.Raw.{RawAccTree}
 use Rattle.omega_acc.specs.label.Raw.{RawLabelTree}
@@ -12,8 +13,8 @@ use Rattle.omega_acc.specs.label.Reading.{Reads}
 abbrev pub Tokens : Type 0
 Tokens = List (Lexeme HoaKind)
 
--- a symbol of the grammar: an INT, an IDENTIFIER, a HEADERNAME without its colon, an ANAME with its `@`, a STRING without its
--- quotes, any other token, a label-expr or an acc-expr
+-- a symbol of the grammar: an INT, an IDENTIFIER, a HEADERNAME without its colon, an ANAME with its `@`, a STRING
+-- without its quotes, any other token, a label-expr or an acc-expr
 pub data Symbol : Type 0 where
   number : ℕ → Symbol
   word : List ℕ → Symbol

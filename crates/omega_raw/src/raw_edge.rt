@@ -8,6 +8,7 @@ pub struct RawEdge {
     pub label: Option<RawLabel>,
     /// The states that are joined by `&`, at least one.
     pub targets: Numbers,
-    /// The sets between braces in the order written, repeats kept, or none where no braces stand. `{}` differs from none.
+    /// The sets between braces in the order written, repeats kept, or none where no braces stand.
+    /// `{}` differs from none.
     pub marks: Marks,
 }

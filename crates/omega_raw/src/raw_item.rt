@@ -2,8 +2,8 @@ use crate::header_value::HeaderValue;
 use omega_acc::{AccName, RawAcc, RawLabel};
 use omega_text::{ByteString, Numbers, Seq};
 
-/// An item of a header as it is written (HOA v1, *Header*). Numbers are at most 2,147,483,647; strings are the bytes between
-/// their quotes, as they are.
+/// An item of a header as it is written (HOA v1, *Header*). Numbers are at most 2,147,483,647; strings are the bytes
+/// between their quotes, as they are.
 #[derive(Debug, Drop)]
 pub enum RawItem {
     /// `States:` and the count.

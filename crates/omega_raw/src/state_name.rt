@@ -4,10 +4,11 @@ use omega_text::ByteString;
 use std::alloc::{AllocError, Global};
 use std::marker::Model;
 
-/// The bytes of a state's name between its quotes, as they are, or none. An empty name differs from none. Contracts see an
-/// optional list.
+/// The bytes of a state's name between its quotes, as they are, or none. An empty name differs from none. Contracts see
+/// an optional list.
 ///
-/// Few states have a name: it takes 16 bytes, where an `Option<ByteString>` takes 24, and memory only where there is one.
+/// Few states have a name: it takes 16 bytes, where an `Option<ByteString>` takes 24,
+/// and memory only where there is one.
 #[derive(Debug, Drop)]
 pub struct StateName {
     bytes: Option<Box<ByteString>>,

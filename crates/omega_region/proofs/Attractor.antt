@@ -17,7 +17,8 @@ pub record IsDrawn (nodes : List Node) (S T : ℕ → Bool) (player : Player) (A
   pub falls : (v w : ℕ) → A v ≡ true → T v ≡ false → HasEdge nodes v w → S w ≡ true → (owner_at nodes v ≡ player → w ≡ pick v)
       → (A w ≡ true) × (rank w < rank v)
 
--- a place from which the player cannot draw into A: none of the player's successors is in it, or one of the other's is outside
+-- a place from which the player cannot draw into A: none of the player's successors is in it,
+-- or one of the other's is outside
 pub record IsStuck (nodes : List Node) (S : ℕ → Bool) (player : Player) (A : ℕ → Bool) (v : ℕ) : Type 0 where
   pub own : owner_at nodes v ≡ player → (w : ℕ) → HasEdge nodes v w → S w ≡ true → A w ≡ false
   pub free : owner_at nodes v ≡ opponent_of player → (w : ℕ) × HasEdge nodes v w × (S w ≡ true) × (A w ≡ false)

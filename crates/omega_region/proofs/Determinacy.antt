@@ -1,4 +1,5 @@
--- Parity games are determined: the split of all places gives each player a strategy that wins from every place of that player.
+-- Parity games are determined: the split of all places gives each player a strategy that wins from
+-- every place of that player.
 use Rattle.std.proofs.Common.{◌≡◌, ℕ, ◌<◌, ◌⊎◌, inl, inr, Bool, true, cond, ◌&&◌, List, [], ◌∷◌, length, Option, Some, None, IsTrue, nat_lt, slice_index, sym, ◌∙◌, subst, le_refl, lt-ltb, ltb-true}
 use Rattle.std.proofs.lemmas.Bool.{and_from, and_parts, cond-true}
 use Rattle.std.proofs.lemmas.Option.{cond_some}

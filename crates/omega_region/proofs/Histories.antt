@@ -1,4 +1,5 @@
--- A strategy with memory against a strategy of the opponent that wins: the limit of the play that follows both loses for neither.
+-- A strategy with memory against a strategy of the opponent that wins:
+-- the limit of the play that follows both loses for neither.
 use Rattle.std.proofs.Common.{◌≡◌, ℕ, zero, suc, ◌<◌, ◌⊎◌, inl, inr, Bool, true, false, cond, List, [], ◌∷◌, ◌++◌, length, Option, Some, None, IsTrue, slice_index, refl, sym, ap, ◌∙◌, subst, add-one}
 use Rattle.std.proofs.lemmas.Bool.{false≢true}
 use Rattle.omega_game.specs.declared.player.Player.{Player}
@@ -21,7 +22,8 @@ answer None d = d
 answer (Some c) d = c
 
 module _ (nodes : List Node) (player : Player) (strategy : List ℕ → Option ℕ) (choices : List (Option ℕ)) (v : ℕ) where
-  -- the next place after a history and its last place: what the strategy with memory chooses where the player owns the place, else what the choices do
+  -- the next place after a history and its last place: what the strategy with memory chooses where the player owns the
+  -- place, else what the choices do
   abbrev next : List ℕ → ℕ → ℕ
   next past u =
       cond (is_player (owner_at nodes u) player) (answer (strategy past) (slice_index (successors_at nodes u) 0)) (choice_at nodes choices u)

@@ -1,4 +1,5 @@
--- Sets of places as tests: what is left of one without another, how many of the first places one has, a function changed at one place.
+-- Sets of places as tests: what is left of one without another, how many of the first places one has,
+-- a function changed at one place.
 use Rattle.std.proofs.Common.{◌≡◌, ◌≢◌, ◌==◌, ℕ, zero, suc, ◌+◌, ◌<◌, ◌≤◌, ◌⊎◌, inl, inr, Bool, true, false, cond, not, ◌&&◌, refl, sym, ap, subst, arith, eq-eqb, ne_eqb}
 use Rattle.std.proofs.lemmas.Bool.{cases_lt, false≢true, and_parts, and_from, not-true, not_from_false}
 

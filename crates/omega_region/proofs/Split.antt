@@ -1,4 +1,5 @@
--- Splits of a set of places: a winner for each place, and a choice for each place of its winner, such that closed tours are won. Zielonka's induction.
+-- Splits of a set of places: a winner for each place, and a choice for each place of its winner,
+-- such that closed tours are won. Zielonka's induction.
 use Rattle.std.proofs.Common.{◌≡◌, ℕ, ◌<◌, ◌≤◌, ◌⊎◌, inl, inr, Bool, true, false, cond, ◌&&◌, List, length, IsTrue, refl, sym, ap, ◌∙◌, subst, arith}
 use Rattle.std.proofs.lemmas.Bool.{and_from, and_parts, cases_Bool, false≢true}
 use Rattle.omega_game.specs.declared.player.Player.{Player}
@@ -93,7 +94,8 @@ successor_in_is nodes S v given = go (sought_in (λ w. S w ≡ true) (λ w. S w 
     go (inl found) = (found.1, found.2)
     go (inr none) = absurd (false≢true (sym (none given.0 given.1) ∙ given.2))
 
--- the player whom the greatest priority favours wins everywhere, where the other wins nothing of what the attractor leaves
+-- the player whom the greatest priority favours wins everywhere,
+-- where the other wins nothing of what the attractor leaves
 module _ (nodes : List Node) (S T : ℕ → Bool) (sub : IsSubgame nodes S) (player : Player) (q : ℕ)
     (aimed : (v : ℕ) → T v ≡ true → q ≤ priority_at nodes v) (top : (v : ℕ) → S v ≡ true → priority_at nodes v ≤ q)
     (favours : IsTrue (loses player q) → ⊥) (A : Attractor nodes S T player) (rest : Split nodes (minus S A.set))
@@ -170,7 +172,8 @@ module _ (nodes : List Node) (S T : ℕ → Bool) (sub : IsSubgame nodes S) (pla
 abbrev pub won_by : {nodes : List Node} {S : ℕ → Bool} → Player → Split nodes S → ℕ → Bool
 won_by {S = S} player split v = S v && is_player (split.winner v) player
 
--- a player's attractor for the places that the player wins of what the other's attractor leaves, and a split of what that leaves
+-- a player's attractor for the places that the player wins of what the other's attractor leaves,
+-- and a split of what that leaves
 module _ (nodes : List Node) (S T : ℕ → Bool) (player : Player) (A : Attractor nodes S T (opponent_of player)) (rest : Split nodes (minus S A.set))
     (B : Attractor nodes S (won_by player rest) player) (last : Split nodes (minus S B.set)) where
   -- the places that the player wins of what the other's attractor leaves

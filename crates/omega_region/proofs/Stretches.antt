@@ -1,4 +1,5 @@
--- Stretches of plays are walks: a limit that loses stands at one place at two indices, and a losing closed walk lies between them.
+-- Stretches of plays are walks: a limit that loses stands at one place at two indices,
+-- and a losing closed walk lies between them.
 use Rattle.std.proofs.Common.{◌≡◌, ℕ, zero, suc, ◌+◌, ◌-◌, ◌<◌, ◌≤◌, ◌⊎◌, inl, inr, List, [], ◌∷◌, length, Option, IsTrue, sym, ap, ◌∙◌, subst, arith, add-one}
 use Rattle.std.proofs.lemmas.Bool.{cases_lt}
 use Rattle.std.proofs.lemmas.List.{get_or_past}

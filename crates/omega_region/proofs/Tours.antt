@@ -1,4 +1,5 @@
--- Tours: lists of places of a set, neighbours joined by steps. A closed tour meets the target of an attractor or stays outside it.
+-- Tours: lists of places of a set, neighbours joined by steps.
+-- A closed tour meets the target of an attractor or stays outside it.
 use Rattle.std.proofs.Common.{◌≡◌, ℕ, ◌+◌, ◌<◌, ◌≤◌, ◌⊎◌, inl, inr, Bool, true, false, List, [], ◌∷◌, length, sym, ◌∙◌, subst, arith}
 use Rattle.std.proofs.lemmas.Bool.{cases_Bool, false≢true}
 use Rattle.omega_game.specs.Game.{Node, priority_at}

@@ -11,12 +11,14 @@ abbrev pub history : (ℕ → ℕ) → ℕ → List ℕ
 history play zero = play 0 ∷ []
 history play (suc i) = history play i ++ (play (suc i) ∷ [])
 
--- a strategy with memory of the player: at each history whose last place v the player owns, none or a listed successor of v
+-- a strategy with memory of the player: at each history whose last place v the player owns,
+-- none or a listed successor of v
 abbrev pub IsMemoryStrategy : List Node → Player → (List ℕ → Option ℕ) → Type 0
 IsMemoryStrategy nodes player strategy =
     (past : List ℕ) (v w : ℕ) → owner_at nodes v ≡ player → strategy (past ++ (v ∷ [])) ≡ Some w → HasEdge nodes v w
 
--- a play from v that follows the strategy: first v, each step a listed edge, and from the player's places the chosen one, if there is one
+-- a play from v that follows the strategy: first v, each step a listed edge,
+-- and from the player's places the chosen one, if there is one
 pub record IsMemoryPlay (nodes : List Node) (player : Player) (strategy : List ℕ → Option ℕ) (v : ℕ) (play : ℕ → ℕ) : Type 0 where
   pub first : play 0 ≡ v
   pub listed : (i : ℕ) → HasEdge nodes (play i) (play (i + 1))

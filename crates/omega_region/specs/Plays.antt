@@ -5,7 +5,8 @@ use Rattle.omega_game.specs.Game.{Node, priority_at}
 use Rattle.omega_game.specs.Player.{loses}
 use Rattle.omega_game.specs.Winning.{Leaves, IsStrategy, Wins, InRegion}
 
--- a play from v under the strategy: a place for each index, first v, and each step an edge that the strategy leaves possible
+-- a play from v under the strategy: a place for each index, first v,
+-- and each step an edge that the strategy leaves possible
 pub record IsPlay (nodes : List Node) (player : Player) (choices : List (Option ℕ)) (v : ℕ) (play : ℕ → ℕ) : Type 0 where
   pub first : play 0 ≡ v
   pub steps : (i : ℕ) → Leaves nodes player choices (play i) (play (i + 1))

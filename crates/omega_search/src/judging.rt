@@ -1,6 +1,6 @@
-//! Whether what a search suggests is right. Each player's choices are judged by the checker of strategies, by an order of
-//! the places that the search suggests too; since no node is in the regions of both players, winners that are accepted
-//! are exact.
+//! Whether what a search suggests is right. Each player's choices are judged by the checker of strategies, by an order
+//! of the places that the search suggests too; since no node is in the regions of both players, winners that are
+//! accepted are exact.
 ghost use Rattle.std.specs.Prelude.{◌≡◌, ◌<◌, ◌^◌, length, IfOk, IfSome, IsOkUnless, IsTrue};
 ghost use Rattle.omega_game.specs.Solution.{IsExactSolution, WinsGiven, choices_of};
 ghost use Rattle.omega_game.specs.Winning.{IsStrategy};

@@ -10,13 +10,14 @@ use std::alloc::Global;
 const FUEL: u64 = 64;
 
 /// An exact solution of the game: each node is given to the player in whose region it is, and each player's strategy
-/// wins from all of that region. None where the search gives up or what it suggests is not accepted. `Memory` where a request for memory is refused.
+/// wins from all of that region. None where the search gives up or what it suggests is not accepted.
+/// `Memory` where a request for memory is refused.
 ///
 /// The search is Zielonka's recursive algorithm with attractors (Zielonka 1998; van Dijk 2018), which takes exponential
 /// time at worst. So it visits at most about 64 · (n + m) · log (n + m) edges, for n nodes and m edges, as often again
 /// where it then searches by strongly connected components, and gives up: there are games of 32 nodes in one component
-/// where it does. It suggests an order of the places with its answer, by which this is judged in the time n + m. Another
-/// run gives the same.
+/// where it does. It suggests an order of the places with its answer, by which this is judged in the time n + m.
+/// Another run gives the same.
 pub fn solve_by_search(alloc: Global, game: &Game) -> Result<Option<Solution>, Refusal>
     ensures exact { IfOk result (λ found. IfSome found (IsExactSolution game.now)) }
     ensures memory { IsOkUnless result Refusal.Memory }

@@ -7,8 +7,8 @@ use Rattle.omega_game.specs.Winning.{Chooses, InRegion, IsStrategy, Wins}
 use Rattle.omega_lift.specs.Answer.{AreChoices, won_in}
 use Rattle.omega_solve.specs.Solver.{State, IsFinished, IsReached, HasLiftDue, LiftsWithin, start_of}
 
--- a call of `run`: the game and the player stay, and lifts are made within the budget. It is done and no lift is due, or
--- the whole budget was used up and a lift is due
+-- a call of `run`: the game and the player stay, and lifts are made within the budget. It is done and no lift is due,
+-- or the whole budget was used up and a lift is due
 pub record Runs (old : State) (budget : ℕ) (new : State) : Type 0 where
   pub same_nodes : new.nodes ≡ old.nodes
   pub same_player : new.player ≡ old.player
@@ -31,8 +31,9 @@ pub record IsExact (nodes : List Node) (player : Player) (won : List Bool) (choi
   pub only : (v w : ℕ) → Chooses choices v w → slice_get won v ≡ Some true
   pub wins : (v : ℕ) → InRegion nodes player v → Wins nodes player choices v
 
--- a solver for the game and the player, once these budgets were dealt out: the lifts are those of a lifting run from the
--- all-zero table, and at most the bound; budgets that together reach the bound suffice; and a solver that is done has an exact answer
+-- a solver for the game and the player, once these budgets were dealt out: the lifts are those of a lifting run from
+-- the all-zero table, and at most the bound; budgets that together reach the bound suffice;
+-- and a solver that is done has an exact answer
 pub record IsBoundedAndExact (nodes : List Node) (player : Player) (budgets : List ℕ) (solver : State) : Type 0 where
   pub same_nodes : solver.nodes ≡ nodes
   pub same_player : solver.player ≡ player
@@ -43,9 +44,9 @@ pub record IsBoundedAndExact (nodes : List Node) (player : Player) (budgets : Li
       solver.done ≡ true → (choices : List (Option ℕ)) → AreChoices nodes player solver.table.measures choices
       → IsExact nodes player (won_in solver.table.measures) choices
 
--- For every game, of n nodes, a run for either player makes, however the budget is dealt out, at most n times the product of
--- 1 + N_q over the priorities q that lose for that player, lifts; where the budget does not refuse, its answer is exactly the
--- nodes from which that player has a winning positional strategy, with one strategy for all
+-- For every game, of n nodes, a run for either player makes, however the budget is dealt out, at most n times the
+-- product of 1 + N_q over the priorities q that lose for that player, lifts; where the budget does not refuse, its
+-- answer is exactly the nodes from which that player has a winning positional strategy, with one strategy for all
 abbrev pub Headline : Type 0
 Headline =
     (nodes : List Node) (player : Player) (budgets : List ℕ) (solver : State)

@@ -7,7 +7,8 @@ use Rattle.omega_lift.specs.Run.{IsDue, IsRun, IsStable, zero_table}
 use Rattle.omega_measure.specs.Table.{Content, zero_content}
 use Rattle.omega_solve.specs.Schedule.{Pending, all_pending}
 
--- a solver: its game and player, its table and schedule, how many lifts it made, and whether its last run ended with none due
+-- a solver: its game and player, its table and schedule, how many lifts it made,
+-- and whether its last run ended with none due
 pub record State : Type 0 where
   pub nodes : List Node
   pub player : Player

@@ -9,10 +9,10 @@ use omega_order::{FilledWords, Pace, Ranking, least_from};
 use std::alloc::Global;
 use std::marker::Model;
 
-/// Looks at the pending places of a game component by component, each before those that lead to it; in a component first
-/// at the places of its greatest priority, then at the others in the same manner, on three levels. Sweeps over the ranks
-/// in this order and focus on the least of them take turns. A place that leads to itself is taken again while a lift is due there:
-/// up to 64 times in a sweep, in focus as long as that goes on.
+/// Looks at the pending places of a game component by component, each before those that lead to it; in a component
+/// first at the places of its greatest priority, then at the others in the same manner, on three levels. Sweeps over
+/// the ranks in this order and focus on the least of them take turns. A place that leads to itself is taken again while
+/// a lift is due there: up to 64 times in a sweep, in focus as long as that goes on.
 ///
 /// `prepare` knows no game: there the places are in rising order. For n nodes and m edges `prepare_for` costs near
 /// 3 (n + m), looking may pass over n / 4096 words, and the rest is done in a few steps.

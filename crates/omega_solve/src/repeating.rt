@@ -34,7 +34,8 @@ pub(crate) fn lift_again<T: MeasureTable, S: Schedule>(
     made
 }
 
-/// Lifts a place that leads to itself once more, if a lift is due there and the schedule takes it again. Whether it did.
+/// Lifts a place that leads to itself once more, if a lift is due there and the schedule takes it again.
+/// Whether it did.
 fn lift_once_more<T: MeasureTable, S: Schedule>(
     game: &Game,
     player: Player,

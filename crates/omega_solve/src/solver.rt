@@ -20,8 +20,8 @@ use std::alloc::Global;
 use std::marker::Model;
 
 /// A solver of a game for one player by lifting small progress measures (Jurdziński 2000), over any table of measures
-/// and any schedule of places. Only `prepare` answers that memory was refused: table, schedule and buffers are made there.
-/// That no later call asks for memory is in no contract; requests are counted in runs of the built program.
+/// and any schedule of places. Only `prepare` answers that memory was refused: table, schedule and buffers are made
+/// there. That no later call asks for memory is in no contract; requests are counted in runs of the built program.
 #[derive(Drop)]
 pub struct Solver<'g, T: MeasureTable, S: Schedule> {
     game: &'g Game,
@@ -55,8 +55,8 @@ impl<'g, T: MeasureTable, S: Schedule> Solver<'g, T, S> {
     ghost use Rattle.omega_solve.specs.solving.Progress.{IsLifted};
     ghost use Rattle.omega_solve.specs.Solver.{IsFinished, IsReached, attempt_bound, lift_bound};
 
-    /// A solver with every measure 0 and all places pending, in an order that suits the game where the schedule has one.
-    /// 50 where the table would be too wide, or 60.
+    /// A solver with every measure 0 and all places pending, in an order that suits the game where the schedule has
+    /// one. 50 where the table would be too wide, or 60.
     pub fn prepare(
         alloc: Global,
         game: &'g Game,
@@ -72,8 +72,8 @@ impl<'g, T: MeasureTable, S: Schedule> Solver<'g, T, S> {
         Ok(solver)
     }
 
-    /// A solver as `prepare` makes it, but with the places of the game in rising order: for a game whose places lie in the
-    /// order in which they are to be lifted.
+    /// A solver as `prepare` makes it, but with the places of the game in rising order: for a game whose places lie in
+    /// the order in which they are to be lifted.
     pub fn prepare_in_order(
         alloc: Global,
         game: &'g Game,
@@ -116,9 +116,9 @@ impl<'g, T: MeasureTable, S: Schedule> Solver<'g, T, S> {
         })
     }
 
-    /// Makes lifts until none is due, at most the budget. A later run goes on from there; one that is done stays so. A run
-    /// that ends while a place is lifted again and again wakes its predecessors early, so that with `Nested` the lifts that
-    /// are needed may depend on how the budget is dealt out.
+    /// Makes lifts until none is due, at most the budget. A later run goes on from there; one that is done stays so. A
+    /// run that ends while a place is lifted again and again wakes its predecessors early, so that with `Nested` the
+    /// lifts that are needed may depend on how the budget is dealt out.
     pub fn run(&mut self, budget: u64) -> Outcome
         requires { self.old.lifts + budget ≤ most_lifts }
         ensures ran { Runs self.old budget self.new }
@@ -223,9 +223,9 @@ impl<'g, T: MeasureTable, S: Schedule> Solver<'g, T, S> {
         self.schedule.take(place);
     }
 
-    /// Lifts a place to its allowance towards a successor and takes it out; lifts it again if it leads to itself, at most
-    /// so many times in all; and makes its predecessors pending: in this order, so that a place with an edge to itself stays
-    /// pending, and each predecessor is woken once. How many lifts were made.
+    /// Lifts a place to its allowance towards a successor and takes it out; lifts it again if it leads to itself, at
+    /// most so many times in all; and makes its predecessors pending: in this order, so that a place with an edge to
+    /// itself stays pending, and each predecessor is woken once. How many lifts were made.
     fn lift(&mut self, place: u32, towards: u32, most: u64) -> u64
         requires pending { IsPending self.old.pending place }
         requires done { self.old.done ≡ false }

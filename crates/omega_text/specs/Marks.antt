@@ -1,5 +1,5 @@
--- The sets of a state or an edge as they are written: which list it is, none where no braces stand, and how many stand in
--- place.
+-- The sets of a state or an edge as they are written: which list it is, none where no braces stand, and how many stand
+-- in place.
 use Rattle.std.specs.Prelude.{ℕ, ◌≤◌, List, Option, None, Some, take}
 use Rattle.omega_text.specs.declared.marks.Written.{Written}
 use Rattle.omega_text.specs.declared.marks.Written.TheVariants.{Absent, Short, Long}

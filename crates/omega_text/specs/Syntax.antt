@@ -7,7 +7,8 @@ use Rattle.omega_text.specs.Limits.{most_text}
 use Rattle.omega_text.specs.declared.refusal.text.TextFault.{TextFault}
 use Rattle.omega_text.specs.declared.refusal.text.TextFault.TheVariants.{Lex, Number, Syntax as SyntaxFault, TooLong}
 
--- a syntax: how texts are cut, the symbol that a grammar sees in a token, and the grammar, by which symbols spell a raw text
+-- a syntax: how texts are cut, the symbol that a grammar sees in a token, and the grammar,
+-- by which symbols spell a raw text
 pub record Syntax (Kind Symbol Raw : Type 0) : Type 1 where
   pub format : Format Kind
   pub symbol : Lexeme Kind → Symbol
@@ -56,7 +57,8 @@ pub record IsMisplaced {Kind : Type 0} (format : Format Kind) (begins completes 
   pub cut : IsCut format source lexemes
   pub fault_there : IsWrongAt begins lexemes place ⊎ (IsUnfinished begins completes lexemes × (place ≡ length source))
 
--- the fault of bytes, where it is known which tokens begin a text and which are one: the length first, then tokens, then syntax
+-- the fault of bytes, where it is known which tokens begin a text and which are one: the length first, then tokens,
+-- then syntax
 abbrev pub IsFaultBy : {Kind : Type 0} → Format Kind → (begins completes : List (Lexeme Kind) → Type 0) → List ℕ → TextFault → Type 0
 IsFaultBy format begins completes source (Lex at) = (length source ≤ most_text) × IsFault format source (Lex at)
 IsFaultBy format begins completes source (Number at) = (length source ≤ most_text) × IsFault format source (Number at)

@@ -7,9 +7,11 @@ use std::marker::Model;
 /// How many bytes stand in place.
 const MOST_IN_PLACE: usize = 14;
 
-/// A string of bytes that contracts see as a list and nothing else. Up to fourteen bytes stand in place and take no memory.
+/// A string of bytes that contracts see as a list and nothing else.
+/// Up to fourteen bytes stand in place and take no memory.
 ///
-/// Names and words of headers are nearly always so short: they take 16 bytes, where a vector takes 24 and an allocation.
+/// Names and words of headers are nearly always so short: they take 16 bytes,
+/// where a vector takes 24 and an allocation.
 #[derive(Debug, Drop)]
 pub struct ByteString {
     held: Held,

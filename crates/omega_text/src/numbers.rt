@@ -7,9 +7,11 @@ use std::marker::Model;
 /// How many numbers stand in place.
 const MOST_IN_PLACE: u8 = 3;
 
-/// A list of numbers that contracts see as a list and nothing else. Up to three numbers stand in place and take no memory.
+/// A list of numbers that contracts see as a list and nothing else.
+/// Up to three numbers stand in place and take no memory.
 ///
-/// Lists of marks and of targets are nearly always so short: they take 16 bytes, where a vector takes 24 and an allocation.
+/// Lists of marks and of targets are nearly always so short: they take 16 bytes,
+/// where a vector takes 24 and an allocation.
 #[derive(Debug, Drop)]
 pub struct Numbers {
     pub(crate) held: Held,

@@ -9,7 +9,8 @@ use crate::token_kind::TokenKind;
 use crate::token_source::TokenSource;
 use std::marker::Model;
 
-/// Goes over the tokens of a text that can be cut, with no list of them. No call takes memory, and each token is cut once.
+/// Goes over the tokens of a text that can be cut, with no list of them. No call takes memory,
+/// and each token is cut once.
 ///
 /// Contracts see the tokens that are left, without the addresses of their bytes, and the length of the text.
 #[derive(Drop)]

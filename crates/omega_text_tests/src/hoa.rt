@@ -155,7 +155,8 @@ static SETTLED: [(&str, &[usize]); 12] = [
     ("/* ", &[0, 0, 0]),
 ];
 
-// Texts, the places of the bytes of theirs by which a mark or a fault is settled, and the number and the place of the fault.
+// Texts, the places of the bytes of theirs by which a mark or a fault is settled,
+// and the number and the place of the fault.
 static STOPS: [(&str, &[usize], Option<(u32, usize)>); 10] = [
     (
         "HOA: v1 \"a\" 12 --BODY-- State: 0 {1} --END--\n",
@@ -203,7 +204,8 @@ fn keep(settled: &Settled, tokens: &mut Vec<PlacedToken>) -> Result<(), AllocErr
     Ok(())
 }
 
-// The places at which a tokenizer stops in a piece that begins at a place are put behind others; the answer is its fault.
+// The places at which a tokenizer stops in a piece that begins at a place are put behind others;
+// the answer is its fault.
 fn pass(
     tokenizer: &mut HoaTokenizer,
     place: usize,

@@ -1,7 +1,7 @@
 use omega_game::Player;
 
-/// What a search suggests. Nothing is claimed of it, not even that its lists have an entry for each place: whoever uses it
-/// judges it.
+/// What a search suggests. Nothing is claimed of it, not even that its lists have an entry for each place: whoever uses
+/// it judges it.
 #[derive(Drop)]
 pub struct Suggestion {
     /// The winners by place.

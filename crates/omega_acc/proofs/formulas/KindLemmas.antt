@@ -1,4 +1,5 @@
--- Parity formulas hold where the greatest priority is even: the deciding set, and what the formula and the priorities make of it.
+-- Parity formulas hold where the greatest priority is even: the deciding set,
+-- and what the formula and the priorities make of it.
 use Rattle.std.proofs.Common.{◌≡◌, ℕ, ◌+◌, ◌-◌, ◌<◌, ◌≤◌, zero, suc, true, false, not, ◌&&◌, ◌||◌, eqb, List, [], ◌∷◌, length, map, max, min, ap, refl, sym, ◌∙◌, arith, eq-eqb, add-one, inl, inr}
 use Rattle.std.specs.List.{All}
 use Rattle.std.proofs.lemmas.Bool.{cases_eq, cond_both, ne_eqb, or_from, or_left, or_right}

@@ -10,7 +10,8 @@ use Rattle.omega_text.specs.Lexeme.{Lexeme}
 use Rattle.omega_text.specs.declared.hoa.kind.HoaKind.{HoaKind}
 use Rattle.omega_text.specs.declared.hoa.kind.HoaKind.TheVariants as kind
 
--- what has been read: what stands before the part that is wanted, or that and as much of an atom, or that and the part, or the whole
+-- what has been read: what stands before the part that is wanted, or that and as much of an atom, or that and the part,
+-- or the whole
 pub data Stage : Type 0 where
   wanted : Before → Stage
   named : Before → List ℕ → Stage

@@ -1,4 +1,5 @@
--- The canonical text of an acceptance formula is that of the formula as it is written, and its tokens are that formula's.
+-- The canonical text of an acceptance formula is that of the formula as it is written,
+-- and its tokens are that formula's.
 use Rattle.std.proofs.Common.{◌≡◌, ◌≢◌, ℕ, ◌+◌, ◌≤◌, Bool, true, false, List, [], ◌∷◌, ◌++◌, Some, codes, decimal, drop, length, nat_le, nat_lt, ap, refl, sym, ◌∙◌, subst, arith, lit<}
 use Rattle.std.proofs.lemmas.List.Sums.{AllPass-from_list_all}
 use Rattle.omega_acc.specs.formula.Meaning.{acc_meant, both_meant}

@@ -61,8 +61,8 @@ least_mark count (mark ∷ marks) = min mark (least_mark count marks)
 abbrev pub least_from : Parity → ℕ → ℕ
 least_from parity count = if has_parity parity count then count else count + 1
 
--- the priority of marks: for max one or two more than the greatest, so that no marks count as -1; for min the least number of the parity
--- from the count on, less the least mark, where no marks count as the count
+-- the priority of marks: for max one or two more than the greatest, so that no marks count as -1; for min the least
+-- number of the parity from the count on, less the least mark, where no marks count as the count
 abbrev pub priority_by : Order → Parity → ℕ → List ℕ → ℕ
 priority_by Max Even count marks = beyond marks + 1
 priority_by Max Odd count marks = beyond marks

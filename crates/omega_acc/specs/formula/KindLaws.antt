@@ -1,10 +1,12 @@
--- Parity formulas hold exactly where the greatest priority is even, and generalized Büchi formulas exactly where every set occurs.
+-- Parity formulas hold exactly where the greatest priority is even,
+-- and generalized Büchi formulas exactly where every set occurs.
 use Rattle.std.specs.Prelude.{◌≡◌, ℕ, ◌<◌, ◌%◌, ◌↔◌, false, IsTrue, All, List, length, map}
 use Rattle.omega_acc.specs.formula.Acceptance.{accepts, occurs}
 use Rattle.omega_acc.specs.formula.Kind.{buchi_formula, greatest, parity_formula, priority_of}
 use Rattle.omega_acc.specs.declared.formula.kind.ParityKind.{ParityKind}
 
--- for each kind and each list of mark sets that is not empty, the parity formula holds exactly if the greatest priority is even
+-- for each kind and each list of mark sets that is not empty,
+-- the parity formula holds exactly if the greatest priority is even
 abbrev pub ParityIsPriority : Type 0
 ParityIsPriority = (kind : ParityKind) (forever : List (List ℕ)) → 0 < length forever
     → All (λ marks. All (λ mark. mark < kind.count) marks) forever

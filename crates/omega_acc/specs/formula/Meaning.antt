@@ -1,4 +1,5 @@
--- What an acceptance formula as it is written means: its atoms are `Fin` and `Inf`, and parentheses only group (HOA v1, acceptance).
+-- What an acceptance formula as it is written means: its atoms are `Fin` and `Inf`,
+-- and parentheses only group (HOA v1, acceptance).
 use Rattle.std.specs.Prelude.{◌≡◌, ℕ, Bool, nat_lt, if◌then◌else◌, List, [], ◌∷◌, ◌++◌, Option, Some, None, codes}
 use Rattle.std.specs.Str.{bytes_eq}
 use Rattle.omega_acc.specs.formula.Acceptance.{AccTree}
@@ -60,7 +61,8 @@ pub record IsMeant (raw : RawAccTree) (tree : AccTree) : Type 0 where
 abbrev pub IsUnmeant : RawAccTree → Refusal → Type 0
 IsUnmeant raw = or_automaton (λ fault. fault_of_acc raw ≡ Some fault) (or_memory never)
 
--- the tokens are a formula's that means this one without a fault, and then the rest, which does not go on with an operator
+-- the tokens are a formula's that means this one without a fault, and then the rest,
+-- which does not go on with an operator
 pub record ReadsMeant (tokens : List (Lexeme HoaKind)) (tree : AccTree) (rest : List (Lexeme HoaKind)) : Type 0 where
   pub raw : RawAccTree
   pub reads : ReadsAcc tokens raw rest

@@ -1,4 +1,5 @@
--- How acceptance formulas as they are written stand in tokens: `&` binds tighter than `|`, and equal operators group to the left (HOA v1).
+-- How acceptance formulas as they are written stand in tokens: `&` binds tighter than `|`,
+-- and equal operators group to the left (HOA v1).
 use Rattle.std.specs.Prelude.{◌≡◌, ℕ, Bool, true, false, List, [], ◌∷◌, ◌++◌, map}
 use Rattle.omega_acc.specs.formula.Raw.{RawAccTree, atom, conjunction, constant, disjunction, group}
 use Rattle.omega_acc.specs.Symbols.{EndsThere, Rank, Symbol, TakesAnd, TakesOr, conjunctive, disjunctive, number, sign, symbol_of, truth_kind, unary, word}
@@ -24,8 +25,8 @@ acc_spelled (disjunction left right) = acc_spelled left ++ sign kind.Or ∷ acc_
 acc_spelled (group part) = sign kind.OpenParenthesis ∷ (acc_spelled part ++ sign kind.CloseParenthesis ∷ [])
 
 -- the formula is of this case: an or-expression is an and-expression or an or-expression, `|` and an and-expression; an
--- and-expression is a unary one or an and-expression, `&` and a unary one; a unary one is a constant, an atom, or an or-expression
--- in parentheses
+-- and-expression is a unary one or an and-expression, `&` and a unary one; a unary one is a constant, an atom, or an
+-- or-expression in parentheses
 abbrev pub IsAccOf : Rank → RawAccTree → Type 0
 IsAccOf rank (constant value) = Unit {0}
 IsAccOf rank (atom name negated set) = Unit {0}

@@ -1,4 +1,5 @@
--- What a label means once each alias is replaced by its definition (HOA v1, aliases; docs/formats.md, labels and acceptance formulas).
+-- What a label means once each alias is replaced by its definition (HOA v1, aliases; docs/formats.md, labels
+-- and acceptance formulas).
 use Rattle.std.specs.Prelude.{◌≡◌, ℕ, suc, ◌+◌, ◌<◌, ◌≤◌, length, nat_lt, if◌then◌else◌, List, [], ◌∷◌, ◌++◌, Option, Some, None, option_map, max}
 use Rattle.std.specs.Str.{bytes_eq}
 use Rattle.omega_text.specs.Cases.{never, or_automaton, or_memory}

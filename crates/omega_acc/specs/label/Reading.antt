@@ -1,4 +1,5 @@
--- How labels as they are written stand in tokens: `!` binds tightest, then `&`, then `|`, and equal operators group to the left (HOA v1).
+-- How labels as they are written stand in tokens: `!` binds tightest, then `&`, then `|`,
+-- and equal operators group to the left (HOA v1).
 use Rattle.std.specs.Prelude.{◌≡◌, ◌<◌, List, [], ◌∷◌, ◌++◌, map}
 use Rattle.omega_acc.specs.label.Raw.{RawLabelTree, alias, conjunction, constant, disjunction, group, negation, proposition, raw_depth}
 use Rattle.omega_acc.specs.Limits.{most_depth}
@@ -21,8 +22,8 @@ spelled (disjunction left right) = spelled left ++ sign kind.Or ∷ spelled righ
 spelled (group part) = sign kind.OpenParenthesis ∷ (spelled part ++ sign kind.CloseParenthesis ∷ [])
 
 -- the label is of this case: an or-expression is an and-expression or an or-expression, `|` and an and-expression; an
--- and-expression is a unary one or an and-expression, `&` and a unary one; a unary one is an atom, `!` and a unary one, or an
--- or-expression in parentheses
+-- and-expression is a unary one or an and-expression, `&` and a unary one; a unary one is an atom, `!` and a unary one,
+-- or an or-expression in parentheses
 abbrev pub IsOf : Rank → RawLabelTree → Type 0
 IsOf rank (constant value) = Unit {0}
 IsOf rank (proposition value) = Unit {0}

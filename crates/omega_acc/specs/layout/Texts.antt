@@ -27,7 +27,8 @@ sign_byte sign.Not = 33
 sign_byte sign.And = 38
 sign_byte sign.Or = 124
 
--- the bytes of the text on top, in parentheses if it binds less tightly than is wanted, which is never more tightly than an atom
+-- the bytes of the text on top, in parentheses if it binds less tightly than is wanted,
+-- which is never more tightly than an atom
 abbrev pub top_bytes : ℕ → List Text → List ℕ
 top_bytes rank texts = bracketed (nat_lt (top_text texts).rank (min rank 3)) (top_text texts).bytes
 

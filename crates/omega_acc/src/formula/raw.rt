@@ -15,8 +15,8 @@ use omega_text::{AutomatonFault, Refusal, Seq};
 use std::alloc::Global;
 use std::marker::Model;
 
-/// A node of an acceptance formula as it is written. Its parts stand before it. An atom has the length of its name, whether
-/// `!` stands before its set, and the set.
+/// A node of an acceptance formula as it is written. Its parts stand before it. An atom has the length of its name,
+/// whether `!` stands before its set, and the set.
 #[derive(Clone, Copy, Debug, PartialEq, Eq)]
 pub(crate) enum RawAccNode {
     Constant(bool),
@@ -26,8 +26,8 @@ pub(crate) enum RawAccNode {
     Group,
 }
 
-/// An acceptance formula as it is written, with parentheses and the identifiers of its atoms, which may be other than `Fin`
-/// and `Inf`, of any depth.
+/// An acceptance formula as it is written, with parentheses and the identifiers of its atoms, which may be other than
+/// `Fin` and `Inf`, of any depth.
 ///
 /// Contracts see its tree. Reading, measuring, comparing and dropping it need no recursion.
 #[derive(Debug, PartialEq, Eq, Drop)]

@@ -30,8 +30,8 @@ pub fn parity_of(name: &AccName, count: u32, formula: &Acc) -> Result<ParityKind
     Err(Refusal::Task(TaskFault::NotParity))
 }
 
-/// The acceptance kind that a name, a count of sets and a formula stand for: a parity kind, or `generalized-Buchi` with 1
-/// to 16 sets. Any other is refused 40. Takes no memory.
+/// The acceptance kind that a name, a count of sets and a formula stand for: a parity kind, or `generalized-Buchi` with
+/// 1 to 16 sets. Any other is refused 40. Takes no memory.
 pub fn acceptance_kind(name: &AccName, count: u32, formula: &Acc) -> Result<AccKind, Refusal>
     ensures ok { IfOk result (λ kind. IsAcceptanceRow name.now count formula.now kind) }
     ensures err { IfErr result (IsNotParity ((kind : AccKind) → IsAcceptanceRow name.now count formula.now kind → ⊥)) }

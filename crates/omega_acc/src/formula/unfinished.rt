@@ -8,7 +8,8 @@ use crate::pending::{Pending, PendingStack};
 use omega_text::Refusal;
 use std::alloc::Global;
 
-/// An acceptance formula that is being read: the nodes and atoms' names so far, what waits, and the depth of the part that stands last.
+/// An acceptance formula that is being read: the nodes and atoms' names so far, what waits,
+/// and the depth of the part that stands last.
 #[derive(Drop)]
 pub(crate) struct UnfinishedAcc {
     pub(crate) nodes: Vec<RawAccNode>,

@@ -23,8 +23,8 @@ const MOST_KEPT_OF_ONE: u32 = 512;
 const MOST_KEPT: usize = 65_536;
 
 /// An alias: its name, its definition as it is written, and how deep and large that is once expanded, none where it
-/// reaches an undefined alias. Where its nodes once expanded are few they are kept, so that a chain of definitions is not
-/// gone down again for each label that names its end.
+/// reaches an undefined alias. Where its nodes once expanded are few they are kept, so that a chain of definitions is
+/// not gone down again for each label that names its end.
 #[derive(Drop)]
 pub(crate) struct Definition {
     name: ByteString,
@@ -158,8 +158,8 @@ impl Aliases {
         Ok(stack.pop())
     }
 
-    /// Puts a definition last, under the name that labels have for it: that of a text begins with `@`. Refusal 27 exactly where the name is there; after a refusal all is as before, and the
-    /// definition is given up.
+    /// Puts a definition last, under the name that labels have for it: that of a text begins with `@`. Refusal 27
+    /// exactly where the name is there; after a refusal all is as before, and the definition is given up.
     pub fn add(&mut self, name: &[u8], body: RawLabel) -> Result<(), Refusal>
         ensures ok { OnOk result (IsAdded self.old name.now body self.new) }
         ensures same { OnErr result (self.new ≡ self.old) }
@@ -184,8 +184,8 @@ impl Aliases {
         Ok(())
     }
 
-    /// The nodes of a definition once expanded, where they are few enough to be kept. What it names is kept then too, so
-    /// that no definition is gone down into.
+    /// The nodes of a definition once expanded, where they are few enough to be kept. What it names is kept then too,
+    /// so that no definition is gone down into.
     fn expanded(
         &self,
         alloc: Global,

@@ -18,8 +18,8 @@ use smallvec::SmallVec;
 use std::alloc::Global;
 use std::marker::Model;
 
-/// A label's notation in 24 bytes, which contracts see as that notation and nothing else. Up to 21 nodes stand in place and
-/// take no memory, a byte each, where none is an alias and the propositions are below 250.
+/// A label's notation in 24 bytes, which contracts see as that notation and nothing else. Up to 21 nodes stand in place
+/// and take no memory, a byte each, where none is an alias and the propositions are below 250.
 #[derive(Debug, Drop)]
 pub(crate) struct Compact {
     held: Held,

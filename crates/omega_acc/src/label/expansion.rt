@@ -13,8 +13,8 @@ use std::alloc::Global;
 
 /// A label with its aliases replaced by their definitions and its parentheses gone.
 ///
-/// Refusal 27 where it reaches an undefined alias, else 32 where it is over 256 deep, an alias counting as its definition
-/// between parentheses, else 33 where it has over 65,536 tree nodes; all before anything is copied.
+/// Refusal 27 where it reaches an undefined alias, else 32 where it is over 256 deep, an alias counting as its
+/// definition between parentheses, else 33 where it has over 65,536 tree nodes; all before anything is copied.
 pub fn expand(alloc: Global, raw: &RawLabel, aliases: &Aliases) -> Result<Label, Refusal>
     ensures ok { IfOk result (λ label. IsExpansion aliases.now raw.now label) }
     ensures err { IfErr result (IsUnexpanded aliases.now raw.now) }
@@ -77,9 +77,9 @@ struct Stretch {
     end: usize,
 }
 
-/// Appends the nodes of a label with its aliases replaced by the definitions before a place. It goes down at most as far as
-/// the label is deep. An alias whose nodes are kept, or that is the same as the one before it, is copied from there and not
-/// gone down into.
+/// Appends the nodes of a label with its aliases replaced by the definitions before a place. It goes down at most as
+/// far as the label is deep. An alias whose nodes are kept, or that is the same as the one before it, is copied from
+/// there and not gone down into.
 pub(crate) fn emit(
     aliases: &Aliases,
     raw: &RawLabel,

@@ -9,7 +9,8 @@ use omega_text::Seq;
 use std::alloc::Global;
 use std::mem;
 
-/// How a label is written: its nodes in postfix order, its alias names one after another, and its depth as it is counted.
+/// How a label is written: its nodes in postfix order, its alias names one after another,
+/// and its depth as it is counted.
 #[derive(Debug, Drop)]
 pub(crate) struct Notation {
     pub(crate) nodes: Seq<LabelNode>,

@@ -19,8 +19,8 @@ use std::marker::Model;
 
 /// A label as it is written, with alias names and parentheses, of any depth, where an alias name has depth 1.
 ///
-/// Contracts see its tree. Reading, measuring, comparing and dropping it need no recursion. It takes 24 bytes, and memory only
-/// where it has an alias, a proposition from 250 on or over 21 atoms, operators and parentheses.
+/// Contracts see its tree. Reading, measuring, comparing and dropping it need no recursion. It takes 24 bytes, and
+/// memory only where it has an alias, a proposition from 250 on or over 21 atoms, operators and parentheses.
 #[derive(Debug, Drop)]
 pub struct RawLabel {
     written: Compact,
@@ -62,8 +62,8 @@ impl RawLabel {
         RawLabel::of_nodes(alloc, nodes.as_slice(), &[], 1)
     }
 
-    /// An alias by its name, its `@` included where it comes from a text: `@a` is another name than `a`. Refusal 60 also for a
-    /// name of 2^32 bytes or more.
+    /// An alias by its name, its `@` included where it comes from a text: `@a` is another name than `a`. Refusal 60
+    /// also for a name of 2^32 bytes or more.
     pub fn alias(alloc: Global, name: &[u8]) -> Result<RawLabel, Refusal>
         ensures ok { IfOk result (λ label. label ≡ alias_tree name.now) }
         ensures err { IfErr result IsMemory }
@@ -242,8 +242,8 @@ impl Eq for RawLabel {
     ghost laws = { Prim.search (comparing, rules, laws-law) };
 }
 
-/// The length of an alias name, as a node keeps it. Refusal 60 where it is over the numbers of 32 bits, which none is in a
-/// text.
+/// The length of an alias name, as a node keeps it. Refusal 60 where it is over the numbers of 32 bits, which none is
+/// in a text.
 pub(crate) fn name_length(name: &[u8]) -> Result<u32, Refusal>
     ensures ok { IfOk result (λ count. count ≡ length name.now) }
     ensures err { IfErr result IsMemory }

@@ -20,8 +20,8 @@ use crate::pending::Pending;
 use omega_text::{AutomatonFault, HoaKind, Refusal, TextFault, TokenSource};
 use std::alloc::Global;
 
-/// Reads a label as it is written, which is the one front of the tokens that is a label and has neither `&` nor `|` behind it
-/// (HOA v1, label expressions). Refusal 3 where there is none. Time is linear, and nothing recurs.
+/// Reads a label as it is written, which is the one front of the tokens that is a label and has neither `&` nor `|`
+/// behind it (HOA v1, label expressions). Refusal 3 where there is none. Time is linear, and nothing recurs.
 pub fn read_raw_label<'a, S: TokenSource<'a, HoaKind>>(
     alloc: Global,
     source: &mut S,
@@ -44,8 +44,8 @@ pub fn read_raw_label<'a, S: TokenSource<'a, HoaKind>>(
     )
 }
 
-/// Reads a label as `read_raw_label` does. Refusal 3 where there is none, else 32 where it is over 256 deep, an alias having
-/// depth 1; the tokens behind it are then left.
+/// Reads a label as `read_raw_label` does. Refusal 3 where there is none, else 32 where it is over 256 deep, an alias
+/// having depth 1; the tokens behind it are then left.
 pub fn read_label<'a, S: TokenSource<'a, HoaKind>>(
     alloc: Global,
     source: &mut S,
@@ -114,7 +114,8 @@ fn is_prefix<'a, S: TokenSource<'a, HoaKind>>(
     Ok(false)
 }
 
-/// Passes a token behind a part, with the part that it joins, and says whether more may follow; if not, the whole label is read.
+/// Passes a token behind a part, with the part that it joins, and says whether more may follow; if not,
+/// the whole label is read.
 fn goes_on<'a, S: TokenSource<'a, HoaKind>>(
     unfinished: &mut Unfinished,
     source: &mut S,
@@ -148,7 +149,8 @@ fn goes_on<'a, S: TokenSource<'a, HoaKind>>(
     Ok(true)
 }
 
-/// Reads the part behind an `&`, and joins it. A proposition, or one behind a `!`, as most parts are, waits for nothing.
+/// Reads the part behind an `&`, and joins it. A proposition, or one behind a `!`, as most parts are,
+/// waits for nothing.
 fn conjunct<'a, S: TokenSource<'a, HoaKind>>(
     unfinished: &mut Unfinished,
     source: &mut S,

@@ -10,8 +10,8 @@ use std::alloc::Global;
 /// Just past the greatest depth: deeper parts count as this deep.
 const PAST_DEPTH: u32 = 257;
 
-/// A label that is being read: the nodes and alias names so far, what waits, and the depth of the part that stands last.
-/// Up to 24 nodes take no memory.
+/// A label that is being read: the nodes and alias names so far, what waits, and the depth of the part that stands
+/// last. Up to 24 nodes take no memory.
 #[derive(Drop)]
 pub(crate) struct Unfinished {
     pub(crate) nodes: SmallVec<LabelNode, 24>,

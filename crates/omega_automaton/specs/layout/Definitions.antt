@@ -18,7 +18,8 @@ use Rattle.omega_automaton.specs.declared.making.definitions.Definitions.{Defini
 abbrev pub is_named : List Defined → List ℕ → Bool
 is_named definitions name = list_any (λ defined. bytes_eq name defined.name) definitions
 
--- one more alias was put last: its name is new, its definition means something, and what is too deep or too large is noted
+-- one more alias was put last: its name is new, its definition means something,
+-- and what is too deep or too large is noted
 pub record HasDefined (old : Definitions) (name : List ℕ) (body : RawLabelTree) (new : Definitions) : Type 0 where
   pub aliases : new.aliases ≡ old.aliases ++ record { name = name; body = body } ∷ []
   pub fresh : is_named old.aliases name ≡ false

@@ -1,5 +1,5 @@
--- The draft of an automaton: what is said of it before its aliases are asked for, what is written and has no fault, its items
--- gathered, and the value that is made of it.
+-- The draft of an automaton: what is said of it before its aliases are asked for, what is written and has no fault, its
+-- items gathered, and the value that is made of it.
 use Rattle.std.specs.Prelude.{◌≡◌, ℕ, List, [], Option, None, MatchOption, nat_lt, unwrap_or}
 use Rattle.std.specs.List.{list_any}
 use Rattle.omega_acc.specs.formula.Acceptance.{AccTree}

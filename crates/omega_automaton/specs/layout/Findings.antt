@@ -19,8 +19,8 @@ labels_pass test definitions states = list_any (is_labelled (λ label. test (exp
 abbrev pub capped : ℕ → ℕ
 capped size = min size (most_total_size + 1)
 
--- what is found of labels, by which tests what some of them means passes, and by how large they are together, which is counted
--- where none has a fault
+-- what is found of labels, by which tests what some of them means passes, and by how large they are together, which is
+-- counted where none has a fault
 pub record AreFound (some : (Option Meaning → Bool) → Bool) (size : ℕ) (found : Findings) : Type 0 where
   pub undefined : found.undefined ≡ some is_none
   pub deep : found.deep ≡ some is_deep

@@ -15,7 +15,8 @@ use omega_raw::{RawAutomaton, RawItem};
 use omega_text::{ByteString, Refusal, Seq};
 use std::alloc::Global;
 
-/// Whether propositions are miscounted, alike or too many, or a label or an alias mentions one out of range (refusal 26).
+/// Whether propositions are miscounted, alike or too many, or a label or an alias mentions one
+/// out of range (refusal 26).
 #[tactic(auto, unfolding(crate::specs::Faults::has_wrong_proposition))]
 pub(crate) fn has_wrong_proposition(
     alloc: Global,

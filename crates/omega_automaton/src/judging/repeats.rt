@@ -26,8 +26,8 @@ pub(crate) fn has_state_twice(alloc: Global, raw: &RawAutomaton) -> Result<bool,
     has_number_twice(alloc, states)
 }
 
-/// Whether each state has a greater number than the one before, as most texts write them, so that no two have one number.
-/// Takes no memory.
+/// Whether each state has a greater number than the one before, as most texts write them, so that no two have one
+/// number. Takes no memory.
 fn numbers_rise(states: &[RawState]) -> bool
     ensures { IsTrue result → has_repeat nat_eq (map (λ state. state.number) states.now) ≡ false }
 {

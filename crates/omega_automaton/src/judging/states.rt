@@ -55,8 +55,8 @@ fn is_start_out_of_range(item: &RawItem, count: u32) -> bool
     }
 }
 
-/// The count of states: that of `States:`, or by the states mentioned, where a count over the greatest number of a text is
-/// that number.
+/// The count of states: that of `States:`, or by the states mentioned, where a count over the greatest number of a text
+/// is that number.
 pub(crate) fn state_count(raw: &RawAutomaton) -> u32
     ensures { result ≡ count_of_states raw.now }
 {

@@ -6,7 +6,8 @@ use omega_acc::{Aliases, RawLabel};
 use omega_text::{AutomatonFault, Refusal, Seq};
 use std::alloc::Global;
 
-/// The aliases of a header so far, and whether the definition of one of them is too deep, or too large and not too deep.
+/// The aliases of a header so far, and whether the definition of one of them is too deep,
+/// or too large and not too deep.
 #[derive(Drop)]
 pub(crate) struct Definitions {
     pub aliases: Aliases,

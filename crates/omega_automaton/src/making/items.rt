@@ -10,8 +10,8 @@ use omega_raw::RawItem;
 use omega_text::{Refusal, Seq};
 use std::alloc::Global;
 
-/// Takes the items of a header, of which nothing is taken yet. Refusal 27 where two aliases have one name, or one reaches an
-/// alias that has no item before it.
+/// Takes the items of a header, of which nothing is taken yet. Refusal 27 where two aliases have one name, or one
+/// reaches an alias that has no item before it.
 pub(crate) fn gather(
     alloc: Global,
     gathered: &mut Gathered,

@@ -113,8 +113,8 @@ fn aliases_count_as_depth(rt: HostRuntime) {
     assert_rows(&rt, rt.alloc(), DEEP_ALIASES.as_slice());
 }
 
-// One proposition, and the aliases from `@a0` on, each the one before it twice. The tree of `@aK` has two to the power of K
-// and two nodes, less one.
+// One proposition, and the aliases from `@a0` on, each the one before it twice. The tree of `@aK` has two to the power
+// of K and two nodes, less one.
 const UP_TO_14: Piece<'static> = (
     "HOA: v1 AP: 1 \"a\" Acceptance: 0 t Alias: @a0 0&0 Alias: @a1 @a0&@a0 Alias: @a2 @a1&@a1 Alias: @a3 @a2&@a2 \
      Alias: @a4 @a3&@a3 Alias: @a5 @a4&@a4 Alias: @a6 @a5&@a5 Alias: @a7 @a6&@a6 Alias: @a8 @a7&@a7 \
@@ -151,8 +151,8 @@ const STATE: Piece<'static> = (" --BODY-- State: 0 ", 1);
 
 const END: Piece<'static> = ("--END--", 1);
 
-// All labels together have at most 16,777,216 nodes, 256 times as many as one; aliases are not counted. A label of a state
-// is counted once, however many edges it has.
+// All labels together have at most 16,777,216 nodes, 256 times as many as one; aliases are not counted. A label of a
+// state is counted once, however many edges it has.
 static TOGETHER: [Row; 4] = [
     (&[UP_TO_14, STATE, ("[!@a14] 0 ", 256), END], 0),
     (
@@ -200,8 +200,8 @@ fn with_propositions(alloc: Global, count: u32, body: &str) -> Result<Vec<u8>, R
     Ok(text)
 }
 
-// So many propositions, a body, and the number of the refusal or 0: there are at most 1,024, and powers of two beyond what a
-// machine's number holds are told apart from all counts of edges.
+// So many propositions, a body, and the number of the refusal or 0: there are at most 1,024, and powers of two beyond
+// what a machine's number holds are told apart from all counts of edges.
 static PROPOSITIONS: [(u32, &str, u32); 10] = [
     (1024, " --BODY-- State: [1023] 0 --END--", 0),
     (1024, " --BODY-- State: [1024] 0 --END--", 26),

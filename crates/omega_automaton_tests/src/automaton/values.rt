@@ -198,7 +198,8 @@ fn are_labelled(alloc: Global, edges: &Edges) -> bool {
         && is_edge(alloc, &edges.edge(1), "!0|0", &[0], &[])
 }
 
-// Edges without labels, in a state where each leads to one state and is in one set at most, and in one where braces are empty.
+// Edges without labels, in a state where each leads to one state and is in one set at most,
+// and in one where braces are empty.
 #[test]
 fn edges_without_labels(rt: HostRuntime) {
     let body = "State: 0 1 {1} 0 State: 1 0 {} 1 {0}";

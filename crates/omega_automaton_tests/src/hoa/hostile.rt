@@ -1,5 +1,5 @@
-//! Limits of texts, and which refusal comes where there are several. The limits of what a text means are tried on automata
-//! alone (`automaton::limits`): a segment has the refusal of its automaton.
+//! Limits of texts, and which refusal comes where there are several. The limits of what a text means are tried on
+//! automata alone (`automaton::limits`): a segment has the refusal of its automaton.
 use super::{are_both, are_both_of, is_one, is_stream};
 use crate::outcomes::{Told, assert_row};
 use crate::texts::{Piece, text_of};
@@ -9,7 +9,8 @@ use std::test::Fail;
 const HEADER: Piece<'static> = ("HOA: v1 Acceptance: 0 ", 1);
 
 /// The pieces of a text, and what it is answered alone and as a stream: syntax comes before depth, which is that of the
-/// automaton's version, and before an atom; a million parentheses are not too many to be refused; and a number is too great.
+/// automaton's version, and before an atom; a million parentheses are not too many to be refused;
+/// and a number is too great.
 static TEXTS: [(&[Piece<'static>], Told); 5] = [
     (
         &[HEADER, ("(", 300), ("t", 1), (")", 300), (" --BODY-- ", 1)],

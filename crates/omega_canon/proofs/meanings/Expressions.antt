@@ -1,4 +1,5 @@
--- Labels and formulas as they are written: their numbers are those of the trees, and they are no deeper than what was read.
+-- Labels and formulas as they are written: their numbers are those of the trees,
+-- and they are no deeper than what was read.
 use Rattle.std.proofs.Common.{◌≡◌, ℕ, ◌≤◌, Bool, true, false, cond, nat_le, nat_lt, Option, Some, None, option_map, List, [], ◌∷◌, ◌++◌, ap, refl, ◌∙◌, subst, arith}
 use Rattle.std.specs.Prelude.{slice_get, option_and_then}
 use Rattle.std.specs.List.{AllByRecursion, list_any}

@@ -1,4 +1,5 @@
--- The faults of specifications: none where there is a game within the limits, and where there is none their game keeps the limits.
+-- The faults of specifications: none where there is a game within the limits,
+-- and where there is none their game keeps the limits.
 use Rattle.std.proofs.Common.{◌≡◌, ◌==◌, ℕ, ◌<◌, ◌≤◌, Bool, true, false, cond, List, length, map, get_or, Contains, All, Option, Some, None, sum_by, nat_lt, if◌then◌else◌, refl, sym, ◌∙◌, subst, arith, le-ltb, ltb-false, ne_eqb, eq-eqb}
 use Rattle.std.proofs.lemmas.List.{get_or-map, length-map}
 use Rattle.std.proofs.lemmas.List.Elements.{All-contains}

@@ -7,7 +7,8 @@ use Rattle.omega_game.specs.checking.Reaching.{left_at, mark_at, IsReached}
 abbrev pub origin_at : List (Option ℕ) → ℕ → Option ℕ
 origin_at origins i = slice_index_or origins i None
 
--- the place at an index is of priority at most the most, and listed or met along an edge left possible from one before it
+-- the place at an index is of priority at most the most, and listed or met along an edge left
+-- possible from one before it
 pub record IsMetInTree (nodes : List Node) (choices : List (Option ℕ)) (most : ℕ) (places met : List ℕ) (origins : List (Option ℕ)) (i : ℕ) : Type 0 where
   pub low : priority_at nodes (slice_index met i) ≤ most
   pub root : origin_at origins i ≡ None → Contains places (slice_index met i)

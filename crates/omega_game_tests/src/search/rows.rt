@@ -8,8 +8,8 @@ use std::alloc::Global;
 /// Identifier, priority and owner of a node, and its one or two successors.
 type Node = (u8, u8, Player, u8, Option<u8>);
 
-/// A game with a byte for each place: `0` or `1` for the winner where there is no choice; where there is one, for player
-/// 0 the place chosen as `a`, `b` or `c`, for player 1 as `A`, `B` or `C`.
+/// A game with a byte for each place: `0` or `1` for the winner where there is no choice; where there is one, for
+/// player 0 the place chosen as `a`, `b` or `c`, for player 1 as `A`, `B` or `C`.
 type Row = (&'static [Node], &'static [u8]);
 
 const ONE_EVEN_NODE: [Node; 1] = [(0, 0, Zero, 0, None)];

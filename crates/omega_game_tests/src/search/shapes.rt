@@ -26,8 +26,8 @@ fn are_given(winners: &[Player], zero: usize, one: usize) -> bool {
     count(winners, Zero) == zero && count(winners, One) == one
 }
 
-/// Adds so many times 1,024 nodes in a row, each leading to the next and the last to `back`, all of the least priority but
-/// the last, which has `last`.
+/// Adds so many times 1,024 nodes in a row, each leading to the next and the last to `back`, all of the least priority
+/// but the last, which has `last`.
 fn add_line(builder: &mut GameBuilder, rows: u16, last: u8, back: u8) -> Result<(), Refusal> {
     for row in 0..rows {
         for column in 0..1024u16 {
@@ -51,7 +51,8 @@ fn line(alloc: Global, rows: u16, last: u8, back: u8) -> Result<Game, Refusal> {
     }
 }
 
-/// So many rows, and the place to which the last node leads back: the first, so that the line is a cycle, or one near it.
+/// So many rows, and the place to which the last node leads back: the first, so that the line is a cycle,
+/// or one near it.
 static LINES: [(u16, u8); 4] = [(1, 0), (1, 200), (1024, 0), (1024, 200)];
 
 #[test]
@@ -65,8 +66,8 @@ fn the_greatest_priority_of_a_million_nodes_decides(rt: HostRuntime) {
     }
 }
 
-/// Adds nodes in a ring, the even ones of player 0 and priority 0, the odd ones of player 1 and priority 1. Each leads to the
-/// next two, so that each player can keep to own nodes.
+/// Adds nodes in a ring, the even ones of player 0 and priority 0, the odd ones of player 1 and priority 1. Each leads
+/// to the next two, so that each player can keep to own nodes.
 fn add_ladder(builder: &mut GameBuilder, rungs: u16) -> Result<(), Refusal> {
     let nodes = 2 * u32::from(rungs.max(1));
     for rung in 0..rungs {
@@ -97,7 +98,8 @@ fn on_a_ladder_each_player_wins_the_own_side(rt: HostRuntime) {
     }
 }
 
-/// Adds nodes each of which leads to all others; node i has priority i, and its player is the one who wins that priority.
+/// Adds nodes each of which leads to all others; node i has priority i,
+/// and its player is the one who wins that priority.
 fn add_clique(builder: &mut GameBuilder, nodes: u8) -> Result<(), Refusal> {
     for id in 0..nodes {
         let owner = if id % 2 == 0 { Zero } else { One };

@@ -6,8 +6,8 @@ use omega_solve::{Nested, Schedule, Sweep, Worklist};
 use std::alloc::Global;
 use std::process::Abort;
 
-/// Takes a schedule of so many places through steps, after which none is pending. A digit is the place to look at, which
-/// is taken out; one behind a `+` is made pending.
+/// Takes a schedule of so many places through steps, after which none is pending. A digit is the place to look at,
+/// which is taken out; one behind a `+` is made pending.
 fn follow<S: Schedule, R: Abort>(rt: &R, schedule: &mut S, places: u32, steps: &[u8])
     requires { length (S.waiting schedule.old).flags ≡ places }
     ensures { length (S.waiting schedule.new).flags ≡ places }
@@ -81,8 +81,8 @@ fn a_worklist_is_first_in_first_out(rt: HostRuntime) {
     follows::<Worklist, HostRuntime>(&rt, rt.alloc(), 4, b"01+1+0+22310+3+2+332");
 }
 
-/// A sweep, in which an added place waits, costs four takes; then focus has fuel for sixteen, in which an added place is the
-/// next one; and then a sweep again.
+/// A sweep, in which an added place waits, costs four takes; then focus has fuel for sixteen, in which an added place
+/// is the next one; and then a sweep again.
 static NESTED: &[u8] = b"01+0+1230+21+002+00+00+00+00+00+00+00+00+00+00+00+00+3+00+030";
 
 #[test]

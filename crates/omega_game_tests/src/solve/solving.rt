@@ -1,7 +1,7 @@
 //! The rows of small games, over each table and each schedule.
 //!
-//! A test is proved before it runs, and what owns a game or a solver over a `?` is slow to prove: so one function prepares,
-//! and the next one is lent what was prepared.
+//! A test is proved before it runs, and what owns a game or a solver over a `?` is slow to prove: so one function
+//! prepares, and the next one is lent what was prepared.
 use crate::samples::finish;
 use omega_budget::{Found, Reordered, Unwatched};
 use omega_game::{Game, GameBuilder, Player, Refusal, TaskFault, bound};
@@ -41,16 +41,16 @@ const A_CARRY: &[Node] = &[
     (2, 4, Player::Zero, 2, None),
 ];
 
-/// For player 0 the measure of node 1 is above that of node 2, but the allowances of node 0 towards them are equal, since
-/// its priority is above that of node 1.
+/// For player 0 the measure of node 1 is above that of node 2, but the allowances of node 0 towards them are equal,
+/// since its priority is above that of node 1.
 const EQUAL_ALLOWANCES: &[Node] = &[
     (0, 2, Player::Zero, 1, Some(2)),
     (1, 1, Player::Zero, 0, None),
     (2, 2, Player::One, 0, None),
 ];
 
-/// A game and a player; the bound, the number of lifts (none where it depends on the schedule) and the most attempts; and
-/// the answer: for each place `-` where the player does not win, the place chosen, or `.` where there is no choice.
+/// A game and a player; the bound, the number of lifts (none where it depends on the schedule) and the most attempts;
+/// and the answer: for each place `-` where the player does not win, the place chosen, or `.` where there is no choice.
 type Row<'a> = (&'a [Node], Player, u128, Option<u64>, u64, &'a [u8]);
 
 const ROWS: [Row<'static>; 14] = [
@@ -234,7 +234,8 @@ fn found<T: MeasureTable, S: Schedule>(
     }
 }
 
-/// Whether a game is solved as it should be within a budget, which is refused if it is less than the lifts that are needed.
+/// Whether a game is solved as it should be within a budget, which is refused if it is less than
+/// the lifts that are needed.
 fn is_within(found: Result<Found, Refusal>, needed: u64, budget: u64, wanted: &[u8]) -> bool {
     match found {
         Ok(found) => {
@@ -293,8 +294,8 @@ fn solves<T: MeasureTable, S: Schedule, R: Abort>(
     Ok(())
 }
 
-/// The same over each table and each schedule. In the nested order a run that ends while it lifts one place again and again
-/// may change the number of lifts, where that is not the same in each order.
+/// The same over each table and each schedule. In the nested order a run that ends while it lifts one place again and
+/// again may change the number of lifts, where that is not the same in each order.
 fn solves_by_all<R: Abort>(
     rt: &R,
     alloc: Global,

@@ -12,7 +12,8 @@ use Rattle.omega_hoa.specs.Feeding.{IsDivided}
 use Rattle.omega_hoa.specs.Stream.{IsStream, IsStreamFault}
 use Rattle.omega_hoa.specs.declared.item.Item.{Item}
 
--- the tokens so far are divided, and with those that are settled at the end they are the text's, up to its fault if it has one
+-- the tokens so far are divided, and with those that are settled at the end they are the text's,
+-- up to its fault if it has one
 pub record IsAtEnd (settled : Settled) (inside : Bool) (seen : List ℕ) (lexemes : List (Lexeme HoaKind)) (items : List Item) (begins : ℕ) : Type 0 where
   pub divided : IsDivided seen lexemes items begins inside
   pub finished : IsFinished settled.fault seen (lexemes ++ settled_lexemes seen settled)

@@ -10,7 +10,8 @@ use Rattle.omega_measure.specs.declared.field.Field.{Field}
 abbrev pub top_field : Field
 top_field = record { word = 0; shift = 63; bits = 1; limit = 1 }
 
--- a field behind another, for an entry up to a limit: as many bits as the limit needs, all in one word, none of them taken
+-- a field behind another, for an entry up to a limit: as many bits as the limit needs, all in one word,
+-- none of them taken
 pub record FollowsField (before : Field) (limit : ℕ) (field : Field) : Type 0 where
   pub greatest : field.limit ≡ limit
   pub wide : limit < 2 ^ field.bits
@@ -108,7 +109,8 @@ AreAtMost [] (x ∷ xs) = ⊥
 AreAtMost (limit ∷ limits) [] = ⊥
 AreAtMost (limit ∷ limits) (x ∷ xs) = (x ≤ limit) × AreAtMost limits xs
 
--- a row of words that holds digits in its fields and nothing else: each at most its limit, and where the flag for top is set all others 0
+-- a row of words that holds digits in its fields and nothing else: each at most its limit,
+-- and where the flag for top is set all others 0
 pub record IsPackedRow (fields : List Field) (row : List ℕ) : Type 0 where
   pub small : (j : ℕ) → j < length row → slice_index row j < 2 ^ 64
   pub whole : value (word_places (length row)) row ≡ value (field_places (length row) fields) (digits_in fields row)

@@ -16,8 +16,8 @@ pub record Borne : Type 0 where
 abbrev pub width_of : Player → List ℕ → ℕ
 width_of player priorities = length (losing_priorities player priorities)
 
--- the losing priorities, their limits, and for each place how many entries are for priorities at least its own; few enough places and
--- cells
+-- the losing priorities, their limits, and for each place how many entries are for priorities at least its own; few
+-- enough places and cells
 pub record IsShape (player : Player) (priorities losing limits kept : List ℕ) : Type 0 where
   pub losing_borne : losing ≡ losing_priorities player priorities
   pub falling : IsStrictlyFalling losing

@@ -25,7 +25,8 @@ pub record Completes {State : Type 0} (step : State → Symbol → Option State)
   pub runs : run_by step from more ≡ Some state
   pub ended : IsEnded state
 
--- an automaton decides a grammar: it runs to an end over each text of it, over nothing else, and can get there from everywhere
+-- an automaton decides a grammar: it runs to an end over each text of it, over nothing else,
+-- and can get there from everywhere
 pub record Decides {Raw State : Type 0} (Grammar : List Symbol → Raw → Type 0) (step : State → Symbol → Option State) (initial : State)
     (IsEnded : State → Type 0) (raw_of : State → Raw) : Type 0 where
   pub reads : (symbols : List Symbol) (raw : Raw) → Grammar symbols raw → Reads step initial IsEnded raw_of symbols raw

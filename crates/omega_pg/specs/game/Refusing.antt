@@ -1,4 +1,5 @@
--- Which refusal a game text meets, and their order: 4, then 1 or 2 at the least place, then 3, then the least of 10 to 14.
+-- Which refusal a game text meets, and their order: 4, then 1 or 2 at the least place, then 3,
+-- then the least of 10 to 14.
 use Rattle.std.specs.Prelude.{◌≡◌, ℕ, ◌≤◌, Bool, false, ◌⊎◌, Option, Some, None, List, length, nat_lt}
 use Rattle.std.specs.List.{list_any}
 use Rattle.omega_text.specs.Cases.{never, or_game, or_text}

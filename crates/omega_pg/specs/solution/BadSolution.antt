@@ -12,7 +12,8 @@ HasOtherNumber nodes raw = raw.greatest ≢ greatest_identifier nodes
 abbrev pub HasOtherIdentifiers : List Node → RawSolution → Type 0
 HasOtherIdentifiers nodes raw = map (λ line. line.identifier) raw.lines ≢ identifiers nodes
 
--- for the node at a place and its winner: a successor is missing where the owner wins, or stands where not, or is not in the node's list
+-- for the node at a place and its winner: a successor is missing where the owner wins, or stands where not,
+-- or is not in the node's list
 abbrev pub IsWrongSuccessor : List Node → ℕ → Player → Option ℕ → Type 0
 IsWrongSuccessor nodes v winner None = owner_at nodes v ≡ winner
 IsWrongSuccessor nodes v winner (Some id) =

@@ -1,4 +1,5 @@
--- What a call reads of tokens: it finds what they are written as, wherever others follow with which that does not go on.
+-- What a call reads of tokens: it finds what they are written as,
+-- wherever others follow with which that does not go on.
 use Rattle.std.specs.Prelude.{◌≡◌, Bool, false, List, [], ◌∷◌, Result, Ok, Err, IfOk}
 use Rattle.omega_acc.specs.Depth.{IsMemory}
 use Rattle.omega_acc.specs.Symbols.{IsUnread}
@@ -35,7 +36,8 @@ abbrev pub FoundThere : {X : Type 0} → Result X Refusal → Type 0 → Type 0
 FoundThere (Ok done) left = left
 FoundThere (Err refusal) left = IsMemory refusal
 
--- this is what was read: whatever the tokens that are left are written as, those before were written as this and then that
+-- this is what was read: whatever the tokens that are left are written as,
+-- those before were written as this and then that
 pub record Given {X : Type 0} (Is : X → Type 0) (row : X → List Symbol → List Symbol) (old new : Tokens) (it : X) : Type 0 where
   pub is : Is it
   pub spells : (others : List Symbol) (rest : Tokens) → Spells new others rest → Spells old (row it others) rest

@@ -13,8 +13,8 @@ use crate::taking::copied;
 use omega_text::{HoaKind, Refusal, TextFault, TokenSource};
 use std::alloc::Global;
 
-/// Reads what stands behind the header of this name, which is without its colon. Where no item has it 3 is answered at the
-/// header's place.
+/// Reads what stands behind the header of this name, which is without its colon. Where no item has it 3 is answered at
+/// the header's place.
 pub(crate) fn content<'a, S: TokenSource<'a, HoaKind>>(
     alloc: Global,
     name: &[u8],

@@ -184,7 +184,8 @@ below_top None None other some = absurd (false≢true some)
 below_top None (Some ys) other some = absurd (other refl)
 below_top (Some xs) y other some = refl
 
--- where no lift is due at the player's own place that is below top, the first least successor is its first of least allowance
+-- where no lift is due at the player's own place that is below top,
+-- the first least successor is its first of least allowance
 pub first_least : (nodes : List Node) (player : Player) (content : Content) (v w : ℕ)
     → IsGame nodes → IsTableOf nodes player content → length content.measures ≡ length nodes → MeasuresAreOrdered
     → AllowancesExist → AllowancesAreMonotone → AllowancesAreStrict

@@ -1,4 +1,5 @@
--- What a nested schedule keeps, at its start and after takes and adds: the flags of places follow the bits of their ranks.
+-- What a nested schedule keeps, at its start and after takes and adds:
+-- the flags of places follow the bits of their ranks.
 use Rattle.std.proofs.Common.{◌≡◌, ◌≢◌, ℕ, ◌+◌, ◌-◌, ◌/◌, ◌%◌, ◌<◌, ◌^◌, zero, suc, Bool, true, false, List, [], ◌∷◌, Option, Some, None, length, arith, refl, sym, ap, ◌∙◌, get_or, map, set, replicate, slice_index, subst}
 use Rattle.std.specs.List.{slice_get}
 use Rattle.std.specs.Int.{bit_at}

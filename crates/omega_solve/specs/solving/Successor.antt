@@ -20,7 +20,8 @@ abbrev pub order_from : Content → ℕ → ℕ → ℕ → Ordering
 order_from content p v w =
     compare_from content.player content.priorities p (measure_at content.measures v) (measure_at content.measures w)
 
--- x is the first best of the first `count` elements: none of them compares to it as wanted, and it compares so to each before it
+-- x is the first best of the first `count` elements: none of them compares to it as wanted,
+-- and it compares so to each before it
 pub record IsFirstBest (order : ℕ → ℕ → Ordering) (wanted : Ordering) (xs : List ℕ) (count : ℕ) (x : ℕ) : Type 0 where
   pub index : ℕ
   pub inside : index < count

@@ -4,7 +4,8 @@ use Rattle.omega_lift.specs.Measure.{Measure}
 use Rattle.omega_lift.specs.Allowance.{measure_at}
 use Rattle.omega_solve.specs.Schedule.{IsPending, Pending, waits}
 
--- the first `count` of the places are pending if they are below top, what was pending still is, and no more were added than that
+-- the first `count` of the places are pending if they are below top, what was pending still is,
+-- and no more were added than that
 pub record Wakes (table : List Measure) (places : List ℕ) (count : ℕ) (old new : Pending) : Type 0 where
   pub taken : new.taken ≡ old.taken
   pub entries : length new.flags ≡ length old.flags

@@ -104,7 +104,8 @@ quoted_run _ (plain byte rest no_quote no_backslash behind) =
     ap (λ mode. run (Some mode) (rest ++ 34 ∷ [])) (pass (byte == 34) _ _ (no_test byte 34 no_quote) ∙ pass (byte == 92) _ _ (no_test byte 92 no_backslash)) ∙ quoted_run rest behind
 quoted_run _ (escaped byte rest behind) = quoted_run rest behind
 
--- behind `*`, what does not begin with `/` is read as elsewhere in a comment, and so is what does not begin with `*` behind `/`
+-- behind `*`, what does not begin with `/` is read as elsewhere in a comment,
+-- and so is what does not begin with `*` behind `/`
 star_same : (around byte : ℕ) → byte ≢ 47 → star_mode around byte ≡ comment_mode around byte
 star_same around byte no_slash = ⊎_elim
     (λ (star, is). pass (byte == 47) _ _ (no_test byte 47 no_slash) ∙ choose (byte == 42) _ _ star ∙ sym (choose (byte == 42) _ _ star))

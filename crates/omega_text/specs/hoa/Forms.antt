@@ -77,7 +77,8 @@ abbrev pub IsUnit : Option HoaKind → List ℕ → Type 0
 IsUnit None text = IsBlank text
 IsUnit (Some kind) text = IsForm kind text
 
--- the text is the token of this kind and value: a number is written in decimal without needless zeros, and only numbers have a value
+-- the text is the token of this kind and value: a number is written in decimal without needless zeros,
+-- and only numbers have a value
 abbrev pub Spells : HoaKind → ℕ → List ℕ → Type 0
 Spells Int value text = (value ≤ most_number) × (text ≡ decimal value)
 Spells kind value text = (value ≡ 0) × IsForm kind text

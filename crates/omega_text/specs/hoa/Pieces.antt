@@ -32,7 +32,8 @@ pub record GoesOn (bytes : List ℕ) : Type 0 where
   pub longer : 0 < length more
   pub unit : IsUnit sort (bytes ++ more)
 
--- the cut begins with these tokens however the text goes on, and behind them is a gap and then what may be the beginning of a longer unit
+-- the cut begins with these tokens however the text goes on,
+-- and behind them is a gap and then what may be the beginning of a longer unit
 pub record Settles (seen : List ℕ) (lexemes : List (Lexeme HoaKind)) : Type 0 where
   pub end : ℕ
   pub gap : List ℕ

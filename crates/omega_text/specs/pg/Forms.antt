@@ -33,7 +33,8 @@ pub record IsLongest (bytes : List ℕ) (count : ℕ) : Type 0 where
   pub form : IsForm (take count bytes)
   pub longest : (more : ℕ) → count < more → more ≤ length bytes → IsForm (take more bytes) → ⊥
 
--- the text is the token of this kind and value: a number is written in decimal without needless zeros, and only numbers have a value
+-- the text is the token of this kind and value: a number is written in decimal without needless zeros,
+-- and only numbers have a value
 abbrev pub Spells : PgKind → ℕ → List ℕ → Type 0
 Spells Number value text = (value ≤ most_number) × (text ≡ decimal value)
 Spells Parity value text = (value ≡ 0) × (text ≡ codes "parity")

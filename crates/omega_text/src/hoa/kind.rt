@@ -1,8 +1,8 @@
 ghost use Rattle.std.specs.Prelude.{◌≡◌};
 ghost use Rattle.omega_text.specs.hoa.Forms.{spelling};
 
-/// What a token of a Hanoi text is. With the value of a number and the bytes of a name or a string it is all that a grammar
-/// sees of a token.
+/// What a token of a Hanoi text is. With the value of a number and the bytes of a name or a string it is all that a
+/// grammar sees of a token.
 #[derive(Clone, Copy, Debug, PartialEq, Eq)]
 pub enum HoaKind {
     /// A word that no colon follows directly, other than `t` and `f`.

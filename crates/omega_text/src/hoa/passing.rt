@@ -20,8 +20,8 @@ use super::tokenizer::read_byte;
 use crate::bytes::{tail, word_count};
 use crate::digits::{few_digits, has_needless_zero};
 
-/// The unit that is being read, with the bytes from a place on, up to one that settles a mark or a fault; and the place of
-/// that one, or the end. `start` is the place among the bytes of all.
+/// The unit that is being read, with the bytes from a place on, up to one that settles a mark or a fault; and the place
+/// of that one, or the end. `start` is the place among the bytes of all.
 pub(super) fn pass_bytes(
     pending: Pending,
     start: usize,
@@ -145,8 +145,8 @@ fn pass_plain(pending: Pending, start: usize, bytes: &[u8], from: usize) -> (Pen
     }
 }
 
-/// White bytes, signs, words, numbers, strings and alias names, as far as they are ended one behind the other; and the unit
-/// that is not.
+/// White bytes, signs, words, numbers, strings and alias names, as far as they are ended one behind the other; and the
+/// unit that is not.
 #[inline(always)]
 fn pass_simple(start: usize, bytes: &[u8], from: usize) -> (Pending, usize)
     requires within { from ≤ length bytes.now }

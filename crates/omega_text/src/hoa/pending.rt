@@ -36,7 +36,8 @@ impl Pending {
         }
     }
 
-    /// With one byte more, which ends at this place and by which the unit has come so far; and the token that is whole then.
+    /// With one byte more, which ends at this place and by which the unit has come so far;
+    /// and the token that is whole then.
     #[inline(always)]
     pub(crate) fn grow(self, next: KeptMode, byte: u8, end: usize) -> (Pending, Option<PlacedToken>)
         requires { self.start < end }

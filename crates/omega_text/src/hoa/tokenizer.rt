@@ -12,12 +12,13 @@ use super::pending::Pending;
 use super::placed::{PlacedToken, Settled};
 use crate::refusal::TextFault;
 
-/// Cuts a Hanoi text that comes byte by byte, in pieces of any length, into the tokens that `hoa_tokens` gives of the whole.
+/// Cuts a Hanoi text that comes byte by byte, in pieces of any length,
+/// into the tokens that `hoa_tokens` gives of the whole.
 ///
-/// It keeps a few words and takes no memory. A token is settled by the first byte that is not part of it, or at the end;
-/// signs, marks, header names and strings by their last byte. A fault is settled by the first byte that rules out a token,
-/// that of a number when its digits have ended, that of a string or comment without end at the end. Behind a fault nothing
-/// more is settled.
+/// It keeps a few words and takes no memory. A token is settled by the first byte that is not part of it, or at the
+/// end; signs, marks, header names and strings by their last byte. A fault is settled by the first byte that rules out
+/// a token, that of a number when its digits have ended, that of a string or comment without end at the end. Behind a
+/// fault nothing more is settled.
 #[derive(Clone, Copy, Debug, PartialEq, Eq)]
 pub struct HoaTokenizer {
     pending: Pending,
@@ -65,11 +66,11 @@ impl HoaTokenizer {
         }
     }
 
-    /// Reads the bytes from a place on, up to one that settles a mark or a fault, and gives the place of that one, or the end.
-    /// The tokens that are settled before it are not given.
+    /// Reads the bytes from a place on, up to one that settles a mark or a fault, and gives the place of that one, or
+    /// the end. The tokens that are settled before it are not given.
     ///
-    /// It does what as many steps do, in a fraction of their time: each byte is looked at once, or a few times where it ends a
-    /// word or a number, or stands in a mark or a number of many digits.
+    /// It does what as many steps do, in a fraction of their time: each byte is looked at once, or a few times where it
+    /// ends a word or a number, or stands in a mark or a number of many digits.
     pub fn pass(&mut self, bytes: &[u8], from: usize) -> usize
         requires within { from ≤ length bytes.now }
         requires room { HasRoom (length bytes.now - from) self.old }

@@ -1,4 +1,5 @@
--- How an acceptance formula as it is written lies in memory: its tree in postfix order, and its atoms' names one after another.
+-- How an acceptance formula as it is written lies in memory: its tree in postfix order,
+-- and its atoms' names one after another.
 use Rattle.std.specs.Prelude.{◌≡◌, ℕ, false, List, [], ◌∷◌, ◌++◌, length, take, drop}
 use Rattle.std.specs.Coded.{Coded, code_by, coded_list, coded×, coded_ℕ}
 use Rattle.omega_acc.specs.Depth.{counted}

@@ -78,7 +78,8 @@ mask place =
     if place == 0 then 12297829382473034410 else (if place == 1 then 14757395258967641292 else (if place == 2 then 17361641481138401520
     else (if place == 3 then 18374966859414961920 else (if place == 4 then 18446462603027742720 else 18446744069414584320))))
 
--- the word of the proposition at a place, under the 64 valuations of a block: the valuation's number has the bit of that place
+-- the word of the proposition at a place, under the 64 valuations of a block:
+-- the valuation's number has the bit of that place
 abbrev pub pattern : ℕ → ℕ → ℕ
 pattern block place = if nat_lt place 6 then mask place else word_of_truth (bit_at block (place - 6) == 1)
 

@@ -1,4 +1,5 @@
--- What holds in the loop of `multiplied`: the number times the factors of the priorities counted, where that is a `u128`.
+-- What holds in the loop of `multiplied`: the number times the factors of the priorities counted,
+-- where that is a `u128`.
 use Rattle.std.proofs.Common.{◌≡◌, ◌*◌, ◌<◌, ◌^◌, map, drop}
 use Rattle.omega_game.specs.Bound.{product}
 use Rattle.omega_game.specs.priorities.Factors.{factor_of}

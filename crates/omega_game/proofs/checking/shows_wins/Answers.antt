@@ -1,4 +1,5 @@
--- `shows_wins`: where an order shows that no losing place that is reached recurs, the choices win from each of the places.
+-- `shows_wins`: where an order shows that no losing place that is reached recurs,
+-- the choices win from each of the places.
 use Rattle.std.proofs.Common.{List, Bool, sym, subst, arith}
 use Rattle.omega_game.specs.checking.Reaching.{AreReached}
 use Rattle.omega_game.proofs.walks.Marking.{reached_closed}

@@ -1,4 +1,5 @@
--- `wins_fast`: whether choices that are a strategy of the player win from each of the places, where the fast search is confirmed.
+-- `wins_fast`: whether choices that are a strategy of the player win from each of the places,
+-- where the fast search is confirmed.
 use Rattle.std.proofs.Common.{List, Bool, Option, sym, ◌∙◌, subst, arith}
 use Rattle.std.specs.Prelude.{IfSome}
 use Rattle.omega_game.specs.declared.checking.decision.Decision.{Decision}

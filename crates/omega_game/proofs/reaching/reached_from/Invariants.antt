@@ -1,4 +1,5 @@
--- What holds in the loop of `reached_from`: marks the places that are reached from the given ones through priorities at most `most`.
+-- What holds in the loop of `reached_from`: marks the places that are reached from the given ones through
+-- priorities at most `most`.
 use Rattle.std.proofs.Common.{◌+◌, not, length, count_by}
 use Rattle.omega_game.proofs.walks.Marking.{IsSearch}
 use Rattle.omega_game.proofs.reaching.reached_from.Given as goal

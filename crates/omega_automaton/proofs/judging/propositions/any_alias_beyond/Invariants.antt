@@ -1,4 +1,5 @@
--- What holds in the loop of `any_alias_beyond`: no definition so far mentions a proposition that is not below the count.
+-- What holds in the loop of `any_alias_beyond`: no definition so far mentions a proposition
+-- that is not below the count.
 use Rattle.std.proofs.Common.{◌≡◌, false, take}
 use Rattle.std.specs.List.{list_any}
 use Rattle.omega_acc.specs.label.Expanding.{Defined}

@@ -1,4 +1,5 @@
--- What holds in the loop of `decide_plainly`: decides whether no marked place of a priority that loses for the player recurs.
+-- What holds in the loop of `decide_plainly`: decides whether no marked place of a priority that
+-- loses for the player recurs.
 use Rattle.std.proofs.Common.{ℕ, ◌<◌, IsTrue}
 use Rattle.omega_game.specs.Game.{priority_at}
 use Rattle.omega_game.specs.Player.{loses}

@@ -1,4 +1,5 @@
--- What holds in the loop of `Lists::picked`: the lists at these indices, in their order, an empty one where there is none.
+-- What holds in the loop of `Lists::picked`: the lists at these indices, in their order,
+-- an empty one where there is none.
 use Rattle.std.proofs.Common.{◌≡◌, [], map, take, get_or}
 use Rattle.omega_game.proofs.lists.Lists.picked.Given as goal
 

@@ -1,4 +1,5 @@
--- What holds in the loop of `met_from`: meets the places that are reached from the given ones through priorities at most `most`.
+-- What holds in the loop of `met_from`: meets the places that are reached from the given ones through
+-- priorities at most `most`.
 use Rattle.std.proofs.Common.{◌+◌, ◌-◌, not, length, count_by}
 use Rattle.omega_game.proofs.walks.Meeting.{IsBreadthSearch}
 use Rattle.omega_game.proofs.refuting.breadth.met_from.Given as goal

@@ -1,4 +1,5 @@
--- What holds in the loop of `Strategy::fits`: whether there is an entry for each place, and each choice is a listed successor of a node that the player owns.
+-- What holds in the loop of `Strategy::fits`: whether there is an entry for each place,
+-- and each choice is a listed successor of a node that the player owns.
 use Rattle.std.proofs.Common.{◌≡◌, ℕ, ◌<◌}
 use Rattle.omega_game.specs.Game.{HasEdge, owner_at}
 use Rattle.omega_game.specs.Winning.{Chooses}

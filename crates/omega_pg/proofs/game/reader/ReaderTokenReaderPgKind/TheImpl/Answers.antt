@@ -1,4 +1,5 @@
--- `Reader` as a reader of tokens: what it takes begins a game text, what it refuses does not, and where it ends is a text.
+-- `Reader` as a reader of tokens: what it takes begins a game text, what it refuses does not,
+-- and where it ends is a text.
 use Rattle.omega_text.specs.Lexeme.{lexeme_of}
 use Rattle.omega_pg.specs.game.reader.Reader.{state_of}
 use Rattle.omega_pg.specs.declared.game.reader.Reader.{Reader}
