@@ -7,7 +7,7 @@ use Rattle.omega_game.specs.Game.{Node}
 use Rattle.omega_game.specs.declared.player.Player.{Player}
 use Rattle.omega_hoa.specs.Alone.{IsAutomatonRefusal}
 use Rattle.omega_automaton_answers.specs.Watching.{LiftsAutomatonText}
-use Rattle.omega_watch.proofs.Watched.{made_refused}
+use Rattle.omega_budget.proofs.Watched.{made_refused}
 
 -- no text of an automaton is refused for the budget
 pub text_spares : (text : List ℕ) → IsAutomatonRefusal text (Task Budget) → ⊥

@@ -1,7 +1,7 @@
 ghost use Rattle.std.specs.Prelude.{◌≡◌, ◌≤◌, IfOk, IfErr, IsOkUnless, OnOk};
 ghost use Rattle.omega_automaton_answers.specs.empty.Answer.{IsEmptyAnswer, IsEmptyRefusal, IsEmptySearchAnswer, IsEmptySearchRefusal, emptiness_text};
 ghost use Rattle.omega_automaton_answers.specs.Watching.{LiftsAutomatonText};
-ghost use Rattle.omega_watch.specs.Watching.{IsWatched, refusal_in};
+ghost use Rattle.omega_budget.specs.Watching.{IsWatched, refusal_in};
 ghost use Rattle.omega_empty.specs.Refusing.{IsGameRefusal, IsGiven};
 ghost use Rattle.omega_empty.specs.Verdict.{IsDecidedWithin, IsEmptinessRefusal, IsVerdict};
 ghost use Rattle.omega_empty.specs.Watching.{LiftsAutomaton};
@@ -14,9 +14,9 @@ mod lasso_text;
 use crate::automaton_text::automaton_in;
 use lasso_text::lasso_text;
 use omega_automaton::Automaton;
+use omega_budget::Watch;
 use omega_empty::{Verdict, emptiness_watched, lasso};
 use omega_game::Refusal;
-use omega_watch::Watch;
 use std::alloc::Global;
 
 /// An accepting lasso of the automaton that a text stands for, or `empty` where no lasso accepts, by lifting in the

@@ -1,15 +1,14 @@
 -- What deciding emptiness answers: an accepting lasso, `Empty` only where no lasso accepts, or a refusal.
-use Rattle.std.specs.Prelude.{◌≡◌, ◌⊎◌, List, ℕ, true, false}
+use Rattle.std.specs.Prelude.{◌≡◌, ◌⊎◌, List, ℕ, false}
 use Rattle.omega_text.specs.Cases.{never, or_game, or_memory, or_task}
 use Rattle.omega_text.specs.declared.refusal.Refusal.{Refusal}
 use Rattle.omega_text.specs.declared.refusal.game.GameFault.TheVariants.{TooManyNodes}
 use Rattle.omega_text.specs.declared.refusal.task.TaskFault.{TaskFault}
-use Rattle.omega_text.specs.declared.refusal.task.TaskFault.TheVariants.{Budget, TooWide}
 use Rattle.omega_automaton.specs.Automaton.{Description}
 use Rattle.omega_game.specs.Game.{Node, priorities}
 use Rattle.omega_game.specs.declared.player.Player.TheVariants.{Zero}
 use Rattle.omega_measure.specs.Table.{is_too_wide}
-use Rattle.omega_solve.specs.Within.{EndsWithin, GoesOnAfter}
+use Rattle.omega_budget.specs.Within.{EndsWithin, IsSolvingFault}
 use Rattle.omega_empty.specs.EmptinessGame.{IsEmptinessGame}
 use Rattle.omega_empty.specs.Lasso.{IsAcceptingLasso}
 use Rattle.omega_empty.specs.Refusing.{IsGiven, IsTaskFault, IsTooLarge}
@@ -20,12 +19,6 @@ use Rattle.omega_empty.specs.declared.verdict.Verdict.TheVariants.{Empty, Lasso}
 abbrev pub IsVerdict : Description → Verdict → Type 0
 IsVerdict a Empty = (stem cycle : List ℕ) → ¬ IsAcceptingLasso a stem cycle
 IsVerdict a (Lasso stem cycle) = IsAcceptingLasso a stem cycle
-
--- the fault of solving an emptiness game for player 0: it is too wide, or else a lifting run of exactly the budget's entries leaves a lift due
-abbrev pub IsSolvingFault : ℕ → List Node → TaskFault → Type 0
-IsSolvingFault budget game TooWide = is_too_wide Zero (priorities game) ≡ true
-IsSolvingFault budget game Budget = (is_too_wide Zero (priorities game) ≡ false) × GoesOnAfter game Zero budget
-IsSolvingFault budget game fault = ⊥
 
 -- a game is solved for player 0 within a budget: it is not too wide, and so many lifts, at most the budget, leave none due
 pub record IsSolvedWithin (budget : ℕ) (game : List Node) : Type 0 where
@@ -39,12 +32,12 @@ pub record IsDecidedWithin (budget : ℕ) (a : Description) : Type 0 where
   pub game_is : IsEmptinessGame a game
   pub solved : IsSolvedWithin budget game
 
--- the automaton has an emptiness game, none of 13, 40, 41 and 42 applies, and solving the game has this fault
+-- the automaton has an emptiness game, none of 13, 40, 41 and 42 applies, and solving the game for player 0 has this fault
 pub record IsUnsolved (a : Description) (budget : ℕ) (fault : TaskFault) : Type 0 where
   pub given : IsGiven a
   pub game : List Node
   pub game_is : IsEmptinessGame a game
-  pub fault_there : IsSolvingFault budget game fault
+  pub fault_there : IsSolvingFault game Zero budget fault
 
 -- the refusal of deciding emptiness: that of the emptiness game, or else the fault of solving it
 abbrev pub IsEmptinessRefusal : Description → ℕ → Refusal → Type 0

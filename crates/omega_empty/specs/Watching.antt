@@ -5,7 +5,7 @@ use Rattle.omega_automaton.specs.Automaton.{Description}
 use Rattle.omega_game.specs.declared.player.Player.{Player}
 use Rattle.omega_game.specs.declared.player.Player.TheVariants.{Zero}
 use Rattle.omega_game.specs.Game.{Node}
-use Rattle.omega_watch.specs.Watching.{AreMade}
+use Rattle.omega_budget.specs.Watching.{AreMade}
 use Rattle.omega_empty.specs.EmptinessGame.{IsEmptinessGame}
 
 -- the run is made in an emptiness game of the automaton, for player 0

@@ -2,14 +2,14 @@ ghost use Rattle.std.specs.Prelude.{◌≡◌, ◌≤◌, IfErr, IfOk, IsOkUnles
 ghost use Rattle.omega_game.specs.declared.player.Player.TheVariants.{Zero};
 ghost use Rattle.omega_solve.specs.Headline.{IsExact};
 ghost use Rattle.omega_solve.specs.Limits.{most_lifts};
-ghost use Rattle.omega_solve.specs.Within.{IsFound};
-ghost use Rattle.omega_watch.specs.Watching.{IsWatched, refusal_in};
+ghost use Rattle.omega_budget.specs.Watching.{IsWatched, refusal_in};
+ghost use Rattle.omega_budget.specs.Within.{IsFound, IsSolvingRefusal};
 ghost use Rattle.omega_empty.specs.EmptinessGame.{IsEmptinessGame};
 ghost use Rattle.omega_empty.specs.Refusing.{IsGiven};
 ghost use Rattle.omega_empty.specs.Verdict.{IsDecidedWithin, IsEmptinessRefusal, IsSolvedWithin, IsVerdict};
 ghost use Rattle.omega_empty.specs.Watching.{LiftsAutomaton};
 ghost use Rattle.omega_empty.specs.layout.Following.{IsWonStart};
-ghost use Rattle.omega_empty.specs.layout.Solving.{IsSolvingRefusal, LiftsGame};
+ghost use Rattle.omega_empty.specs.layout.Solving.{LiftsGame};
 
 use crate::following::follow_choices;
 use crate::game_laws::unwon_is_empty;
@@ -17,10 +17,9 @@ use crate::games::emptiness_game;
 use crate::starting::won_start;
 use crate::verdict::Verdict;
 use omega_automaton::{Automaton, Refusal};
+use omega_budget::{Found, Reordered, Unwatched, Watch};
 use omega_game::{Game, Player};
-use omega_solve::{Found, Nested, PackedTable, Solver};
 use omega_text::Seq;
-use omega_watch::{Renaming, Unwatched, Watch, found_watched};
 use std::alloc::Global;
 
 /// Whether an automaton is empty, or an accepting lasso, found with at most so many lifts in its emptiness game. Refused
@@ -67,20 +66,11 @@ fn found_in<L, W: Watch<L>>(
     requires { budget ≤ most_lifts }
     ensures found { IfOk result (IsFound game.now Zero budget) }
     ensures solved { OnOk result (IsSolvedWithin budget game.now) }
-    ensures refused { IfErr result (IsSolvingRefusal budget game.now) }
+    ensures refused { IfErr result (IsSolvingRefusal game.now Zero budget) }
     ensures told { IsWatched (LiftsGame game.now) (refusal_in result) (W.tells watch.now) (W.pace watch.now) budget listener.old listener.new }
 {
-    let renaming = Renaming::of(alloc, game)?;
-    let solver: Solver<'_, PackedTable, Nested> = renaming.prepare(alloc, Player::Zero)?;
-    found_watched(
-        alloc,
-        solver,
-        &renaming,
-        Player::Zero,
-        budget,
-        watch,
-        listener,
-    )
+    let reordered = Reordered::of(alloc, game)?;
+    reordered.solve(alloc, Player::Zero, budget, watch, listener)
 }
 
 /// What an exact answer for player 0 in the emptiness game of an automaton says of it. The lasso begins at the first start

@@ -6,8 +6,8 @@ ghost use Rattle.omega_empty.specs.layout.Following.{IsKnotted, IsWonStart};
 
 use crate::game_laws::won_walks_accept;
 use omega_automaton::{Automaton, Refusal};
+use omega_budget::Found;
 use omega_game::Game;
-use omega_solve::Found;
 use std::alloc::Global;
 
 /// Edges passed one behind the other, of which the last leads back to where the knot's begins.

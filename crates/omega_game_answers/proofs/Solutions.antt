@@ -12,8 +12,8 @@ use Rattle.omega_game.specs.declared.solution.Solution.{Solution}
 use Rattle.omega_game.specs.Solution.{GivesRegions, choices_of, winner_at}
 use Rattle.omega_region.specs.Laws.{RegionsAreApart, RegionsCover}
 use Rattle.omega_solve.specs.Headline.{IsExact}
-use Rattle.omega_solve.specs.Within.{EndsWithin, IsFound}
-use Rattle.omega_solve.specs.declared.found.Found.{Found}
+use Rattle.omega_budget.specs.Within.{EndsWithin, IsFound}
+use Rattle.omega_budget.specs.declared.found.Found.{Found}
 use Rattle.omega_game_answers.specs.solve.Solution.{IsRight}
 use Rattle.omega_game_answers.specs.steps.Winners.{winner_of, winners_of}
 use Rattle.omega_game_answers.proofs.Places.{slice_get-true}

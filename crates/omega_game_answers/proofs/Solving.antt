@@ -1,5 +1,5 @@
 -- What was found within a budget is a right answer, and which refusals of its parts are those of solving.
-use Rattle.std.proofs.Common.{◌≡◌, ℕ, ◌+◌, ◌<◌, length, Bool, true, false, List, Option, Some, None, is_some, ap, subst, arith}
+use Rattle.std.proofs.Common.{◌≡◌, ℕ, ◌+◌, ◌<◌, length, Bool, true, false, List, Option, Some, None, Result, is_some, ap, subst, arith}
 use Rattle.std.specs.List.{Contains, slice_get}
 use Rattle.std.proofs.lemmas.Option.{get_or_from_slice_get, slice_get_within}
 use Rattle.omega_text.specs.declared.refusal.Refusal.{Refusal}
@@ -7,12 +7,12 @@ use Rattle.omega_text.specs.declared.refusal.Refusal.TheVariants.{Automaton, Gam
 use Rattle.omega_text.specs.declared.refusal.task.TaskFault.TheVariants.{BadSolution, Budget, NotParity, TooManyPropositions, TooWide, UniversalBranch, UnknownNode}
 use Rattle.omega_game.specs.declared.player.Player.{Player}
 use Rattle.omega_game.specs.Game.{Node, priorities}
-use Rattle.omega_measure.specs.Table.{IsPrepareRefusal, is_too_wide}
-use Rattle.omega_watch.specs.Watching.{TellsRun}
-use Rattle.omega_watch.specs.declared.watching.Progress.{Progress}
+use Rattle.omega_measure.specs.Table.{is_too_wide}
 use Rattle.omega_solve.specs.Headline.{IsExact}
-use Rattle.omega_solve.specs.Within.{IsBudgetRefusal, IsFound}
-use Rattle.omega_solve.specs.declared.found.Found.{Found}
+use Rattle.omega_budget.specs.Watching.{TellsSolving}
+use Rattle.omega_budget.specs.Within.{IsFound, IsSolvingRefusal}
+use Rattle.omega_budget.specs.declared.found.Found.{Found}
+use Rattle.omega_budget.specs.declared.watching.Progress.{Progress}
 use Rattle.omega_game_answers.specs.Part.{IsPartFrom}
 use Rattle.omega_game_answers.specs.solve.AnswerText.{IsAnswerOf, WinsExactly, answer_text}
 use Rattle.omega_game_answers.specs.declared.solve.asked.Asked.{Asked}
@@ -70,17 +70,23 @@ right_answer nodes player budget found output narrow is_found written = record {
 
 -- ---- refusals
 
--- what is refused for a player's budget is refused of the game, which is too wide for no player for whom it is solved
-pub refused-budget : (nodes : List Node) (asked : Asked) (player : Player) (budget : ℕ) (refusal : Refusal)
-    → ((other : Player) → IsSolvedFor asked other → is_too_wide other (priorities nodes) ≡ false) → IsSolvedFor asked player
-    → IsBudgetRefusal nodes player budget refusal → IsSolveGameRefusal nodes asked None budget refusal
-refused-budget nodes asked player budget (Task fault) narrow solved_for (e, unfinished) =
-    rw e (record { narrow = narrow; player = player; solved_for = solved_for; unfinished = unfinished })
-refused-budget nodes asked player budget Memory narrow solved_for h = tt
-refused-budget nodes asked player budget (Text fault) narrow solved_for h = h
-refused-budget nodes asked player budget (Game fault) narrow solved_for h = h
-refused-budget nodes asked player budget (Automaton fault) narrow solved_for h = h
-refused-budget nodes asked player budget Io narrow solved_for h = h
+-- what refuses solving for a player refuses the game: where it is too wide for this player, or else for no player for whom it is solved
+pub refused-solving : (nodes : List Node) (asked : Asked) (player : Player) (budget : ℕ) (refusal : Refusal)
+    → (is_too_wide player (priorities nodes) ≡ false → (other : Player) → IsSolvedFor asked other → is_too_wide other (priorities nodes) ≡ false)
+    → IsSolvedFor asked player → IsSolvingRefusal nodes player budget refusal → IsSolveGameRefusal nodes asked None budget refusal
+refused-solving nodes asked player budget (Task TooWide) narrow solved_for wide = record { player = player; solved_for = solved_for; wide = wide }
+refused-solving nodes asked player budget (Task Budget) narrow solved_for (fits, unfinished) =
+    record { narrow = narrow fits; player = player; solved_for = solved_for; unfinished = unfinished }
+refused-solving nodes asked player budget (Task BadSolution) narrow solved_for h = absurd h
+refused-solving nodes asked player budget (Task NotParity) narrow solved_for h = absurd h
+refused-solving nodes asked player budget (Task TooManyPropositions) narrow solved_for h = absurd h
+refused-solving nodes asked player budget (Task UniversalBranch) narrow solved_for h = absurd h
+refused-solving nodes asked player budget (Task UnknownNode) narrow solved_for h = absurd h
+refused-solving nodes asked player budget Memory narrow solved_for h = tt
+refused-solving nodes asked player budget (Text fault) narrow solved_for h = h
+refused-solving nodes asked player budget (Game fault) narrow solved_for h = h
+refused-solving nodes asked player budget (Automaton fault) narrow solved_for h = h
+refused-solving nodes asked player budget Io narrow solved_for h = h
 
 -- what refuses taking the part of a node refuses the solving from it
 pub refused-unknown : (game : List Node) (asked : Asked) (identifier budget : ℕ) (refusal : Refusal)
@@ -109,16 +115,6 @@ refused-part game asked identifier budget part (Game fault) part_of h = h
 refused-part game asked identifier budget part (Automaton fault) part_of h = h
 refused-part game asked identifier budget part Io part_of h = h
 
--- what refuses a table for a player refuses the solving for the player
-pub refused-prepare : (nodes : List Node) (asked : Asked) (player : Player) (budget : ℕ) (refusal : Refusal) → IsSolvedFor asked player
-    → IsPrepareRefusal player (priorities nodes) refusal → IsSolveGameRefusal nodes asked None budget refusal
-refused-prepare nodes asked player budget (Task fault) solved_for (e, wide) = rw e (record { player = player; solved_for = solved_for; wide = wide })
-refused-prepare nodes asked player budget Memory solved_for h = tt
-refused-prepare nodes asked player budget (Text fault) solved_for h = h
-refused-prepare nodes asked player budget (Game fault) solved_for h = h
-refused-prepare nodes asked player budget (Automaton fault) solved_for h = h
-refused-prepare nodes asked player budget Io solved_for h = h
-
 -- a game that is too wide refuses the solving
 pub refused-wide : (nodes : List Node) (asked : Asked) (budget : ℕ) (refusal : Refusal) → (refusal ≡ Task TooWide) × IsTooWide nodes asked
     → IsSolveGameRefusal nodes asked None budget refusal
@@ -130,18 +126,15 @@ module _ (nodes others : List Node) (same : nodes ≡ others) (player : Player) 
   pub narrow_for : is_too_wide player (priorities nodes) ≡ false → is_too_wide player (priorities others) ≡ false
   narrow_for narrow = subst (λ (n : List Node). is_too_wide player (priorities n) ≡ false) same narrow
 
-  pub prepare_for : (refusal : Refusal) → IsPrepareRefusal player (priorities nodes) refusal → IsPrepareRefusal player (priorities others) refusal
-  prepare_for refusal refused = subst (λ (n : List Node). IsPrepareRefusal player (priorities n) refusal) same refused
-
-  pub budget_for : (budget : ℕ) (refusal : Refusal) → IsBudgetRefusal nodes player budget refusal → IsBudgetRefusal others player budget refusal
-  budget_for budget refusal refused = subst (λ (n : List Node). IsBudgetRefusal n player budget refusal) same refused
+  pub solving_for : (budget : ℕ) (refusal : Refusal) → IsSolvingRefusal nodes player budget refusal → IsSolvingRefusal others player budget refusal
+  solving_for budget refusal refused = subst (λ (n : List Node). IsSolvingRefusal n player budget refusal) same refused
 
   pub found_for : (budget : ℕ) (found : Found) → IsFound nodes player budget found → IsFound others player budget found
   found_for budget found is = subst (λ (n : List Node). IsFound n player budget found) same is
 
-  pub told_for : {L : Type 0} (tells : Progress → L → L → Type 0) (every budget : ℕ) (refusal : Option Refusal) (before after : L)
-      → TellsRun tells every nodes player budget refusal before after → TellsRun tells every others player budget refusal before after
-  told_for tells every budget refusal before after told = subst (λ (n : List Node). TellsRun tells every n player budget refusal before after) same told
+  pub told_for : {L : Type 0} (tells : Progress → L → L → Type 0) (every budget : ℕ) (result : Result Found Refusal) (before after : L)
+      → TellsSolving tells every nodes player budget result before after → TellsSolving tells every others player budget result before after
+  told_for tells every budget result before after told = subst (λ (n : List Node). TellsSolving tells every n player budget result before after) same told
 
 -- a place won has a node
 pub won_within : (nodes : List Node) (player : Player) (budget : ℕ) (found : Found) → IsFound nodes player budget found → (v : ℕ)

@@ -9,9 +9,9 @@ use Rattle.omega_pg.specs.game.Refusing.{IsReadRefusal}
 use Rattle.omega_game_answers.specs.Watching.{AreRuns, LiftsWholeGame}
 use Rattle.omega_game_answers.specs.declared.solve.asked.Asked.{Asked}
 use Rattle.omega_game_answers.specs.declared.solve.asked.Asked.TheVariants as way
-use Rattle.omega_watch.specs.Watching.{IsWatched}
-use Rattle.omega_watch.specs.declared.watching.Progress.{Progress}
-use Rattle.omega_watch.proofs.Watched.{made_refused, watched_as}
+use Rattle.omega_budget.specs.Watching.{IsWatched}
+use Rattle.omega_budget.specs.declared.watching.Progress.{Progress}
+use Rattle.omega_budget.proofs.Watched.{made_refused, watched_as}
 
 -- all runs stay made, whatever refuses it later but the budget
 pub runs_refused : (asked : Asked) (players : List Player) (refusal : Refusal) → refusal ≢ Task Budget

@@ -8,7 +8,7 @@ use Rattle.omega_game_answers.specs.Part.{IsPartFrom}
 use Rattle.omega_game_answers.specs.Verify.{IsJudgedGame}
 use Rattle.omega_game_answers.specs.declared.solve.asked.Asked.{Asked}
 use Rattle.omega_game_answers.specs.declared.solve.asked.Asked.TheVariants as way
-use Rattle.omega_watch.specs.Watching.{AreMade, IsSpent}
+use Rattle.omega_budget.specs.Watching.{AreMade, IsSpent}
 
 -- for whom a game is lifted, until the run of one is refused; a search that answers makes no run
 abbrev pub AreRuns : Asked → Option Refusal → List Player → Type 0

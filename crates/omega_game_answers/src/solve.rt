@@ -5,7 +5,7 @@ ghost use Rattle.omega_game_answers.specs.solve.Refusing.{IsSolveRefusal};
 ghost use Rattle.omega_game_answers.specs.solve.Solving.{IsSolveAnswer, SolvesPart, SolvesWhole};
 ghost use Rattle.omega_game_answers.specs.steps.SolveGameRefusal.{IsSolveGameRefusal};
 ghost use Rattle.omega_game_answers.specs.Watching.{LiftsWholeGame, LiftsPart, LiftsText};
-ghost use Rattle.omega_watch.specs.Watching.{IsWatched, refusal_in};
+ghost use Rattle.omega_budget.specs.Watching.{IsWatched, refusal_in};
 
 mod answer_text;
 pub mod asked;
@@ -17,10 +17,9 @@ use crate::game_text::game_of;
 use crate::part::part_from;
 use asked::Asked;
 use both::solve_both;
+use omega_budget::Watch;
 use omega_game::{Game, Refusal};
 use omega_region::regions_of_parts;
-use omega_solve::{MeasureTable, Schedule};
-use omega_watch::Watch;
 use one::solve_one;
 use searched::solve_by_judged_search;
 use std::alloc::Global;
@@ -28,7 +27,7 @@ use std::alloc::Global;
 /// The answer text of a player for the game that a text stands for, or its solution text. Where
 /// an identifier is given, that of the part that its node reaches. The listener is told of each run.
 /// 1 to 4, 10 to 14, 54, 50, 51 or 60.
-pub fn solve_game<T: MeasureTable, S: Schedule, L, W: Watch<L>>(
+pub fn solve_game<L, W: Watch<L>>(
     alloc: Global,
     text: Vec<u8>,
     asked: Asked,
@@ -44,15 +43,13 @@ pub fn solve_game<T: MeasureTable, S: Schedule, L, W: Watch<L>>(
 {
     let game = game_of(alloc, text)?;
     match from {
-        None => solve_whole::<T, S, L, W>(alloc, &game, asked, budget, watch, listener),
-        Some(identifier) => {
-            solve_part::<T, S, L, W>(alloc, game, asked, identifier, budget, watch, listener)
-        }
+        None => solve_whole(alloc, &game, asked, budget, watch, listener),
+        Some(identifier) => { solve_part(alloc, game, asked, identifier, budget, watch, listener) }
     }
 }
 
 /// The text for the part that the node with an identifier reaches. The game is let go. 54, 50, 51 or 60.
-fn solve_part<T: MeasureTable, S: Schedule, L, W: Watch<L>>(
+fn solve_part<L, W: Watch<L>>(
     alloc: Global,
     game: Game,
     asked: Asked,
@@ -69,11 +66,11 @@ fn solve_part<T: MeasureTable, S: Schedule, L, W: Watch<L>>(
     regions_of_parts();
     game.keeps_limits();
     let part = part_from(alloc, game, identifier)?;
-    solve_whole::<T, S, L, W>(alloc, &part, asked, budget, watch, listener)
+    solve_whole(alloc, &part, asked, budget, watch, listener)
 }
 
 /// The text for a whole game. 50, 51 or 60.
-fn solve_whole<T: MeasureTable, S: Schedule, L, W: Watch<L>>(
+fn solve_whole<L, W: Watch<L>>(
     alloc: Global,
     game: &Game,
     asked: Asked,
@@ -87,12 +84,8 @@ fn solve_whole<T: MeasureTable, S: Schedule, L, W: Watch<L>>(
     ensures told { IsWatched (LiftsWholeGame game.now asked) (refusal_in result) (W.tells watch.now) (W.pace watch.now) budget listener.old listener.new }
 {
     match asked {
-        Asked::Both => solve_both::<T, S, L, W>(alloc, game, budget, watch, listener),
-        Asked::Search => {
-            solve_by_judged_search::<T, S, L, W>(alloc, game, budget, watch, listener)
-        }
-        Asked::Player(player) => {
-            solve_one::<T, S, L, W>(alloc, game, player, budget, watch, listener)
-        }
+        Asked::Both => solve_both(alloc, game, budget, watch, listener),
+        Asked::Search => { solve_by_judged_search(alloc, game, budget, watch, listener) }
+        Asked::Player(player) => { solve_one(alloc, game, player, budget, watch, listener) }
     }
 }

@@ -1,42 +1,23 @@
 -- Refusals of deciding: those of the emptiness game, and those of solving it.
-use Rattle.std.proofs.Common.{◌≡◌, ℕ, List, Ok, Err, Result, IfOk, IfErr, IsErrAnd, OnOk, false, inl, inr, subst, sym}
+use Rattle.std.proofs.Common.{◌≡◌, ℕ, List, Ok, Err, Result, IfOk, IfErr, IsErrAnd, IsOk, OnOk, false, inl, inr, refl, subst, sym}
 use Rattle.omega_text.specs.declared.refusal.Refusal.{Refusal}
 use Rattle.omega_text.specs.declared.refusal.Refusal.TheVariants.{Automaton, Game, Io, Memory, Task, Text}
 use Rattle.omega_automaton.specs.Automaton.{Description}
 use Rattle.omega_game.specs.Game.{Node, priorities}
 use Rattle.omega_game.specs.declared.player.Player.TheVariants.{Zero}
-use Rattle.omega_measure.specs.Table.{IsPrepareRefusal, is_too_wide}
-use Rattle.omega_solve.specs.Within.{IsBudgetRefusal, IsFound}
-use Rattle.omega_solve.specs.declared.found.Found.{Found}
+use Rattle.omega_measure.specs.Table.{is_too_wide}
+use Rattle.omega_budget.specs.Within.{IsFound, IsSolvingRefusal}
+use Rattle.omega_budget.specs.declared.found.Found.{Found}
 use Rattle.omega_empty.specs.EmptinessGame.{IsEmptinessGame}
 use Rattle.omega_empty.specs.Refusing.{IsGameRefusal, IsGiven}
-use Rattle.omega_empty.specs.Verdict.{IsEmptinessRefusal, IsSolvedWithin, IsSolvingFault}
-use Rattle.omega_empty.specs.layout.Solving.{IsSolvingRefusal}
-
--- a game whose table is too wide is not solved
-pub too_wide_refused : (budget : ℕ) (game : List Node) (refusal : Refusal) → IsPrepareRefusal Zero (priorities game) refusal → IsSolvingRefusal budget game refusal
-too_wide_refused budget game (Text fault) is = is
-too_wide_refused budget game (Game fault) is = is
-too_wide_refused budget game (Automaton fault) is = is
-too_wide_refused budget game (Task fault) is = subst (IsSolvingFault budget game) (sym is.0) is.1
-too_wide_refused budget game Memory is = tt
-too_wide_refused budget game Io is = is
-
--- nor is one for which the budget does not suffice
-pub spent_refused : (budget : ℕ) (game : List Node) (refusal : Refusal) → is_too_wide Zero (priorities game) ≡ false → IsBudgetRefusal game Zero budget refusal → IsSolvingRefusal budget game refusal
-spent_refused budget game (Text fault) fits is = is
-spent_refused budget game (Game fault) fits is = is
-spent_refused budget game (Automaton fault) fits is = is
-spent_refused budget game (Task fault) fits is = subst (IsSolvingFault budget game) (sym is.0) (fits, is.1)
-spent_refused budget game Memory fits is = tt
-spent_refused budget game Io fits is = is
+use Rattle.omega_empty.specs.Verdict.{IsEmptinessRefusal, IsSolvedWithin}
 
 -- what is found in a game that is not too wide solves it within the budget
-pub found_solved : (budget : ℕ) (given game : List Node) (answer : Result Found Refusal) → given ≡ game → is_too_wide Zero (priorities given) ≡ false
-    → IfOk answer (IsFound given Zero budget) → OnOk answer (IsSolvedWithin budget game)
+pub found_solved : (budget : ℕ) (given game : List Node) (answer : Result Found Refusal) → given ≡ game
+    → (IsOk answer → is_too_wide Zero (priorities given) ≡ false) → IfOk answer (IsFound given Zero budget) → OnOk answer (IsSolvedWithin budget game)
 found_solved budget given game (Err refusal) same fits is = tt
 found_solved budget given game (Ok found) same fits is =
-    subst (IsSolvedWithin budget) same (record { fits = fits; lifts = found.lifts; ends = is.ended })
+    subst (IsSolvedWithin budget) same (record { fits = fits refl; lifts = found.lifts; ends = is.ended })
 
 -- what holds without the value of an answer holds of each answer
 pub on_ok : {A : Type 0} (answer : Result A Refusal) (wanted : Type 0) → wanted → OnOk answer wanted
@@ -53,7 +34,7 @@ ungiven_refused a budget Memory is = tt
 ungiven_refused a budget Io is = is
 
 -- nor is one whose game is not solved
-pub unsolved_refused : (a : Description) (budget : ℕ) (game : List Node) (refusal : Refusal) → IsGiven a → IsEmptinessGame a game → IsSolvingRefusal budget game refusal → IsEmptinessRefusal a budget refusal
+pub unsolved_refused : (a : Description) (budget : ℕ) (game : List Node) (refusal : Refusal) → IsGiven a → IsEmptinessGame a game → IsSolvingRefusal game Zero budget refusal → IsEmptinessRefusal a budget refusal
 unsolved_refused a budget game (Text fault) given game_is is = is
 unsolved_refused a budget game (Game fault) given game_is is = absurd is
 unsolved_refused a budget game (Automaton fault) given game_is is = is

@@ -5,7 +5,7 @@ use Rattle.omega_automaton.specs.Automaton.{Description, IsAutomaton}
 use Rattle.omega_game.specs.Game.{Node}
 use Rattle.omega_game.specs.declared.player.Player.TheVariants.{Zero}
 use Rattle.omega_solve.specs.Headline.{IsExact}
-use Rattle.omega_solve.specs.declared.found.Found.{Found}
+use Rattle.omega_budget.specs.declared.found.Found.{Found}
 use Rattle.omega_empty.specs.EmptinessGame.{IsEmptinessGame}
 use Rattle.omega_empty.specs.GameLaws.{UnwonIsEmpty}
 use Rattle.omega_empty.specs.Lasso.{IsAcceptingLasso}

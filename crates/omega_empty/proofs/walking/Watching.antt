@@ -6,7 +6,7 @@ use Rattle.omega_text.specs.declared.refusal.task.TaskFault.TheVariants.{Budget}
 use Rattle.omega_automaton.specs.Automaton.{Description}
 use Rattle.omega_game.specs.Game.{Node}
 use Rattle.omega_game.specs.declared.player.Player.{Player}
-use Rattle.omega_watch.proofs.Watched.{made_refused}
+use Rattle.omega_budget.proofs.Watched.{made_refused}
 use Rattle.omega_empty.specs.EmptinessGame.{IsEmptinessGame}
 use Rattle.omega_empty.specs.Watching.{LiftsAutomaton}
 use Rattle.omega_empty.specs.layout.Solving.{LiftsGame}

@@ -7,7 +7,7 @@ use Rattle.omega_game.specs.Game.{Node, node_at, owner_at, priorities}
 use Rattle.omega_game.specs.Winning.{Chooses, InRegion, IsStrategy, Wins, choice_at}
 use Rattle.omega_measure.specs.Table.{is_too_wide}
 use Rattle.omega_pg.specs.solution.Canonical.{choice_part}
-use Rattle.omega_solve.specs.Within.{EndsWithin}
+use Rattle.omega_budget.specs.Within.{EndsWithin}
 use Rattle.omega_game_answers.specs.PlayerText.{player_text}
 
 -- the line of a node won: its identifier, and that of the chosen successor if there is a choice

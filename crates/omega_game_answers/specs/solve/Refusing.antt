@@ -9,7 +9,7 @@ use Rattle.omega_game.specs.Game.{Node, priorities}
 use Rattle.omega_measure.specs.Table.{is_too_wide}
 use Rattle.omega_pg.specs.game.Refusing.{IsRefusal}
 use Rattle.omega_pg.specs.game.Text.{IsGameText}
-use Rattle.omega_solve.specs.Within.{GoesOnAfter}
+use Rattle.omega_budget.specs.Within.{GoesOnAfter}
 use Rattle.omega_game_answers.specs.declared.solve.asked.Asked.{Asked}
 use Rattle.omega_game_answers.specs.declared.solve.asked.Asked.TheVariants as way
 use Rattle.omega_game_answers.specs.Part.{IsPartFrom, IsUnknownIdentifier}

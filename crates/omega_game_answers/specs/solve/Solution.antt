@@ -6,7 +6,7 @@ use Rattle.omega_game.specs.Game.{Node, priorities}
 use Rattle.omega_game.specs.Solution.{IsExactSolution}
 use Rattle.omega_measure.specs.Table.{is_too_wide}
 use Rattle.omega_pg.specs.solution.Canonical.{solution_text}
-use Rattle.omega_solve.specs.Within.{EndsWithin}
+use Rattle.omega_budget.specs.Within.{EndsWithin}
 
 -- the text of an exact solution
 pub record IsExactSolutionOf (nodes : List Node) (output : List ℕ) : Type 0 where

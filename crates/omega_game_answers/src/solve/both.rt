@@ -11,18 +11,17 @@ ghost use Rattle.omega_game_answers.specs.solve.Solution.{IsRight, IsSolutionOf}
 ghost use Rattle.omega_game_answers.specs.steps.SolveGameRefusal.{IsSolveGameRefusal};
 ghost use Rattle.omega_game_answers.specs.steps.Winners.{winners_of};
 ghost use Rattle.omega_game_answers.specs.Watching.{LiftsWholeGame};
-ghost use Rattle.omega_watch.specs.Watching.{IsWatched, refusal_in};
+ghost use Rattle.omega_budget.specs.Watching.{IsWatched, refusal_in};
 
+use omega_budget::{Reordered, Watch};
 use omega_game::{Game, Player, Refusal, Seq, Solution, Strategy, TaskFault};
 use omega_measure::fits;
 use omega_pg::write_solution;
 use omega_region::{regions_are_apart, regions_cover};
-use omega_solve::{MeasureTable, Schedule, Solver};
-use omega_watch::{Renaming, Watch, found_watched};
 use std::alloc::Global;
 
 /// The solution text of a game. 50, 51 or 60.
-pub fn solve_both<T: MeasureTable, S: Schedule, L, W: Watch<L>>(
+pub fn solve_both<L, W: Watch<L>>(
     alloc: Global,
     game: &Game,
     budget: u64,
@@ -34,13 +33,13 @@ pub fn solve_both<T: MeasureTable, S: Schedule, L, W: Watch<L>>(
     ensures refused { IfErr result (IsSolveGameRefusal game.now Both None budget) }
     ensures told { IsWatched (LiftsWholeGame game.now Both) (refusal_in result) (W.tells watch.now) (W.pace watch.now) budget listener.old listener.new }
 {
-    let solution = solution_of::<T, S, L, W>(alloc, game, budget, watch, listener)?;
+    let solution = solution_of(alloc, game, budget, watch, listener)?;
     write_solution(alloc, game, &solution)
 }
 
-/// The solution of a game. Whether the tables of both players fit is asked before either solver runs, so that 50 comes before
-/// 51; the first solver is let go before the second is prepared, and each may make the whole budget of lifts. 50, 51 or 60.
-pub fn solution_of<T: MeasureTable, S: Schedule, L, W: Watch<L>>(
+/// The solution of a game. Whether the tables of both players fit is asked before either is lifted for, so that 50 comes
+/// before 51; the game is put in order once for both, and each may make the whole budget of lifts. 50, 51 or 60.
+pub fn solution_of<L, W: Watch<L>>(
     alloc: Global,
     game: &Game,
     budget: u64,
@@ -53,21 +52,21 @@ pub fn solution_of<T: MeasureTable, S: Schedule, L, W: Watch<L>>(
     ensures told { IsWatched (LiftsWholeGame game.now Both) (refusal_in result) (W.tells watch.now) (W.pace watch.now) budget listener.old listener.new }
 {
     fits_both(game)?;
-    let renaming = Renaming::of(alloc, game)?;
-    lifted_solution::<T, S, L, W>(alloc, game, &renaming, budget, watch, listener)
+    let reordered = Reordered::of(alloc, game)?;
+    lifted_solution(alloc, game, &reordered, budget, watch, listener)
 }
 
 /// The solution of a game that is too wide for neither player, by lifting for one player and then for the other. 51 or 60.
-fn lifted_solution<T: MeasureTable, S: Schedule, L, W: Watch<L>>(
+fn lifted_solution<L, W: Watch<L>>(
     alloc: Global,
     game: &Game,
-    renaming: &Renaming<'_>,
+    reordered: &Reordered<'_>,
     budget: u64,
     watch: &W,
     listener: &mut L,
 ) -> Result<Solution, Refusal>
     requires budget { budget ≤ most_lifts }
-    requires given { renaming.now.given ≡ game.now }
+    requires given { reordered.now.given ≡ game.now }
     requires narrow { (player : Player) → is_too_wide player (priorities game.now) ≡ false }
     ensures right { IfOk result (IsRight game.now budget) }
     ensures refused { IfErr result (IsSolveGameRefusal game.now Both None budget) }
@@ -76,26 +75,8 @@ fn lifted_solution<T: MeasureTable, S: Schedule, L, W: Watch<L>>(
     regions_are_apart();
     regions_cover();
     game.keeps_limits();
-    let for_zero: Solver<'_, T, S> = renaming.prepare(alloc, Player::Zero)?;
-    let zero = found_watched(
-        alloc,
-        for_zero,
-        renaming,
-        Player::Zero,
-        budget,
-        watch,
-        listener,
-    )?;
-    let for_one: Solver<'_, T, S> = renaming.prepare(alloc, Player::One)?;
-    let one = found_watched(
-        alloc,
-        for_one,
-        renaming,
-        Player::One,
-        budget,
-        watch,
-        listener,
-    )?;
+    let zero = reordered.solve(alloc, Player::Zero, budget, watch, listener)?;
+    let one = reordered.solve(alloc, Player::One, budget, watch, listener)?;
     let winners = winners_of(alloc, zero.won.as_slice())?;
     Ok(Solution {
         winners: Seq::from_vec(winners),

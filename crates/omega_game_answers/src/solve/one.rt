@@ -4,16 +4,15 @@ ghost use Rattle.omega_solve.specs.Limits.{most_lifts};
 ghost use Rattle.omega_game_answers.specs.solve.AnswerText.{IsAnswerOf};
 ghost use Rattle.omega_game_answers.specs.steps.SolveGameRefusal.{IsSolveGameRefusal};
 ghost use Rattle.omega_game_answers.specs.Watching.{LiftsWholeGame};
-ghost use Rattle.omega_watch.specs.Watching.{IsWatched, refusal_in};
+ghost use Rattle.omega_budget.specs.Watching.{IsWatched, refusal_in};
 
 use super::answer_text::write_answer;
+use omega_budget::{Reordered, Watch};
 use omega_game::{Game, Player, Refusal};
-use omega_solve::{MeasureTable, Schedule, Solver};
-use omega_watch::{Renaming, Watch, found_watched};
 use std::alloc::Global;
 
 /// The answer text of a player for a game; the listener is told of the run. 50, 51 or 60.
-pub fn solve_one<T: MeasureTable, S: Schedule, L, W: Watch<L>>(
+pub fn solve_one<L, W: Watch<L>>(
     alloc: Global,
     game: &Game,
     player: Player,
@@ -26,9 +25,8 @@ pub fn solve_one<T: MeasureTable, S: Schedule, L, W: Watch<L>>(
     ensures refused { IfErr result (IsSolveGameRefusal game.now (way.Player player) None budget) }
     ensures told { IsWatched (LiftsWholeGame game.now (way.Player player)) (refusal_in result) (W.tells watch.now) (W.pace watch.now) budget listener.old listener.new }
 {
-    let renaming = Renaming::of(alloc, game)?;
-    let solver: Solver<'_, T, S> = renaming.prepare(alloc, player)?;
-    let found = found_watched(alloc, solver, &renaming, player, budget, watch, listener)?;
+    let reordered = Reordered::of(alloc, game)?;
+    let found = reordered.solve(alloc, player, budget, watch, listener)?;
     write_answer(
         alloc,
         game,

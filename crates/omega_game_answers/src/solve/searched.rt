@@ -5,19 +5,18 @@ ghost use Rattle.omega_game.specs.Solution.{IsExactSolution};
 ghost use Rattle.omega_game_answers.specs.solve.Solution.{IsExactSolutionOf};
 ghost use Rattle.omega_game_answers.specs.steps.SolveGameRefusal.{IsSolveGameRefusal};
 ghost use Rattle.omega_game_answers.specs.Watching.{LiftsWholeGame};
-ghost use Rattle.omega_watch.specs.Watching.{IsWatched, refusal_in};
+ghost use Rattle.omega_budget.specs.Watching.{IsWatched, refusal_in};
 
 use super::both::solution_of;
+use omega_budget::Watch;
 use omega_game::{Game, Refusal, Solution};
 use omega_pg::write_solution;
 use omega_search::solve_by_search;
-use omega_solve::{MeasureTable, Schedule};
-use omega_watch::Watch;
 use std::alloc::Global;
 
 /// The solution text of a game, found by a search and judged. Where the search gives nothing the game is solved by
 /// lifting, each player's run within the budget: then, and only then, 50 or 51. Else 60 alone.
-pub fn solve_by_judged_search<T: MeasureTable, S: Schedule, L, W: Watch<L>>(
+pub fn solve_by_judged_search<L, W: Watch<L>>(
     alloc: Global,
     game: &Game,
     budget: u64,
@@ -29,12 +28,12 @@ pub fn solve_by_judged_search<T: MeasureTable, S: Schedule, L, W: Watch<L>>(
     ensures refused { IfErr result (IsSolveGameRefusal game.now Search None budget) }
     ensures told { IsWatched (LiftsWholeGame game.now Search) (refusal_in result) (W.tells watch.now) (W.pace watch.now) budget listener.old listener.new }
 {
-    let solution = searched_solution::<T, S, L, W>(alloc, game, budget, watch, listener)?;
+    let solution = searched_solution(alloc, game, budget, watch, listener)?;
     write_solution(alloc, game, &solution)
 }
 
 /// The solution of a game, by the search or else by lifting. 50, 51 or 60.
-fn searched_solution<T: MeasureTable, S: Schedule, L, W: Watch<L>>(
+fn searched_solution<L, W: Watch<L>>(
     alloc: Global,
     game: &Game,
     budget: u64,
@@ -48,6 +47,6 @@ fn searched_solution<T: MeasureTable, S: Schedule, L, W: Watch<L>>(
 {
     match solve_by_search(alloc, game)? {
         Some(solution) => Ok(solution),
-        None => solution_of::<T, S, L, W>(alloc, game, budget, watch, listener),
+        None => solution_of(alloc, game, budget, watch, listener),
     }
 }

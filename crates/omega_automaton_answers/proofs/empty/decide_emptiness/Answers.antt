@@ -7,7 +7,7 @@ use Rattle.omega_automaton_answers.proofs.Emptiness.{refused-automaton, refused-
 use Rattle.omega_hoa.specs.Alone.{IsAutomatonRefusal}
 use Rattle.omega_text.specs.declared.refusal.Refusal.TheVariants.{Memory}
 use Rattle.omega_automaton_answers.proofs.Watching.{text_refused, text_spares}
-use Rattle.omega_watch.proofs.Watched.{none_watched, spares, watched_alike, watched_as, watched_behind}
+use Rattle.omega_budget.proofs.Watched.{none_watched, spares, watched_alike, watched_as, watched_behind}
 use Rattle.omega_automaton_answers.proofs.empty.decide_emptiness.Goals as goal
 
 pub returns-clause-answer : goal.returns-clause-answer

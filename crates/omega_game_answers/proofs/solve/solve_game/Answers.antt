@@ -3,7 +3,7 @@
 use Rattle.std.proofs.Common.{rules}
 use Rattle.omega_pg.specs.game.Refusing.{IsReadRefusal}
 use Rattle.omega_game_answers.proofs.Watching.{read_spares}
-use Rattle.omega_watch.proofs.Watched.{none_watched, spares, watched_alike, watched_as}
+use Rattle.omega_budget.proofs.Watched.{none_watched, spares, watched_alike, watched_as}
 use Rattle.omega_game_answers.proofs.solve.solve_game.Goals as goal
 
 pub returns-in-None-clause-refused : goal.returns-in-None-clause-refused

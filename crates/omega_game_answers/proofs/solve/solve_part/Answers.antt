@@ -4,7 +4,7 @@ use Rattle.std.proofs.lemmas.Result.{IfErr-weaker, IfOk-weaker}
 use Rattle.omega_game_answers.specs.steps.SolveGameRefusal.{IsSolveGameRefusal}
 use Rattle.omega_game_answers.proofs.Solving.{refused-part, refused-unknown}
 use Rattle.omega_game_answers.specs.steps.PartRefusal.{IsPartRefusal}
-use Rattle.omega_watch.proofs.Watched.{none_watched, spares, watched_alike, watched_as}
+use Rattle.omega_budget.proofs.Watched.{none_watched, spares, watched_alike, watched_as}
 use Rattle.omega_game_answers.proofs.solve.solve_part.Goals as goal
 
 pub returns-in_err-part-clause-refused : goal.returns-in_err-part-clause-refused

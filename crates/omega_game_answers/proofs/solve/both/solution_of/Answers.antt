@@ -1,10 +1,10 @@
--- `solution_of`: a game that is too wide for neither player is solved in its other places.
+-- `solution_of`: a game that is too wide for neither player is solved in an order of its own.
 use Rattle.std.proofs.Common.{◌≡◌, None, rules}
 use Rattle.omega_text.specs.declared.refusal.Refusal.TheVariants.{Memory}
 use Rattle.omega_game_answers.specs.declared.solve.asked.Asked.TheVariants.{Both}
 use Rattle.omega_game_answers.specs.steps.SolveGameRefusal.{IsSolveGameRefusal}
 use Rattle.omega_game_answers.proofs.Solving.{refused-wide}
-use Rattle.omega_watch.proofs.Watched.{none_watched, spares, watched_alike}
+use Rattle.omega_budget.proofs.Watched.{none_watched, spares, watched_alike}
 use Rattle.omega_game_answers.proofs.solve.both.solution_of.Goals as goal
 
 pub returns-in_err-fits_both-clause-refused : goal.returns-in_err-fits_both-clause-refused
@@ -18,7 +18,7 @@ returns-in_err-fits_both-clause-told g c =
     watched_alike _ _ _ _ c.from_residual.result _ c.in_err-fits_both.field-0.0 _ _ c.from_residual.ensures.1 (λ e same. same)
     (none_watched _ _ _ _ _ _ (λ e. let same = c.in_err-fits_both.ensures.refused.0 in cc))
 
-pub returns-in_err-renaming-clause-told : goal.returns-in_err-renaming-clause-told
-returns-in_err-renaming-clause-told g c =
-    watched_alike _ _ _ _ c.from_residual-in_err-renaming.result _ c.in_err-renaming.field-0.0 _ _ c.from_residual-in_err-renaming.ensures.1 (λ e same. same)
-    (none_watched _ _ _ _ _ _ (spares (λ refusal. refusal ≡ Memory) _ c.in_err-renaming.ensures.memory (λ e. cc)))
+pub returns-in_err-reordered-clause-told : goal.returns-in_err-reordered-clause-told
+returns-in_err-reordered-clause-told g c =
+    watched_alike _ _ _ _ c.from_residual-in_err-reordered.result _ c.in_err-reordered.field-0.0 _ _ c.from_residual-in_err-reordered.ensures.1 (λ e same. same)
+    (none_watched _ _ _ _ _ _ (spares (λ refusal. refusal ≡ Memory) _ c.in_err-reordered.ensures.memory (λ e. cc)))

@@ -1,70 +1,53 @@
 -- `solve_one`: what was found for the player is a right answer, and what was refused is a fault of the game.
-use Rattle.std.proofs.Common.{◌≡◌, None, Some, List, Bool, refl, rules, subst, true}
+use Rattle.std.proofs.Common.{◌≡◌, None, Some, Ok, Err, List, Bool, refl, rules, subst, true}
 use Rattle.std.specs.List.{slice_get}
 use Rattle.std.proofs.lemmas.Result.{IfOk-weaker}
-use Rattle.omega_game.specs.Game.{priorities}
-use Rattle.omega_measure.specs.Table.{IsPrepareRefusal}
 use Rattle.omega_game_answers.specs.declared.solve.asked.Asked.TheVariants as way
 use Rattle.omega_game_answers.specs.steps.SolveGameRefusal.{IsSolveGameRefusal}
-use Rattle.omega_game_answers.proofs.Solving.{budget_for, found_for, narrow_for, prepare_for, refused-budget, refused-prepare, right_answer, told_for, won_within}
+use Rattle.omega_game_answers.proofs.Solving.{found_for, narrow_for, refused-solving, right_answer, solving_for, told_for, won_within}
 use Rattle.omega_game_answers.proofs.Watching.{game_refused}
 use Rattle.omega_text.specs.declared.refusal.Refusal.TheVariants.{Memory}
-use Rattle.omega_watch.proofs.Watched.{none_watched, one_made, one_watched, spares, watched_alike, watched_behind}
+use Rattle.omega_budget.proofs.Watched.{none_watched, one_made, one_solved, spares, watched_alike, watched_behind}
 use Rattle.omega_game_answers.proofs.solve.one.solve_one.Goals as goal
 
 pub write_answer-requires-clause-places : goal.write_answer-requires-clause-places
 write_answer-requires-clause-places g c = λ v at.
-    let found = found_for _ _ c.in_ok-renaming.ensures.given c.args.player c.args.budget c.in_ok-found.found c.in_ok-found.ensures.found in
+    let found = found_for _ _ c.in_ok-reordered.ensures.given c.args.player c.args.budget c.in_ok-found.found c.in_ok-found.ensures.found in
     won_within c.args.game.now c.args.player c.args.budget c.in_ok-found.found found v
     (subst (λ (won : List Bool). slice_get won v ≡ Some true) c.as_slice.ensures.value at)
 
 pub returns-clause-answer : goal.returns-clause-answer
 returns-clause-answer g c =
-    let same = c.in_ok-renaming.ensures.given in
+    let same = c.in_ok-reordered.ensures.given in
     IfOk-weaker c.write_answer.result _ _
     (λ output written.
     right_answer c.args.game.now c.args.player c.args.budget c.in_ok-found.found output.items
-    (narrow_for _ _ same c.args.player (c.in_ok-solver.ensures.fits (refl {a = true})))
+    (narrow_for _ _ same c.args.player (c.in_ok-found.ensures.fits (refl {a = true})))
     (found_for _ _ same c.args.player c.args.budget c.in_ok-found.found c.in_ok-found.ensures.found)
     (rw (← c.as_slice.ensures.value, ← c.as_slice-2.ensures.value) written))
     c.write_answer.ensures.text
 
-pub returns-in_err-solver-clause-refused : goal.returns-in_err-solver-clause-refused
-returns-in_err-solver-clause-refused g c =
-    let refused : IsSolveGameRefusal c.args.game.now (way.Player c.args.player) None c.args.budget c.in_err-solver.field-0.0 =
-    refused-prepare c.args.game.now (way.Player c.args.player) c.args.player c.args.budget _ refl
-    (prepare_for _ _ c.in_ok-renaming.ensures.given c.args.player _ c.in_err-solver.ensures.refused) in
-    search rules
-
 pub returns-in_err-found-clause-refused : goal.returns-in_err-found-clause-refused
 returns-in_err-found-clause-refused g c =
-    let same = c.in_ok-renaming.ensures.given in
-    let narrow = narrow_for _ _ same c.args.player (c.in_ok-solver.ensures.fits (refl {a = true})) in
     let refused : IsSolveGameRefusal c.args.game.now (way.Player c.args.player) None c.args.budget c.in_err-found.field-0.0 =
-    refused-budget c.args.game.now (way.Player c.args.player) c.args.player c.args.budget _
-    (λ other is. rw is narrow) refl (budget_for _ _ same c.args.player c.args.budget _ c.in_err-found.ensures.refused) in
+    refused-solving c.args.game.now (way.Player c.args.player) c.args.player c.args.budget _ (λ narrow other is. rw is narrow) refl
+    (solving_for _ _ c.in_ok-reordered.ensures.given c.args.player c.args.budget _ c.in_err-found.ensures.refused) in
     search rules
 
-pub returns-in_err-renaming-clause-told : goal.returns-in_err-renaming-clause-told
-returns-in_err-renaming-clause-told g c =
-    watched_alike _ _ _ _ c.from_residual.result _ c.in_err-renaming.field-0.0 _ _ c.from_residual.ensures.1 (λ e same. same)
-    (none_watched _ _ _ _ _ _ (spares (λ refusal. refusal ≡ Memory) _ c.in_err-renaming.ensures.memory (λ e. cc)))
-
-pub returns-in_err-solver-clause-told : goal.returns-in_err-solver-clause-told
-returns-in_err-solver-clause-told g c =
-    watched_alike _ _ _ _ c.from_residual-in_err-solver.result _ c.in_err-solver.field-0.0 _ _ c.from_residual-in_err-solver.ensures.1 (λ e same. same)
-    (none_watched _ _ _ _ _ _ (spares (IsPrepareRefusal c.args.player (priorities c.in_ok-renaming.renaming.given)) _ c.in_err-solver.ensures.refused
-    (λ no. (let e = no.0 in cc))))
+pub returns-in_err-reordered-clause-told : goal.returns-in_err-reordered-clause-told
+returns-in_err-reordered-clause-told g c =
+    watched_alike _ _ _ _ c.from_residual.result _ c.in_err-reordered.field-0.0 _ _ c.from_residual.ensures.1 (λ e same. same)
+    (none_watched _ _ _ _ _ _ (spares (λ refusal. refusal ≡ Memory) _ c.in_err-reordered.ensures.memory (λ e. cc)))
 
 pub returns-in_err-found-clause-told : goal.returns-in_err-found-clause-told
 returns-in_err-found-clause-told g c =
     watched_alike _ _ _ _ c.from_residual-in_err-found.result _ c.in_err-found.field-0.0 _ _ c.from_residual-in_err-found.ensures.1 (λ e same. same)
-    (one_watched _ _ _ c.args.game.now c.args.player c.args.budget _ _ _ (refl, one_made c.args.player _)
-    (told_for _ _ c.in_ok-renaming.ensures.given c.args.player _ _ _ _ _ _ (rw c.in_err-found.was at c.found_watched.ensures.told)))
+    (one_solved _ _ _ c.args.game.now c.args.player c.args.budget (Err c.in_err-found.field-0.0) _ _ (refl, one_made c.args.player _)
+    (told_for _ _ c.in_ok-reordered.ensures.given c.args.player _ _ _ (Err c.in_err-found.field-0.0) _ _ (rw c.in_err-found.was at c.solve.ensures.told)))
 
 pub returns-clause-told : goal.returns-clause-told
 returns-clause-told g c =
     watched_behind _ _ _ _ c.write_answer.result (λ refusal. refusal ≡ Memory) _ _ c.write_answer.ensures.memory (λ e. cc)
     (λ refusal other. game_refused c.args.game.now (way.Player c.args.player) refusal other)
-    (one_watched _ _ _ c.args.game.now c.args.player c.args.budget None _ _ (refl, one_made c.args.player None)
-    (told_for _ _ c.in_ok-renaming.ensures.given c.args.player _ _ _ _ _ _ (rw c.in_ok-found.was at c.found_watched.ensures.told)))
+    (one_solved _ _ _ c.args.game.now c.args.player c.args.budget (Ok c.in_ok-found.found) _ _ (refl, one_made c.args.player None)
+    (told_for _ _ c.in_ok-reordered.ensures.given c.args.player _ _ _ (Ok c.in_ok-found.found) _ _ (rw c.in_ok-found.was at c.solve.ensures.told)))

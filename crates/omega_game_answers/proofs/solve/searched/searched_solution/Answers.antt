@@ -1,7 +1,7 @@
 -- `searched_solution`: where nothing is lifted, nothing is told.
 use Rattle.std.proofs.Common.{◌≡◌}
 use Rattle.omega_text.specs.declared.refusal.Refusal.TheVariants.{Memory}
-use Rattle.omega_watch.proofs.Watched.{none_watched, spares, watched_alike}
+use Rattle.omega_budget.proofs.Watched.{none_watched, spares, watched_alike}
 use Rattle.omega_game_answers.proofs.Watching.{both_lifted, search_watched}
 use Rattle.omega_game_answers.proofs.solve.searched.searched_solution.Goals as goal
 

@@ -3,7 +3,7 @@ use Rattle.std.proofs.Common.{◌≡◌}
 use Rattle.omega_text.specs.declared.refusal.Refusal.TheVariants.{Memory}
 use Rattle.omega_game_answers.proofs.Watching.{game_refused}
 use Rattle.omega_game_answers.specs.declared.solve.asked.Asked.TheVariants.{Search}
-use Rattle.omega_watch.proofs.Watched.{watched_alike, watched_behind}
+use Rattle.omega_budget.proofs.Watched.{watched_alike, watched_behind}
 use Rattle.omega_game_answers.proofs.solve.searched.solve_by_judged_search.Goals as goal
 
 pub returns-in_err-solution-clause-told : goal.returns-in_err-solution-clause-told
