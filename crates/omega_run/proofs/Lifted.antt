@@ -7,8 +7,8 @@ use Rattle.omega_game.specs.Game.{Node}
 use Rattle.omega_game.specs.declared.player.Player.{Player}
 use Rattle.omega_line.specs.declared.command.Command.{Command}
 use Rattle.omega_line.specs.declared.command.Command.TheVariants.{Canon, CanonPart, Check, Draw, DrawLasso, DrawSolution, Empty, EmptySearch, Game, Search, Show, Solve, Verify}
-use Rattle.omega_watch.specs.Watching.{IsWatched}
-use Rattle.omega_watch.specs.declared.watching.Progress.{Progress}
+use Rattle.omega_budget.specs.Watching.{IsWatched}
+use Rattle.omega_budget.specs.declared.watching.Progress.{Progress}
 use Rattle.omega_automaton_answers.proofs.Watching.{text_refused}
 use Rattle.omega_game_answers.proofs.Watching.{runs_refused}
 use Rattle.omega_game_answers.specs.declared.solve.asked.Asked.TheVariants as way

@@ -8,8 +8,8 @@ use Rattle.std.specs.Io.KnownBytes.{Appends}
 use Rattle.omega_text.specs.declared.refusal.Refusal.{Refusal}
 use Rattle.omega_game.specs.declared.player.Player.{Player}
 use Rattle.omega_game.specs.Game.{Node}
-use Rattle.omega_watch.specs.Watching.{IsWatched, TellsEach, TellsRun, TellsRuns, most_of, progress}
-use Rattle.omega_watch.specs.declared.watching.Progress.{Progress}
+use Rattle.omega_budget.specs.Watching.{IsWatched, TellsEach, TellsRun, TellsRuns, most_of, progress}
+use Rattle.omega_budget.specs.declared.watching.Progress.{Progress}
 use Rattle.omega_io.specs.Writing.{Tells, WritesBeginning}
 use Rattle.omega_run.specs.Progress.{GoesOnByLine, HasTold, TellsLast, TellsOn, progress_line}
 
@@ -126,20 +126,19 @@ each_lines {L} held failed sound start player every most (suc times) before afte
     }
 
 run_lines : {L : Type 0} (held : L → Option (List ℕ)) (failed : L → ℕ) (sound : ℕ) (start : Option (List ℕ)) (every : ℕ) (nodes : List Node)
-    (player : Player) (budget : ℕ) (refusal : Option Refusal) (before after : L) (text : List ℕ) → sound < 2 ^ 64 - 1
-    → HasTold start (held before) sound (failed before) text → TellsRun (TellsLines held failed sound) every nodes player budget refusal before after
-    → HasLines (TellsRun GoesOnByLine every nodes player budget refusal text) start (held after) sound (failed after)
-run_lines held failed sound start every nodes player budget refusal before after text fits told run =
+    (player : Player) (budget lifts : ℕ) (refusal : Option Refusal) (before after : L) (text : List ℕ) → sound < 2 ^ 64 - 1
+    → HasTold start (held before) sound (failed before) text → TellsRun (TellsLines held failed sound) every nodes player budget lifts refusal before after
+    → HasLines (TellsRun GoesOnByLine every nodes player budget lifts refusal text) start (held after) sound (failed after)
+run_lines held failed sound start every nodes player budget lifts refusal before after text fits told run =
     let lines = each_lines held failed sound start player every (most_of nodes player budget) run.told.times before after text fits told run.told.told in
     record {
       text = lines.text;
       told = lines.told;
       holds = record {
         outcome = run.outcome;
-        state = run.state;
-        lifted = run.lifted;
+        spent = run.spent;
         ended = run.ended;
-        told = record { times = run.told.times; made = run.told.made; each = run.told.each; told = lines.holds };
+        told = record { times = run.told.times; reports = run.told.reports; told = lines.holds };
       };
     }
 
@@ -153,12 +152,13 @@ runs_lines {L} held failed sound start every nodes [] budget refusal before afte
   told = subst (λ (l : L). HasTold start (held l) sound (failed l) text) (sym same) told;
   holds = refl;
 }
-runs_lines held failed sound start every nodes (player ∷ []) budget refusal before after text fits told run =
-    run_lines held failed sound start every nodes player budget refusal before after text fits told run
-runs_lines held failed sound start every nodes (player ∷ other ∷ players) budget refusal before after text fits told (between, run, runs) =
-    let first = run_lines held failed sound start every nodes player budget None before between text fits told run in
+runs_lines held failed sound start every nodes (player ∷ []) budget refusal before after text fits told (lifts, run) =
+    let lines = run_lines held failed sound start every nodes player budget lifts refusal before after text fits told run in
+    record { text = lines.text; told = lines.told; holds = (lifts, lines.holds) }
+runs_lines held failed sound start every nodes (player ∷ other ∷ players) budget refusal before after text fits told (lifts, between, run, runs) =
+    let first = run_lines held failed sound start every nodes player budget lifts None before between text fits told run in
     let rest = runs_lines held failed sound start every nodes (other ∷ players) budget refusal between after first.text fits first.told runs in
-    record { text = rest.text; told = rest.told; holds = (first.text, first.holds, rest.holds) }
+    record { text = rest.text; told = rest.told; holds = (lifts, first.text, first.holds, rest.holds) }
 
 -- what a listener was told of runs in lines is a text of these
 pub watched_lines : {L : Type 0} (held : L → Option (List ℕ)) (failed : L → ℕ) (Runs : Option Refusal → List Node → List Player → Type 0) (refusal : Option Refusal)

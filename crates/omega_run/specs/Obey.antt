@@ -12,7 +12,7 @@ use Rattle.omega_line.specs.declared.line.Line.{Line}
 use Rattle.omega_line.specs.declared.line.Line.TheVariants.{DrawSolution, Fault, Help, Run, Verify, Watched}
 use Rattle.omega_io.specs.Exit.{fault_status, status_of}
 use Rattle.omega_io.specs.RefusalLine.{line_of}
-use Rattle.omega_watch.specs.Watching.{lifts_between_reports, refusal_in}
+use Rattle.omega_budget.specs.Watching.{lifts_between_reports, refusal_in}
 use Rattle.omega_run.specs.Progress.{AreProgressLines}
 use Rattle.omega_run.specs.Respond.{IsRunRefusal}
 use Rattle.omega_run.specs.Run.{BreaksOff, Completes}

@@ -6,9 +6,9 @@ use Rattle.omega_game.specs.Game.{Node}
 use Rattle.omega_game_answers.specs.PlayerText.{player_text}
 use Rattle.omega_automaton_answers.specs.Watching.{LiftsAutomatonText}
 use Rattle.omega_game_answers.specs.Watching.{LiftsText}
-use Rattle.omega_watch.specs.Watching.{IsWatched}
+use Rattle.omega_budget.specs.Watching.{IsWatched}
 use Rattle.omega_game_answers.specs.declared.solve.asked.Asked.TheVariants as way
-use Rattle.omega_watch.specs.declared.watching.Progress.{Progress}
+use Rattle.omega_budget.specs.declared.watching.Progress.{Progress}
 use Rattle.omega_line.specs.declared.command.Command.{Command}
 use Rattle.omega_line.specs.declared.command.Command.TheVariants.{Empty, Search, Solve}
 use Rattle.omega_io.specs.Reading.{ReadsText}

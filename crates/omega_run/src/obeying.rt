@@ -7,13 +7,13 @@ ghost use Rattle.omega_run.specs.Progress.{TellsLast};
 
 use crate::run::run_command;
 use crate::watching::run_watched;
+use omega_budget::LIFTS_BETWEEN_REPORTS;
 use omega_io::{
     Exit, GameFiles, Input, Output, Refusal, exit_code, refusal_line, tell, write_text,
 };
 use omega_line::{Command, Line};
 use omega_solve::MOST_LIFTS;
 use omega_text::Seq;
-use omega_watch::LIFTS_BETWEEN_REPORTS;
 use std::alloc::Global;
 
 /// The status after a fault of the command line.

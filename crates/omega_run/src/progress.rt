@@ -3,8 +3,8 @@ ghost use Rattle.std.specs.Prelude.{◌≡◌, ◌++◌, ◌-◌, ◌^◌, ◌<�
 ghost use Rattle.omega_run.specs.Progress.{TellsOn, progress_line};
 
 use itoa::Buffer;
+use omega_budget::{Progress, Watch};
 use omega_io::{Output, write_text};
-use omega_watch::{Progress, Watch};
 
 /// Tells an output in lines how far runs have come. The lines and what is told behind them are one text: once a write of it
 /// failed, no more of it is written.

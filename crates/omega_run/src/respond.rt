@@ -12,6 +12,7 @@ use omega_automaton_answers::{
     canon_stream, check_stream, decide_emptiness, draw_automaton_text, draw_lasso_text,
     search_emptiness, show_stream, write_emptiness_game,
 };
+use omega_budget::Unwatched;
 use omega_game::Player;
 use omega_game_answers::{
     Asked, canon_game, canon_part, check_game, draw_game_text, draw_solution_text, show_game,
@@ -19,8 +20,6 @@ use omega_game_answers::{
 };
 use omega_io::{Exit, Input, Refusal, read_all};
 use omega_line::{Command, Format};
-use omega_solve::{Nested, PackedTable};
-use omega_watch::Unwatched;
 use std::alloc::Global;
 
 /// Reads what a command needs, and makes its whole answer in memory, with how it ends. Each command reads for itself, to
@@ -117,15 +116,7 @@ fn solved(
     ensures answer { IfOk result (λ output. IsSolveAnswer text.items asked from budget output.items) }
     ensures refused { IfErr result (or_memory (IsSolveRefusal text.items asked from budget)) }
 {
-    solve_game::<PackedTable, Nested, (), Unwatched>(
-        alloc,
-        text,
-        asked,
-        from,
-        budget,
-        &Unwatched,
-        &mut (),
-    )
+    solve_game(alloc, text, asked, from, budget, &Unwatched, &mut ())
 }
 
 /// What is asked of a game for one player, or for both where none is named.

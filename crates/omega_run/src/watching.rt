@@ -1,7 +1,7 @@
 //! Commands that lift, told of on standard error while they run.
 ghost use Rattle.std.specs.Prelude.{◌≡◌, ◌+◌, ◌-◌, ◌^◌, ◌<◌, ◌≤◌, List, ℕ, IfOk, IfErr, OnErr, max};
 ghost use Rattle.std.specs.Io.KnownBytes.{Keeps};
-ghost use Rattle.omega_watch.specs.Watching.{IsWatched, refusal_in};
+ghost use Rattle.omega_budget.specs.Watching.{IsWatched, refusal_in};
 ghost use Rattle.omega_io.specs.Failures.{failures_of};
 ghost use Rattle.omega_run.specs.Progress.{AreProgressLines, HasTold, LiftsInput};
 ghost use Rattle.omega_run.specs.Respond.{IsRunRefusal, Responds};
@@ -11,11 +11,10 @@ ghost use Rattle.omega_solve.specs.Limits.{most_lifts};
 use crate::progress::ProgressLines;
 use crate::respond::{asked_for, respond};
 use omega_automaton_answers::decide_emptiness;
+use omega_budget::Watch;
 use omega_game_answers::{Asked, solve_game};
 use omega_io::{Exit, Input, Output, Refusal, read_all, write_text};
 use omega_line::Command;
-use omega_solve::{Nested, PackedTable};
-use omega_watch::Watch;
 use std::alloc::Global;
 
 /// Runs a command as `run_command` does, and tells in lines on standard error how far its runs have come, after so many
@@ -73,22 +72,12 @@ fn respond_watched<R: Input, L, W: Watch<L>>(
         Command::Solve { player, from } => {
             let text = read_all(alloc, input)?;
             let asked = asked_for(*player);
-            let made = solve_game::<PackedTable, Nested, L, W>(
-                alloc, text, asked, *from, budget, watch, listener,
-            )?;
+            let made = solve_game(alloc, text, asked, *from, budget, watch, listener)?;
             Ok((Exit::Done, made))
         }
         Command::Search { from } => {
             let text = read_all(alloc, input)?;
-            let made = solve_game::<PackedTable, Nested, L, W>(
-                alloc,
-                text,
-                Asked::Search,
-                *from,
-                budget,
-                watch,
-                listener,
-            )?;
+            let made = solve_game(alloc, text, Asked::Search, *from, budget, watch, listener)?;
             Ok((Exit::Done, made))
         }
         Command::Empty => {

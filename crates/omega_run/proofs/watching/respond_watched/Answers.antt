@@ -1,6 +1,6 @@
 -- `respond_watched`: where nothing is lifted, nothing is told, and else of runs in games of the text that was read.
 use Rattle.omega_io.specs.Failures.{IsTransferRefusal}
-use Rattle.omega_watch.proofs.Watched.{none_watched, spares, watched_alike, watched_as}
+use Rattle.omega_budget.proofs.Watched.{none_watched, spares, watched_alike, watched_as}
 use Rattle.omega_run.proofs.Lifted.{none_lifted}
 use Rattle.omega_run.proofs.watching.respond_watched.Goals as goal
 

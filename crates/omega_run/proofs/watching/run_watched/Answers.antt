@@ -1,7 +1,7 @@
 -- `run_watched`: nothing is written before the answer is there, and what standard error was told of the runs is a text of lines.
 use Rattle.std.proofs.Common.{◌≡◌, max, rules}
 use Rattle.omega_text.specs.declared.refusal.Refusal.TheVariants.{Io}
-use Rattle.omega_watch.proofs.Watched.{spares, watched_alike, watched_refused}
+use Rattle.omega_budget.proofs.Watched.{spares, watched_alike, watched_refused}
 use Rattle.omega_run.proofs.Lifted.{input_refused}
 use Rattle.omega_run.proofs.ProgressLines.{watched_lines}
 use Rattle.omega_run.proofs.watching.run_watched.Goals as goal
