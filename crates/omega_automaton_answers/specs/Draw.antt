@@ -19,8 +19,8 @@ abbrev pub drawing_of_verdict : Description → Verdict → List ℕ
 drawing_of_verdict automaton Empty = drawing_of_automaton automaton
 drawing_of_verdict automaton (Lasso stem cycle) = drawing_of_lasso automaton stem cycle
 
--- what `draw --lasso` answers: the text stands for an automaton to which none of 13, 40, 41 and 42 applies, and its drawing
--- with an accepting lasso is written, or without one where no lasso accepts
+-- what `draw --lasso` answers: the text stands for an automaton to which none of 13, 40, 41 and 42 applies, and its
+-- drawing with an accepting lasso is written, or without one where no lasso accepts
 pub record IsLassoDrawingAnswer (text output : List ℕ) : Type 0 where
   pub automaton : Description
   pub read : IsAutomatonText text automaton

@@ -8,8 +8,8 @@ use Rattle.omega_game.specs.Game.{Node}
 use Rattle.omega_hoa.specs.Alone.{IsAutomatonRefusal, IsAutomatonText}
 use Rattle.omega_pg.specs.game.Canonical.{canonical}
 
--- what `game` answers: the text stands for an automaton to which none of 13, 40, 41 and 42 applies, and the canonical text of
--- its emptiness game is written
+-- what `game` answers: the text stands for an automaton to which none of 13, 40, 41 and 42 applies, and the canonical
+-- text of its emptiness game is written
 pub record IsEmptinessGameAnswer (text output : List ℕ) : Type 0 where
   pub automaton : Description
   pub read : IsAutomatonText text automaton

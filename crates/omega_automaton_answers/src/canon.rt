@@ -11,7 +11,8 @@ use omega_feed::{Input, Item, ItemText, tell_stream};
 use omega_text::Refusal;
 use std::alloc::Global;
 
-/// The canonical texts of the automata of the stream that an input gives, one behind the other. 1 to 4, 20 to 33, 60 or 61.
+/// The canonical texts of the automata of the stream that an input gives, one behind the other. 1 to 4, 20 to 33,
+/// 60 or 61.
 pub fn canon_stream<R: Input>(alloc: Global, input: &mut R) -> Result<Vec<u8>, Refusal>
     requires { R.failed input.old < 2 ^ 64 - 1 }
     ensures answer { IfOk result (λ output. ReadsWhole (R.remaining input.old) (R.remaining input.new) (λ text. IsStreamCanonAnswer text output.items)) }

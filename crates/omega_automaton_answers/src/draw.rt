@@ -22,8 +22,8 @@ pub fn draw_automaton_text(alloc: Global, text: Vec<u8>) -> Result<Vec<u8>, Refu
     draw_automaton(alloc, &automaton)
 }
 
-/// The drawing of the automaton that a text stands for, with an accepting lasso, found by a search of the emptiness game,
-/// or without one where no lasso accepts. 1 to 4, 20 to 33, then 13, 40, 41 or 42, or 60.
+/// The drawing of the automaton that a text stands for, with an accepting lasso, found by a search of the emptiness
+/// game, or without one where no lasso accepts. 1 to 4, 20 to 33, then 13, 40, 41 or 42, or 60.
 pub fn draw_lasso_text(alloc: Global, text: Vec<u8>) -> Result<Vec<u8>, Refusal>
     ensures answer { IfOk result (λ output. IsLassoDrawingAnswer text.items output.items) }
     ensures refused { IfErr result (or_memory (IsEmptySearchRefusal text.items)) }

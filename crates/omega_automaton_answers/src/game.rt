@@ -11,8 +11,8 @@ use omega_game::{Game, Refusal};
 use omega_pg::write_game;
 use std::alloc::Global;
 
-/// The canonical text of the emptiness game of the automaton that a text stands for. 1 to 4, 20 to 33, then 13, 40, 41 or
-/// 42, or 60.
+/// The canonical text of the emptiness game of the automaton that a text stands for. 1 to 4, 20 to 33, then 13, 40, 41
+/// or 42, or 60.
 pub fn write_emptiness_game(alloc: Global, text: Vec<u8>) -> Result<Vec<u8>, Refusal>
     ensures answer { IfOk result (λ output. IsEmptinessGameAnswer text.items output.items) }
     ensures refused { IfErr result (or_memory (IsEmptinessGameRefusal text.items)) }

@@ -1,4 +1,5 @@
--- Round the counters: marks that bring a counter back hold every set exactly where the greatest of their priorities is even.
+-- Round the counters: marks that bring a counter back hold every set exactly where the greatest of
+-- their priorities is even.
 use Rattle.std.proofs.Common.{◌≡◌, ◌≢◌, ◌↔◌, ℕ, ◌+◌, ◌%◌, ◌<◌, ◌≤◌, ◌⊎◌, inl, inr, true, false, eqb, List, [], ◌∷◌, length, map, All, sym, ap, refl, ◌∙◌, arith}
 use Rattle.std.specs.Prelude.{IsTrue}
 use Rattle.std.proofs.lemmas.Bool.{cases_Bool, cases_lt, cases_eq, both_ways, eq-eqb, ne_eqb, or_parts, true_from_ne_false}

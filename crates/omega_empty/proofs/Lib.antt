@@ -1,4 +1,5 @@
--- Lemmas of emptiness: counters, lassos, the nodes of the game as they are made, who wins it and what that means, how its choices are followed, runs, and what a search finds.
+-- Lemmas of emptiness: counters, lassos, the nodes of the game as they are made, who wins it and what that means,
+-- how its choices are followed, runs, and what a search finds.
 pub mod Counters
 pub mod Leads
 pub mod making

@@ -1,4 +1,5 @@
--- The nodes of an emptiness game as they are made: which edges are usable, where they stand, what is added when, and that nothing is at fault.
+-- The nodes of an emptiness game as they are made: which edges are usable, where they stand, what is added when,
+-- and that nothing is at fault.
 pub mod Linking
 pub mod Ranges
 pub mod Rows

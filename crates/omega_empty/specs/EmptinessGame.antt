@@ -1,4 +1,5 @@
--- The emptiness game of an automaton, which player 0 owns and wins where the automaton has an accepting lasso (docs/formats.md, emptiness game).
+-- The emptiness game of an automaton, which player 0 owns and wins where the automaton has an accepting lasso
+-- (docs/formats.md, emptiness game).
 use Rattle.std.specs.Prelude.{◌≡◌, ◌↔◌, ℕ, ◌+◌, ◌*◌, ◌==◌, ◌&&◌, ◌||◌, Bool, true, false, if◌then◌else◌, nat_lt, List, [], ◌∷◌, ◌++◌, length, map, Some, None, slice_get, slice_index_or}
 use Rattle.std.specs.List.{flat_map, list_any, range_with_len}
 use Rattle.omega_acc.specs.formula.Names.{IsAcceptanceRow}

@@ -20,8 +20,8 @@ number_at a game v = if nat_lt (within_counter a game v) a.states then [] else (
 abbrev pub numbers_on : Description → List Node → List ℕ → List ℕ
 numbers_on a game places = flat_map (number_at a game) places
 
--- a walk from a start's node, at the first counter, to a node that is no edge's, and a closed walk from there whose greatest
--- priority is even, pass the edges of an accepting lasso that begins at this start
+-- a walk from a start's node, at the first counter, to a node that is no edge's, and a closed walk from there whose
+-- greatest priority is even, pass the edges of an accepting lasso that begins at this start
 abbrev pub WonWalksAccept : Type 0
 WonWalksAccept =
     (a : Description) (game : List Node) (choices : List (Option ℕ)) (start v : ℕ) (there around : List ℕ)

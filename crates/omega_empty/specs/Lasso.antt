@@ -6,7 +6,8 @@ use Rattle.omega_acc.specs.label.Label.{LabelTree}
 use Rattle.omega_acc.specs.label.Satisfiable.{IsSatisfiable}
 use Rattle.omega_automaton.specs.Automaton.{BodyEdge, Description, edge_at}
 
--- the label of an edge: that of the state that it leaves, which is the label of each of the state's edges, or else its own
+-- the label of an edge: that of the state that it leaves, which is the label of each of the state's edges,
+-- or else its own
 abbrev pub label_of : BodyEdge → Option LabelTree
 label_of edge = option_or edge.source.label edge.edge.label
 

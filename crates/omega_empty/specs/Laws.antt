@@ -7,7 +7,8 @@ use Rattle.omega_game.specs.declared.player.Player.TheVariants.{Zero}
 use Rattle.omega_empty.specs.EmptinessGame.{IsEmptinessGame}
 use Rattle.omega_empty.specs.Lasso.{IsAcceptingLasso}
 
--- in the emptiness game player 0 wins from the node of each start, at the first counter, at which an accepting lasso begins
+-- in the emptiness game player 0 wins from the node of each start, at the first counter,
+-- at which an accepting lasso begins
 abbrev pub AcceptingLassosAreWon : Type 0
 AcceptingLassosAreWon =
     (a : Description) (game : List Node) (stem cycle : List ℕ) (v : ℕ)

@@ -1,5 +1,5 @@
--- Infinite runs of automata without universal branching, and that accepting runs and accepting lassos are the same question
--- (HOA v1, acceptance).
+-- Infinite runs of automata without universal branching, and that accepting runs and accepting lassos are the same
+-- question (HOA v1, acceptance).
 use Rattle.std.specs.Prelude.{◌≡◌, ◌⊎◌, ℕ, ◌+◌, ◌≤◌, Bool, not, false, IsTrue, if◌then◌else◌, List}
 use Rattle.omega_acc.specs.formula.Acceptance.{AccTree, conjunction, constant, disjunction, fin, holds, inf}
 use Rattle.omega_automaton.specs.Automaton.{Description}
@@ -23,7 +23,8 @@ ForEver marks negated set = (i : ℕ) → (j : ℕ) × (i ≤ j) × IsTrue (meet
 abbrev pub AtLastNever : (ℕ → List ℕ) → Bool → ℕ → Type 0
 AtLastNever marks negated set = (from : ℕ) × ((j : ℕ) → from ≤ j → meets negated set (marks j) ≡ false)
 
--- an acceptance formula holds of infinitely many marks: `Inf` where they come for ever, `Fin` where they at last come never
+-- an acceptance formula holds of infinitely many marks: `Inf` where they come for ever,
+-- `Fin` where they at last come never
 abbrev pub Satisfies : (ℕ → List ℕ) → AccTree → Type 0
 Satisfies marks (constant value) = IsTrue value
 Satisfies marks (inf negated set) = ForEver marks negated set

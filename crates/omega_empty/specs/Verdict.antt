@@ -20,7 +20,8 @@ abbrev pub IsVerdict : Description → Verdict → Type 0
 IsVerdict a Empty = (stem cycle : List ℕ) → ¬ IsAcceptingLasso a stem cycle
 IsVerdict a (Lasso stem cycle) = IsAcceptingLasso a stem cycle
 
--- a game is solved for player 0 within a budget: it is not too wide, and so many lifts, at most the budget, leave none due
+-- a game is solved for player 0 within a budget: it is not too wide, and so many lifts, at most the budget,
+-- leave none due
 pub record IsSolvedWithin (budget : ℕ) (game : List Node) : Type 0 where
   pub fits : is_too_wide Zero (priorities game) ≡ false
   pub lifts : ℕ
@@ -32,7 +33,8 @@ pub record IsDecidedWithin (budget : ℕ) (a : Description) : Type 0 where
   pub game_is : IsEmptinessGame a game
   pub solved : IsSolvedWithin budget game
 
--- the automaton has an emptiness game, none of 13, 40, 41 and 42 applies, and solving the game for player 0 has this fault
+-- the automaton has an emptiness game, none of 13, 40, 41 and 42 applies,
+-- and solving the game for player 0 has this fault
 pub record IsUnsolved (a : Description) (budget : ℕ) (fault : TaskFault) : Type 0 where
   pub given : IsGiven a
   pub game : List Node

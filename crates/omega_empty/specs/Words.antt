@@ -23,8 +23,8 @@ abbrev pub IsValuation : ℕ → ℕ → (ℕ → Bool) → Type 0
 IsValuation propositions index held = (p : ℕ) → p < propositions → held p ≡ has_bit index p
 
 -- the edge of a number with this label, or none, allows exactly these propositions to hold: they make the label true;
--- where neither the edge nor its state has a label, they are the valuation of its index within the state, which has an edge
--- for each valuation
+-- where neither the edge nor its state has a label, they are the valuation of its index within the state, which has an
+-- edge for each valuation
 abbrev pub Allows : Description → ℕ → Option LabelTree → (ℕ → Bool) → Type 0
 Allows a number None held = IsValuation (length a.propositions) (index_in a.defined number) held
 Allows a number (Some label) held = IsTrue (truth held label)
@@ -35,8 +35,8 @@ pub record IsTaken (a : Description) (number : ℕ) (held : ℕ → Bool) : Type
   pub numbered : edge_at a number ≡ Some edge
   pub allowed : Allows a number (label_of edge) held
 
--- a word, which says for each index which propositions hold there, is accepted: by an accepting run, each of whose edges can be
--- taken where the propositions of its index hold
+-- a word, which says for each index which propositions hold there, is accepted: by an accepting run, each of whose
+-- edges can be taken where the propositions of its index hold
 pub record IsAccepted (a : Description) (word : ℕ → ℕ → Bool) : Type 0 where
   pub states : ℕ → ℕ
   pub edges : ℕ → ℕ

@@ -1,4 +1,6 @@
--- What private contracts cite: how edges are judged, where those of a state stand, how nodes are added, how choices are followed, where starts stand, what a lasso of places passes, and what lifting in a game is refused for.
+-- What private contracts cite: how edges are judged, where those of a state stand, how nodes are added,
+-- how choices are followed, where starts stand, what a lasso of places passes,
+-- and what lifting in a game is refused for.
 pub mod Judging
 pub mod Marks
 pub mod Ranges

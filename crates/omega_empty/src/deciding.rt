@@ -22,9 +22,9 @@ use omega_game::{Game, Player};
 use omega_text::Seq;
 use std::alloc::Global;
 
-/// Whether an automaton is empty, or an accepting lasso, found with at most so many lifts in its emptiness game. Refused
-/// as `emptiness_game` refuses, or else with 50 where the table of lifting would be too wide, with 51 where the budget
-/// does not suffice, or with 60.
+/// Whether an automaton is empty, or an accepting lasso, found with at most so many lifts in its emptiness game.
+/// Refused as `emptiness_game` refuses, or else with 50 where the table of lifting would be too wide, with 51 where the
+/// budget does not suffice, or with 60.
 pub fn emptiness(alloc: Global, automaton: &Automaton, budget: u64) -> Result<Verdict, Refusal>
     requires { budget ≤ most_lifts }
     ensures verdict { IfOk result (IsVerdict automaton.now) }
@@ -73,8 +73,8 @@ fn found_in<L, W: Watch<L>>(
     reordered.solve(alloc, Player::Zero, budget, watch, listener)
 }
 
-/// What an exact answer for player 0 in the emptiness game of an automaton says of it. The lasso begins at the first start
-/// that player 0 wins, and follows the choices until a state comes again at the same counter. 60 alone.
+/// What an exact answer for player 0 in the emptiness game of an automaton says of it. The lasso begins at the first
+/// start that player 0 wins, and follows the choices until a state comes again at the same counter. 60 alone.
 pub fn verdict_of(
     alloc: Global,
     automaton: &Automaton,

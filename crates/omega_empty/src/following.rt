@@ -19,8 +19,8 @@ pub(crate) struct Knotted {
     pub(crate) knot: usize,
 }
 
-/// The edges that the choices of player 0 pass from the place of a start's node until a state's node comes again. A step
-/// passes two nodes: an edge's, and that of the state that it enters. 60 alone.
+/// The edges that the choices of player 0 pass from the place of a start's node until a state's node comes again. A
+/// step passes two nodes: an edge's, and that of the state that it enters. 60 alone.
 pub(crate) fn follow_choices(
     alloc: Global,
     automaton: &Automaton,

@@ -20,9 +20,9 @@ use omega_text::{GameFault, TaskFault};
 use std::alloc::Global;
 
 /// The emptiness game of an automaton, whose nodes are all owned by player 0: player 0 wins from the node of a start at
-/// the first counter exactly where an accepting lasso begins there. Its identifiers are those of states, of edges and of
-/// the sink, counter by counter. Refused with the least that applies of 13 (by identifiers), 40, 41 and 42 (any label,
-/// any edge), or 60. Linear in the automaton and the counters.
+/// the first counter exactly where an accepting lasso begins there. Its identifiers are those of states, of edges and
+/// of the sink, counter by counter. Refused with the least that applies of 13 (by identifiers), 40, 41 and 42 (any
+/// label, any edge), or 60. Linear in the automaton and the counters.
 pub fn emptiness_game(alloc: Global, automaton: &Automaton) -> Result<Game, Refusal>
     ensures game { IfOk result (IsEmptinessGame automaton.now) }
     ensures given { OnOk result (IsGiven automaton.now) }

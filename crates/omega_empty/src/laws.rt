@@ -1,5 +1,6 @@
-//! Laws of runs, words and the game: accepting lassos, which are finite, tell whether an automaton without universal branching
-//! has an accepting run, which is not, and whether it accepts a word; and the emptiness game is won where they begin.
+//! Laws of runs, words and the game: accepting lassos, which are finite, tell whether an automaton without universal
+//! branching has an accepting run, which is not, and whether it accepts a word;
+//! and the emptiness game is won where they begin.
 
 ghost use Rattle.omega_empty.specs.Laws.{AcceptingLassosAreWon};
 ghost use Rattle.omega_empty.specs.Runs.{AcceptingRunsHaveLassos, LassosAreAcceptingRuns};
@@ -8,25 +9,27 @@ ghost use Rattle.omega_empty.specs.Words.{AcceptedWordsHaveLassos, AcceptingRuns
 use omega_acc::{buchi_is_every_set, parity_is_priority};
 use omega_region::regions_cover;
 
-/// An automaton without universal branching that has an accepting run, of any acceptance formula, has an accepting lasso.
+/// An automaton without universal branching that has an accepting run, of any acceptance formula,
+/// has an accepting lasso.
 pub fn accepting_runs_have_lassos()
     ensures { AcceptingRunsHaveLassos }
 {}
 
-/// An automaton without universal branching that has an accepting lasso has an accepting run: the stem, and then the cycle
-/// for ever.
+/// An automaton without universal branching that has an accepting lasso has an accepting run: the stem, and then the
+/// cycle for ever.
 pub fn lassos_are_accepting_runs()
     ensures { LassosAreAcceptingRuns }
 {}
 
-/// An automaton without universal branching that accepts a word has an accepting lasso. So one without an accepting lasso
-/// accepts no word.
+/// An automaton without universal branching that accepts a word has an accepting lasso. So one without an accepting
+/// lasso accepts no word.
 pub fn accepted_words_have_lassos()
     ensures { AcceptedWordsHaveLassos }
 {}
 
-/// Each accepting run of an automaton without universal branching is a run on a word that it accepts: each of its edges is
-/// usable, so that some propositions make its label true, or has no label, and is taken at the valuation of its index.
+/// Each accepting run of an automaton without universal branching is a run on a word that it accepts: each of its edges
+/// is usable, so that some propositions make its label true, or has no label,
+/// and is taken at the valuation of its index.
 pub fn accepting_runs_have_words()
     ensures { AcceptingRunsHaveWords }
 {}

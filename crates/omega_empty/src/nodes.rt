@@ -70,8 +70,8 @@ fn add_state(
     Ok(())
 }
 
-/// Adds a node of priority 0 that leads to the usable edges of a range, whose identifiers begin at a first. Whether there
-/// are any: no node is added where there are none.
+/// Adds a node of priority 0 that leads to the usable edges of a range, whose identifiers begin at a first. Whether
+/// there are any: no node is added where there are none.
 fn add_linked(
     builder: &mut GameBuilder,
     id: u32,

@@ -16,9 +16,9 @@ use omega_game::{Game, Lasso, Player, Strategy, counterexample};
 use omega_region::regions_are_apart;
 use std::alloc::Global;
 
-/// Whether an automaton is empty, or an accepting lasso. The lasso is what shows that in the emptiness game the strategy
-/// without a choice does not win for player 1 from the nodes of the starts. There is no budget: the cost is that of
-/// `counterexample` in the game. Refused as `emptiness_game` refuses, or with 60.
+/// Whether an automaton is empty, or an accepting lasso. The lasso is what shows that in the emptiness game the
+/// strategy without a choice does not win for player 1 from the nodes of the starts. There is no budget: the cost is
+/// that of `counterexample` in the game. Refused as `emptiness_game` refuses, or with 60.
 pub fn lasso(alloc: Global, automaton: &Automaton) -> Result<Verdict, Refusal>
     ensures verdict { IfOk result (IsVerdict automaton.now) }
     ensures given { OnOk result (IsGiven automaton.now) }
@@ -84,8 +84,9 @@ fn add_start(places: &mut Vec<u32>, game: &Game, start: &[u32]) -> Result<(), Re
     Ok(())
 }
 
-/// An accepting lasso of the edges that a lasso of places passes: those up to the first place of its cycle, which may be that
-/// of an edge, and those behind it until it comes again; entered where the stem first comes to the cycle. 60 alone.
+/// An accepting lasso of the edges that a lasso of places passes: those up to the first place of its cycle, which may
+/// be that of an edge, and those behind it until it comes again; entered where the stem first comes to the cycle.
+/// 60 alone.
 fn passed(
     alloc: Global,
     automaton: &Automaton,

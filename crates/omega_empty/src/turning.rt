@@ -8,8 +8,8 @@ use crate::verdict::Verdict;
 use omega_automaton::{Refusal, Seq};
 use std::alloc::Global;
 
-/// The lasso that enters its cycle where the stem first comes to it: the last edges that stem and cycle share are taken out of
-/// the stem, and the cycle begins with them. 60 alone. Linear.
+/// The lasso that enters its cycle where the stem first comes to it: the last edges that stem and cycle share are taken
+/// out of the stem, and the cycle begins with them. 60 alone. Linear.
 pub(crate) fn turned(alloc: Global, stem: &[u32], cycle: &[u32]) -> Result<Verdict, Refusal>
     ensures verdict { (a : Description) → IsAcceptingLasso a stem.now cycle.now → IfOk result (IsVerdict a) }
     ensures memory { IsOkUnless result Refusal.Memory }

@@ -54,8 +54,8 @@ fn number_of(answer: Result<Vec<u8>, Refusal>) -> u32 {
     }
 }
 
-// Automata, and their games by the table: a co-Büchi one with marks of its own, the same set held by a state, an edge that is
-// never usable, an undefined state, and two sets waited for in turn.
+// Automata, and their games by the table: a co-Büchi one with marks of its own, the same set held by a state, an edge
+// that is never usable, an undefined state, and two sets waited for in turn.
 static GAMES: [(&str, &str); 5] = [
     (
         "HOA: v1 States: 2 Start: 0 acc-name: co-Buchi Acceptance: 1 Fin(0) --BODY-- State: 0 [t] 0 {0} [t] 1 State: 1 [t] 1 --END--",
@@ -86,8 +86,8 @@ fn games_are_by_the_table(rt: HostRuntime) {
     }
 }
 
-// Automata without a game, each with the number of its refusal: none is decided, one branches, one mentions 13 propositions on
-// a state that is not reached, one has too many identifiers, and the least number decides.
+// Automata without a game, each with the number of its refusal: none is decided, one branches, one mentions 13
+// propositions on a state that is not reached, one has too many identifiers, and the least number decides.
 static REFUSED: [(&str, u32); 7] = [
     ("HOA: v1 Acceptance: 0 t --BODY-- --END--", 40),
     (
@@ -168,8 +168,8 @@ fn search_number(answer: Result<Verdict, Refusal>) -> u32 {
     }
 }
 
-// Automata, and the numbers of the edges of their only accepting lasso that passes no edge twice, stem and cycle; no cycle
-// where no lasso accepts: an edge that is never usable, no start, no acceptance.
+// Automata, and the numbers of the edges of their only accepting lasso that passes no edge twice, stem and cycle; no
+// cycle where no lasso accepts: an edge that is never usable, no start, no acceptance.
 static SEARCHED: [(&str, (&[u32], &[u32])); 8] = [
     (
         "HOA: v1 States: 2 Start: 0 acc-name: co-Buchi Acceptance: 1 Fin(0) --BODY-- State: 0 [t] 0 {0} [t] 1 State: 1 [t] 1 --END--",
@@ -229,8 +229,8 @@ fn lifting_finds_the_only_lasso(rt: HostRuntime) {
     }
 }
 
-// Automata with several starts that a lasso begins at, and the edge that the first of these in the order written, a state
-// that leads to itself, takes for ever.
+// Automata with several starts that a lasso begins at, and the edge that the first of these in the order written, a
+// state that leads to itself, takes for ever.
 static STARTED: [(&str, (&[u32], &[u32])); 3] = [
     (
         "HOA: v1 States: 2 Start: 0 Start: 1 acc-name: Buchi Acceptance: 1 Inf(0) --BODY-- State: 0 [t] 0 {0} State: 1 [t] 1 {0} --END--",

@@ -1,4 +1,5 @@
--- A lasso against a player's choices begins at a node given to the player, and is one of nodes; what is explained by it.
+-- A lasso against a player's choices begins at a node given to the player, and is one of nodes;
+-- what is explained by it.
 use Rattle.std.proofs.Common.{◌≡◌, ℕ, ◌<◌, List, [], ◌∷◌, ◌++◌, Option, Some, None, length, get_or, Contains, All, sym, subst, arith, refl}
 use Rattle.std.specs.Prelude.{IfNone, IfSome, IsNone}
 use Rattle.std.proofs.lemmas.List.{get_or_append_left, length_push}

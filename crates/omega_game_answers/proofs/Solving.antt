@@ -70,7 +70,8 @@ right_answer nodes player budget found output narrow is_found written = record {
 
 -- ---- refusals
 
--- what refuses solving for a player refuses the game: where it is too wide for this player, or else for no player for whom it is solved
+-- what refuses solving for a player refuses the game: where it is too wide for this player,
+-- or else for no player for whom it is solved
 pub refused-solving : (nodes : List Node) (asked : Asked) (player : Player) (budget : ℕ) (refusal : Refusal)
     → (is_too_wide player (priorities nodes) ≡ false → (other : Player) → IsSolvedFor asked other → is_too_wide other (priorities nodes) ≡ false)
     → IsSolvedFor asked player → IsSolvingRefusal nodes player budget refusal → IsSolveGameRefusal nodes asked None budget refusal

@@ -14,7 +14,8 @@ pub record IsGameDrawingAnswer (text output : List ℕ) : Type 0 where
   pub read : IsGameText text game
   pub written : output ≡ drawing_of_game game
 
--- what `draw --solution` answers: the texts stand for a game and for a solution of it, and the drawing of the game with the solution is written
+-- what `draw --solution` answers: the texts stand for a game and for a solution of it,
+-- and the drawing of the game with the solution is written
 pub record IsSolutionDrawingAnswer (text solution_text output : List ℕ) : Type 0 where
   pub game : List Node
   pub game_read : IsGameText text game

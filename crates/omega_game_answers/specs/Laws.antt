@@ -10,7 +10,8 @@ use Rattle.omega_game_answers.specs.declared.solve.asked.Asked.{Asked}
 use Rattle.omega_game_answers.specs.solve.Refusing.{IsSolvedFor}
 use Rattle.omega_game_answers.specs.solve.Solving.{IsSolveAnswer}
 
--- the output is what `solve` writes of both players, of a game or of the part that a node reaches, and `verify` can read as much
+-- the output is what `solve` writes of both players, of a game or of the part that a node reaches,
+-- and `verify` can read as much
 pub record IsSolved (text : List ℕ) (from : Option ℕ) (output : List ℕ) : Type 0 where
   pub asked : Asked
   pub both : (player : Player) → IsSolvedFor asked player
@@ -18,7 +19,8 @@ pub record IsSolved (text : List ℕ) (from : Option ℕ) (output : List ℕ) : 
   pub answer : IsSolveAnswer text asked from budget output
   pub short : length output ≤ most_text
 
--- what `solve` writes of both players is judged to be right by `verify`, of the same game or the part that the same node reaches
+-- what `solve` writes of both players is judged to be right by `verify`,
+-- of the same game or the part that the same node reaches
 abbrev pub SolvedIsVerified : Type 0
 SolvedIsVerified =
     (text : List ℕ) (from : Option ℕ) (solved : List ℕ) (explain : Bool) (exit : Exit) (output : List ℕ)

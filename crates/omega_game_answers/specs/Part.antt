@@ -1,4 +1,5 @@
--- The part of a game that the node with an identifier reaches: which it is, which text stands for it, and which refusal it meets.
+-- The part of a game that the node with an identifier reaches: which it is, which text stands for it,
+-- and which refusal it meets.
 use Rattle.std.specs.Prelude.{◌≡◌, ◌<◌, List, ℕ, length}
 use Rattle.omega_text.specs.Cases.{or_task}
 use Rattle.omega_text.specs.declared.refusal.Refusal.{Refusal}

@@ -42,7 +42,8 @@ pub record IsExplained (nodes : List Node) (solution : Solution) (output : List 
   pub loses : LosesGiven nodes solution player lasso
   pub written : output ≡ explained_text nodes player lasso
 
--- `yes` where for each player the choices win from all nodes given to that player, else `no`, with an exit of its own; this is explained where that is asked for
+-- `yes` where for each player the choices win from all nodes given to that player, else `no`, with an exit of its own;
+-- this is explained where that is asked for
 abbrev pub IsSolutionVerdict : List Node → Solution → Bool → Exit → List ℕ → Type 0
 IsSolutionVerdict nodes solution explain Done output = WinsAsGiven nodes solution × (output ≡ codes "yes\n")
 IsSolutionVerdict nodes solution false No output = (¬ WinsAsGiven nodes solution) × (output ≡ codes "no\n")

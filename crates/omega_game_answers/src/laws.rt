@@ -1,5 +1,5 @@
-//! What holds of the answers of `solve` and `verify` together, for callers' proofs: each call does nothing and states one
-//! law.
+//! What holds of the answers of `solve` and `verify` together, for callers' proofs: each call does nothing and states
+//! one law.
 ghost use Rattle.omega_game_answers.specs.Laws.{SolvedIsNotRefused, SolvedIsVerified};
 
 use omega_game::{parts_are_games, parts_keep_nodes};

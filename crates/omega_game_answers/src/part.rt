@@ -5,8 +5,8 @@ ghost use Rattle.omega_game_answers.specs.steps.PartRefusal.{IsPartRefusal};
 use omega_game::{Game, Refusal, TaskFault};
 use std::alloc::Global;
 
-/// The part of a game that the node with an identifier reaches. The game is let go, so that it takes no memory beside what
-/// is made of the part. 54 or 60.
+/// The part of a game that the node with an identifier reaches. The game is let go, so that it takes no memory beside
+/// what is made of the part. 54 or 60.
 pub fn part_from(alloc: Global, game: Game, identifier: u32) -> Result<Game, Refusal>
     ensures part { IfOk result (IsPartFrom game identifier) }
     ensures refused { IfErr result (IsPartRefusal game identifier) }

@@ -20,8 +20,8 @@ use std::alloc::Global;
 
 /// Says whether the choices of the solution that a text stands for win, without solving its game, which has a text of
 /// its own; where they do not, also why, if that is asked for. Where an identifier is given, the solution is one of the
-/// part that its node reaches. The refusal of the game text, or else 54, or else that of the solution text: 1 to 4, 10 to
-/// 14, 54, 53 or 60.
+/// part that its node reaches. The refusal of the game text, or else 54, or else that of the solution text: 1 to 4, 10
+/// to 14, 54, 53 or 60.
 pub fn verify_solution(
     alloc: Global,
     game: &[u8],
@@ -50,8 +50,8 @@ fn judged(
     verdict_on(alloc, game, &solution, explain)
 }
 
-/// The game that a text stands for, or where an identifier is given, the part of it that its node reaches. 1 to 4, 10 to
-/// 14, 54 or 60.
+/// The game that a text stands for, or where an identifier is given, the part of it that its node reaches. 1 to 4, 10
+/// to 14, 54 or 60.
 fn judged_game(alloc: Global, text: &[u8], from: Option<u32>) -> Result<Game, Refusal>
     ensures game { IfOk result (IsJudgedGame text.now from) }
     ensures refused { IfErr result (or_memory (IsJudgedGameRefusal text.now from)) }

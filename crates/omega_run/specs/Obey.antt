@@ -19,7 +19,8 @@ use Rattle.omega_run.specs.Run.{BreaksOff, Completes}
 use Rattle.omega_io.specs.Failures.{failures_in}
 use Rattle.omega_io.specs.Writing.{WritesBeginning}
 
--- the input and the output at one time: what reads will give and what was written, where they are known, and how many reads and writes failed
+-- the input and the output at one time: what reads will give and what was written, where they are known,
+-- and how many reads and writes failed
 pub record Streams : Type 0 where
   pub unread : Option (List ℕ)
   pub failed_reads : ℕ
@@ -38,8 +39,8 @@ streams unread failed_reads held failed_writes = record {
 abbrev pub FailsNowhere : Streams → Streams → Type 0
 FailsNowhere before after = (after.failed_reads ≡ before.failed_reads) × (after.failed_writes ≡ before.failed_writes)
 
--- a run of the command was refused: it wrote nothing, or where a write failed, a beginning of its answer; one read or write failed where it is refused for
--- that, and none else
+-- a run of the command was refused: it wrote nothing, or where a write failed, a beginning of its answer; one read or
+-- write failed where it is refused for that, and none else
 pub record IsRefusedRun (command : Command) (budget : ℕ) (refusal : Refusal) (before after : Streams) : Type 0 where
   pub refused : IsRunRefusal command budget before.unread after.unread refusal
   pub unwritten : after.failed_writes ≡ before.failed_writes → Keeps before.held after.held
@@ -61,7 +62,8 @@ Prints text (Ok exit) held_before held_after failed_before failed_after =
 Prints text (Err refusal) held_before held_after failed_before failed_after =
     (refusal ≡ Io) × (failed_after ≡ failed_before + 1) × WritesBeginning held_before held_after text
 
--- the file was read as some text and the command with that text run, or the file was refused and nothing read or written
+-- the file was read as some text and the command with that text run,
+-- or the file was refused and nothing read or written
 abbrev pub PerformsWithFile : (List ℕ → Type 0) → (Refusal → Type 0) → (List ℕ → Command) → Result Exit Refusal → Streams → Streams → Type 0
 PerformsWithFile reads refuses command_with (Ok exit) before after =
     (text : List ℕ) × reads text × Performs (command_with text) most_lifts (Ok exit) before after
@@ -86,13 +88,14 @@ Obeys reads refuses (Fault text) outcome before after = ⊥
 abbrev pub IsTold : Refusal → ℕ → (List ℕ → Type 0) → Type 0
 IsTold refusal status tells = (status ≡ status_of (Err refusal)) × tells (line_of refusal)
 
--- the status after this outcome, and what is told of it on standard error; where there is no memory for the line of a refusal, that is told
+-- the status after this outcome, and what is told of it on standard error;
+-- where there is no memory for the line of a refusal, that is told
 abbrev pub Reports : Result Exit Refusal → ℕ → (List ℕ → Type 0) → Type 0
 Reports (Ok exit) status tells = (status ≡ status_of (Ok exit)) × tells []
 Reports (Err refusal) status tells = IsTold refusal status tells ⊎ IsTold Memory status tells
 
--- the program obeyed the command line, or told why it asks for nothing that can be done; of a command that is watched, the lines of its progress come
--- before what is told of its outcome, and both are one text
+-- the program obeyed the command line, or told why it asks for nothing that can be done; of a command that is watched,
+-- the lines of its progress come before what is told of its outcome, and both are one text
 abbrev pub IsObeyed : (List ℕ → List ℕ → Type 0) → (List ℕ → Refusal → Type 0) → Result Line Refusal → ℕ → (List ℕ → Type 0) → Streams → Streams → Type 0
 IsObeyed reads refuses (Ok (Fault text)) status tells before after =
     (status ≡ fault_status) × tells (string_bytes text) × (after ≡ before)

@@ -39,7 +39,8 @@ abbrev pub AreProgressLines : Command → Option Refusal → (every budget : ℕ
 AreProgressLines command refusal every budget unread_before unread_after lines =
     IsWatched (LiftsInput command unread_before unread_after) refusal GoesOnByLine every budget [] lines
 
--- the output took more of a text of which it took so much before: nothing, where a write of that failed; a failed write breaks it off
+-- the output took more of a text of which it took so much before: nothing, where a write of that failed;
+-- a failed write breaks it off
 pub record TellsOn (sound : ℕ) (before after : Option (List ℕ)) (failed_before failed_after : ℕ) (text : List ℕ) : Type 0 where
   pub counted : failed_before ≤ failed_after
   pub told : failed_before ≡ sound → sound < 2 ^ 64 - 1 → Tells before after failed_before failed_after text

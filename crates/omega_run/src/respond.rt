@@ -22,8 +22,9 @@ use omega_io::{Exit, Input, Refusal, read_all};
 use omega_line::{Command, Format};
 use std::alloc::Global;
 
-/// Reads what a command needs, and makes its whole answer in memory, with how it ends. Each command reads for itself, to
-/// the end of the input where it answers. Each run of a solver makes at most `budget` lifts. The refusals of the command.
+/// Reads what a command needs, and makes its whole answer in memory, with how it ends. Each command reads for itself,
+/// to the end of the input where it answers. Each run of a solver makes at most `budget` lifts.
+/// The refusals of the command.
 pub fn respond<R: Input>(
     alloc: Global,
     command: &Command,

@@ -10,8 +10,8 @@ use omega_io::{Exit, Input, Output, Refusal, write_text};
 use omega_line::Command;
 use std::alloc::Global;
 
-/// Reads what the command needs, makes its whole answer in memory, and then writes it. Each run of a solver makes at most
-/// `budget` lifts.
+/// Reads what the command needs, makes its whole answer in memory, and then writes it. Each run of a solver makes at
+/// most `budget` lifts.
 ///
 /// After 61 of a write, a beginning of the answer was written, and after every other refusal nothing.
 pub fn run_command<R: Input, W: Output>(

@@ -27,8 +27,8 @@ impl<'a> Asked<'a> {
     }
 }
 
-/// What a run leaves: its status, what stands on standard output and on standard error, and how many reads of the input and
-/// writes of the output failed.
+/// What a run leaves: its status, what stands on standard output and on standard error, and how many reads of the input
+/// and writes of the output failed.
 #[derive(Clone, Copy)]
 pub(crate) struct Left<'a> {
     pub(crate) status: u8,
@@ -80,8 +80,8 @@ pub(crate) fn words_of(alloc: Global, line: &str) -> Result<Vec<String>, AllocEr
     Ok(words)
 }
 
-/// Runs a command line as the program does, over an input that holds the whole text, and an output that takes all. Fails
-/// where it does not leave what is wanted.
+/// Runs a command line as the program does, over an input that holds the whole text, and an output that takes all.
+/// Fails where it does not leave what is wanted.
 pub(crate) fn expect(alloc: Global, asked: Asked<'_>, wanted: Left<'_>) -> Result<(), Fail> {
     let input = Portions::whole(asked.text);
     expect_over(alloc, asked, input, Filling::without_end(alloc), wanted)

@@ -1,4 +1,5 @@
--- What `empty` answers for the text of one automaton: an accepting lasso, or `empty` only where no lasso accepts; and its refusals.
+-- What `empty` answers for the text of one automaton: an accepting lasso, or `empty` only where no lasso accepts;
+-- and its refusals.
 use Rattle.std.specs.Prelude.{◌≡◌, ◌⊎◌, List, ℕ, codes}
 use Rattle.omega_text.specs.declared.refusal.Refusal.{Refusal}
 use Rattle.omega_automaton.specs.Automaton.{Description}
@@ -15,8 +16,8 @@ abbrev pub emptiness_text : Verdict → List ℕ
 emptiness_text Empty = codes "empty\n"
 emptiness_text (Lasso stem cycle) = lasso_text stem cycle
 
--- what `empty --search` answers: the text stands for an automaton to which none of 13, 40, 41 and 42 applies, and a right
--- verdict on it is written, an accepting lasso or that none accepts
+-- what `empty --search` answers: the text stands for an automaton to which none of 13, 40, 41 and 42 applies, and a
+-- right verdict on it is written, an accepting lasso or that none accepts
 pub record IsEmptySearchAnswer (text output : List ℕ) : Type 0 where
   pub automaton : Description
   pub read : IsAutomatonText text automaton

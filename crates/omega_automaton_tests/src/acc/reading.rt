@@ -43,14 +43,23 @@ fn are_wanted(alloc: Global, made: Result<Vec<u8>, Refusal>, label: Want, formul
     }
 }
 
-// Whether the text of two parts is refused 3, at the place between them, by a call that tells its outcome.
-fn is_broken(
-    alloc: Global,
-    parts: (&str, &str),
-    tell: fn(Global, &[u8]) -> Result<(u32, usize), Refusal>,
-) -> bool {
-    match text_of(alloc, &[(parts.0, 1), (parts.1, 1)]) {
-        Ok(text) => is_wanted(tell(alloc, text.as_slice()), (3, parts.0.len())),
+// The text of two parts.
+fn joined(alloc: Global, parts: (&str, &str)) -> Result<Vec<u8>, Refusal> {
+    text_of(alloc, &[(parts.0, 1), (parts.1, 1)])
+}
+
+// Whether the text of two parts is refused 3 as a label, at the place between them.
+fn is_broken_label(alloc: Global, parts: (&str, &str)) -> bool {
+    match joined(alloc, parts) {
+        Ok(text) => is_wanted(as_label(alloc, text.as_slice()), (3, parts.0.len())),
+        Err(_) => false,
+    }
+}
+
+// The same as an acceptance formula.
+fn is_broken_formula(alloc: Global, parts: (&str, &str)) -> bool {
+    match joined(alloc, parts) {
+        Ok(text) => is_wanted(as_formula(alloc, text.as_slice()), (3, parts.0.len())),
         Err(_) => false,
     }
 }
@@ -80,7 +89,7 @@ static NO_LABELS: [(&str, &str); 18] = [
 #[test]
 fn what_is_no_label_is_refused(rt: HostRuntime) {
     for (row, parts) in NO_LABELS.iter().enumerate() {
-        assert_row(&rt, row, is_broken(rt.alloc(), *parts, as_label));
+        assert_row(&rt, row, is_broken_label(rt.alloc(), *parts));
     }
 }
 
@@ -117,7 +126,7 @@ static NO_FORMULAS: [(&str, &str); 26] = [
 #[test]
 fn what_is_no_formula_is_refused(rt: HostRuntime) {
     for (row, parts) in NO_FORMULAS.iter().enumerate() {
-        assert_row(&rt, row, is_broken(rt.alloc(), *parts, as_formula));
+        assert_row(&rt, row, is_broken_formula(rt.alloc(), *parts));
     }
 }
 

@@ -1,4 +1,5 @@
--- What player 0 wins accepts: a walk from a start's node and a closed walk whose greatest priority is even are an accepting lasso.
+-- What player 0 wins accepts: a walk from a start's node and a closed walk whose greatest priority is
+-- even are an accepting lasso.
 use Rattle.std.proofs.Common.{◌≡◌, ℕ, ◌+◌, ◌%◌, ◌<◌, List, [], ◌∷◌, length, map, All, Option, Some, IsTrue, refl, sym, ap, ◌∙◌, subst, arith, zero-add, zero-mul}
 use Rattle.std.specs.Prelude.{slice_index_or}
 use Rattle.std.proofs.lemmas.List.{length-map}

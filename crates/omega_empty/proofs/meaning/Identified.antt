@@ -1,4 +1,5 @@
--- Nodes of a game that is built of specifications: each specification stands at one place, and its identifier tells which.
+-- Nodes of a game that is built of specifications: each specification stands at one place,
+-- and its identifier tells which.
 use Rattle.std.proofs.Common.{◌≡◌, ℕ, ◌<◌, List, length, map, Contains, sym, ap, ◌∙◌, subst, arith}
 use Rattle.std.proofs.lemmas.List.{get_or-map, length-map}
 use Rattle.std.proofs.lemmas.List.Sorted.{Contains-permutation}

@@ -1,4 +1,5 @@
--- A start's node that player 0 wins has an accepting lasso: the strategy is followed, two steps at a time, until a place comes again.
+-- A start's node that player 0 wins has an accepting lasso: the strategy is followed, two steps at a time,
+-- until a place comes again.
 use Rattle.std.proofs.Common.{◌≡◌, ℕ, zero, suc, ◌+◌, ◌-◌, ◌%◌, ◌<◌, ◌⊎◌, inl, inr, List, length, map, IsTrue, sym, ap, refl, ◌∙◌, subst, arith, eq-eqb}
 use Rattle.std.proofs.lemmas.Bool.{cases_eq}
 use Rattle.omega_acc.specs.formula.KindLaws.{BuchiIsEverySet, ParityIsPriority}

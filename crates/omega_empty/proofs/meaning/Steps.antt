@@ -1,4 +1,5 @@
--- Edges of an emptiness game: from a state's node to the sink or a usable edge's, and on to the state that it enters, and no others.
+-- Edges of an emptiness game: from a state's node to the sink or a usable edge's, and on to the state that it enters,
+-- and no others.
 use Rattle.std.proofs.Common.{◌≡◌, ℕ, ◌+◌, ◌-◌, ◌*◌, ◌%◌, ◌<◌, ◌⊎◌, inl, inr, Bool, true, false, cond, List, [], ◌∷◌, length, map, Contains, Some, slice_get, nat_lt, sym, ap, ◌∙◌, subst, arith, add_assoc, lt_irrefl, mul_comm}
 use Rattle.std.proofs.lemmas.Bool.{lt-ltb, le-ltb}
 use Rattle.std.proofs.lemmas.Nat.{mod-mul-add, mul-add-lt}

@@ -1,4 +1,5 @@
--- Steps from a state's node that player 0 wins: by any strategy that wins, an edge's node and then that of the state that it enters.
+-- Steps from a state's node that player 0 wins: by any strategy that wins,
+-- an edge's node and then that of the state that it enters.
 use Rattle.std.proofs.Common.{◌≡◌, ℕ, ◌%◌, ◌⊎◌, inl, inr, [], ◌∷◌, List, Option, sym, ap, ◌∙◌, arith, eq-eqb}
 use Rattle.omega_automaton.specs.Automaton.{Description, IsAutomaton}
 use Rattle.omega_game.specs.Game.{Node}
@@ -12,7 +13,8 @@ use Rattle.omega_empty.proofs.meaning.Reading.{sink_greatest}
 use Rattle.omega_empty.proofs.meaning.Steps.{AtSink, AtState, Entering, Leaving, leaves_edge, leaves_sink, leaves_state}
 
 module _ (a : Description) (game : List Node) (automaton : IsAutomaton a) (is : IsEmptinessGame a game) (choices : List (Option ℕ)) where
-  -- two steps from a state's node pass an edge that leaves the state, and lead to the node of the state that it enters, which is won too
+  -- two steps from a state's node pass an edge that leaves the state, and lead to the node of the state that it enters,
+  -- which is won too
   pub record IsWonStep (w u counter state : ℕ) : Type 0 where
     pub leaving : Leaving is.kind a is.usable game automaton is.usable_are is.game_is w counter state
     pub entering : Entering is.kind a is.usable game automaton is.usable_are is.game_is u counter leaving.edge

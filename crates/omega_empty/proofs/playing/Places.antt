@@ -1,4 +1,5 @@
--- The places of an emptiness game: each stands for a state at a counter, an edge at a counter or the sink, and edges of the automaton lead from place to place.
+-- The places of an emptiness game: each stands for a state at a counter, an edge at a counter or the sink,
+-- and edges of the automaton lead from place to place.
 use Rattle.std.proofs.Common.{◌≡◌, ℕ, zero, suc, ◌+◌, ◌<◌, inl, inr, Bool, true, List, [], ◌∷◌, length, map, get_or, Contains, Option, Some, None, sym, ap, refl, ◌∙◌, subst, arith, zero-add}
 use Rattle.std.specs.Prelude.{slice_get, option_map}
 use Rattle.std.specs.Option.{unwrap_or}

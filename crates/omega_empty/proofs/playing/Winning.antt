@@ -1,4 +1,5 @@
--- Where the automaton has an accepting lasso, player 0 wins: player 1 cannot, since laps of the cycle close a walk that loses for player 1.
+-- Where the automaton has an accepting lasso, player 0 wins: player 1 cannot,
+-- since laps of the cycle close a walk that loses for player 1.
 use Rattle.std.proofs.Common.{◌≡◌, ℕ, ◌+◌, ◌-◌, ◌%◌, ◌<◌, inl, inr, true, List, [], ◌∷◌, ◌++◌, length, map, All, Option, sym, ap, ◌∙◌, subst, arith, append_assoc, zero-add}
 use Rattle.std.specs.Prelude.{slice_index_or}
 use Rattle.std.proofs.Math.Nat.{zero-mul}

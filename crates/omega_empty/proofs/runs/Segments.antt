@@ -1,4 +1,5 @@
--- Segments of an infinite run: where one holds what every `Inf` asks for, and begins late enough for every `Fin`, it is accepted.
+-- Segments of an infinite run: where one holds what every `Inf` asks for, and begins late enough for every `Fin`,
+-- it is accepted.
 use Rattle.std.proofs.Common.{◌≡◌, ℕ, zero, suc, ◌+◌, ◌<◌, ◌≤◌, inl, inr, Bool, true, false, List, [], ◌∷◌, max, sym, ap, refl, ◌∙◌, arith}
 use Rattle.std.proofs.lemmas.Bool.{and_from, or_left, or_right, or_from, not_from_false, cases_lt}
 use Rattle.omega_acc.specs.formula.Acceptance.{AccTree, accepts, conjunction, constant, disjunction, fin, inf, holds, occurs}

@@ -1,4 +1,5 @@
--- The choices of player 0 are followed from a start's node that it wins: each two steps pass an edge, and where a place comes again is a lasso.
+-- The choices of player 0 are followed from a start's node that it wins: each two steps pass an edge,
+-- and where a place comes again is a lasso.
 use Rattle.std.proofs.Common.{◌≡◌, ℕ, ◌+◌, ◌-◌, ◌%◌, ◌<◌, ◌≤◌, ◌⊎◌, inl, inr, Bool, true, List, [], ◌∷◌, ◌++◌, length, get_or, replicate, set, drop, Option, None, Some, slice_get, sum_by, sym, ap, refl, ◌∙◌, subst, arith, append_assoc, length-append}
 use Rattle.std.proofs.Math.Seq.{drop-append_seam, take-append_seam}
 use Rattle.std.proofs.lemmas.Bool.{cases_eq}

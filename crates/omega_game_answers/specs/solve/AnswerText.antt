@@ -28,7 +28,8 @@ lifts_line player lifts = player_text player ++ codes " lifts " ++ decimal lifts
 abbrev pub answer_text : Player → ℕ → List Node → List ℕ → List (Option ℕ) → List ℕ
 answer_text player lifts nodes won choices = lifts_line player lifts ++ flat_map (won_line nodes choices) won
 
--- the places won are exactly the player's region, rising; the choices stand exactly where the player owns one of them, and win from all of them
+-- the places won are exactly the player's region, rising; the choices stand exactly where the player owns one of them,
+-- and win from all of them
 pub record WinsExactly (nodes : List Node) (player : Player) (won : List ℕ) (choices : List (Option ℕ)) : Type 0 where
   pub rising : IsStrictlyIncreasing won
   pub exactly : (v : ℕ) → Contains won v ↔ InRegion nodes player v
@@ -37,7 +38,8 @@ pub record WinsExactly (nodes : List Node) (player : Player) (won : List ℕ) (c
   pub printed : (v w : ℕ) → Chooses choices v w → Contains won v
   pub wins : (v : ℕ) → Contains won v → Wins nodes player choices v
 
--- a right answer for a game that is not too wide: it wins exactly, and so many lifts, at most the budget and at most the bound, end a lifting run
+-- a right answer for a game that is not too wide: it wins exactly, and so many lifts,
+-- at most the budget and at most the bound, end a lifting run
 pub record IsAnswerOf (nodes : List Node) (player : Player) (budget : ℕ) (output : List ℕ) : Type 0 where
   pub narrow : is_too_wide player (priorities nodes) ≡ false
   pub lifts : ℕ

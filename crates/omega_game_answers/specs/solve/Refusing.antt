@@ -26,7 +26,8 @@ pub record IsTooWide (nodes : List Node) (asked : Asked) : Type 0 where
   pub solved_for : IsSolvedFor asked player
   pub wide : is_too_wide player (priorities nodes) ≡ true
 
--- the game is too wide for no player for whom it is solved, and for one of them a lifting run of exactly the budget's entries leaves a lift due
+-- the game is too wide for no player for whom it is solved, and for one of them a lifting run of exactly the budget's
+-- entries leaves a lift due
 pub record IsOverBudget (nodes : List Node) (asked : Asked) (budget : ℕ) : Type 0 where
   pub narrow : (player : Player) → IsSolvedFor asked player → is_too_wide player (priorities nodes) ≡ false
   pub player : Player
@@ -45,7 +46,8 @@ pub record IsPartFault (game : List Node) (asked : Asked) (identifier budget : �
   pub part_of : IsPartFrom game identifier part
   pub fault_there : IsWholeFault part asked budget fault
 
--- the fault of solving a game, or where an identifier is given, the part that its node reaches: first, that no node has it
+-- the fault of solving a game, or where an identifier is given, the part that its node reaches: first,
+-- that no node has it
 abbrev pub IsSolveFault : List Node → Asked → Option ℕ → ℕ → TaskFault → Type 0
 IsSolveFault game asked None budget fault = IsWholeFault game asked budget fault
 IsSolveFault game asked (Some identifier) budget UnknownNode = IsUnknownIdentifier game identifier

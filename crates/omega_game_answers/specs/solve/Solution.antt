@@ -14,7 +14,8 @@ pub record IsExactSolutionOf (nodes : List Node) (output : List ℕ) : Type 0 wh
   pub exact : IsExactSolution nodes solution
   pub written : output ≡ solution_text nodes solution
 
--- an exact solution of a game that is too wide for neither player, and for each player a lifting run within the budget ends
+-- an exact solution of a game that is too wide for neither player,
+-- and for each player a lifting run within the budget ends
 pub record IsRight (nodes : List Node) (budget : ℕ) (solution : Solution) : Type 0 where
   pub exact : IsExactSolution nodes solution
   pub narrow : (player : Player) → is_too_wide player (priorities nodes) ≡ false

@@ -16,13 +16,15 @@ abbrev pub SameRegions : List Node → List ℕ → List Node → Player → Typ
 SameRegions game kept part player =
     (k : ℕ) → k < length kept → InRegion part player k ↔ InRegion game player (slice_index kept k)
 
--- a right answer for a whole game: the answer text of the player asked for, or the solution text, of lifting runs or of a search
+-- a right answer for a whole game: the answer text of the player asked for, or the solution text,
+-- of lifting runs or of a search
 abbrev pub SolvesWhole : List Node → Asked → ℕ → List ℕ → Type 0
 SolvesWhole nodes way.Both budget output = IsSolutionOf nodes budget output
 SolvesWhole nodes way.Search budget output = IsExactSolutionOf nodes output
 SolvesWhole nodes (way.Player player) budget output = IsAnswerOf nodes player budget output
 
--- a right answer for the part that the node with the identifier reaches, whose nodes are won in the part exactly where they are won in the game
+-- a right answer for the part that the node with the identifier reaches,
+-- whose nodes are won in the part exactly where they are won in the game
 pub record SolvesPart (game : List Node) (asked : Asked) (identifier budget : ℕ) (output : List ℕ) : Type 0 where
   pub place : ℕ
   pub identified : HasIdentifier game identifier place

@@ -37,8 +37,8 @@ pub fn solve_both<L, W: Watch<L>>(
     write_solution(alloc, game, &solution)
 }
 
-/// The solution of a game. Whether the tables of both players fit is asked before either is lifted for, so that 50 comes
-/// before 51; the game is put in order once for both, and each may make the whole budget of lifts. 50, 51 or 60.
+/// The solution of a game. Whether the tables of both players fit is asked before either is lifted for, so that 50
+/// comes before 51; the game is put in order once for both, and each may make the whole budget of lifts. 50, 51 or 60.
 pub fn solution_of<L, W: Watch<L>>(
     alloc: Global,
     game: &Game,
@@ -56,7 +56,8 @@ pub fn solution_of<L, W: Watch<L>>(
     lifted_solution(alloc, game, &reordered, budget, watch, listener)
 }
 
-/// The solution of a game that is too wide for neither player, by lifting for one player and then for the other. 51 or 60.
+/// The solution of a game that is too wide for neither player, by lifting for one player and then for the other.
+/// 51 or 60.
 fn lifted_solution<L, W: Watch<L>>(
     alloc: Global,
     game: &Game,

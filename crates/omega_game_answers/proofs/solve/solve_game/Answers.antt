@@ -1,5 +1,5 @@
--- `solve_game`: the text for the whole game is refused as it is, and what is told is told of runs in the game of the text,
--- or in its part.
+-- `solve_game`: the text for the whole game is refused as it is, and what is told is told of runs in the game of the
+-- text, or in its part.
 use Rattle.std.proofs.Common.{rules}
 use Rattle.omega_pg.specs.game.Refusing.{IsReadRefusal}
 use Rattle.omega_game_answers.proofs.Watching.{read_spares}

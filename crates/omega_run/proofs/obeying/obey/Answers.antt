@@ -1,4 +1,5 @@
--- `obey`: a refusal in place of a line is told on standard error, and that of a command that is watched behind its lines.
+-- `obey`: a refusal in place of a line is told on standard error,
+-- and that of a command that is watched behind its lines.
 use Rattle.std.proofs.Common.{rules}
 use Rattle.omega_run.proofs.Performing.{performs, reports_as}
 use Rattle.omega_run.proofs.ProgressLines.{told_at_last}

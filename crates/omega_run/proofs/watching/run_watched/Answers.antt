@@ -1,4 +1,5 @@
--- `run_watched`: nothing is written before the answer is there, and what standard error was told of the runs is a text of lines.
+-- `run_watched`: nothing is written before the answer is there,
+-- and what standard error was told of the runs is a text of lines.
 use Rattle.std.proofs.Common.{◌≡◌, max, rules}
 use Rattle.omega_text.specs.declared.refusal.Refusal.TheVariants.{Io}
 use Rattle.omega_budget.proofs.Watched.{spares, watched_alike, watched_refused}
