@@ -8,7 +8,7 @@ PROGRAM = crates/omega_tool/out/omega_tool
 
 .PHONY: all check install dist clean
 all:
-	@./omega --built
+	@./omega --help >/dev/null
 
 check:
 	rt ci
