@@ -125,3 +125,32 @@ part_cut exact source base to lexemes inside cuts =
         within = omega (arith, long);
       };
     }
+
+-- what is the same from a place on is so from each place behind it
+pub same_further : (one other : List ℕ) (from to : ℕ) → from ≤ to → drop from one ≡ drop from other → drop to one ≡ drop to other
+same_further one other from to further same =
+    let place : from + (to - from) ≡ to = omega arith in
+    sym (drop-drop (to - from) from one ∙ ap (λ n. drop n one) place) ∙ ap (drop (to - from)) same ∙ drop-drop (to - from) from other ∙ ap (λ n. drop n other) place
+
+-- a token follows by the bytes from a place on
+same_follows : (one other : List ℕ) (from : ℕ) (lexeme : Lexeme HoaKind) → drop from one ≡ drop from other → Follows one from lexeme → Follows other from lexeme
+same_follows one other from lexeme same follows = record {
+  gap = follows.gap;
+  rest = follows.rest;
+  split = sym same ∙ follows.split;
+  passed = follows.passed;
+  spells = follows.spells;
+  longest = follows.longest;
+  start = follows.start;
+  end = follows.end;
+}
+
+-- and so do tokens one behind the other
+pub same_cuts : GoesOneWay hoa_format → (one other : List ℕ) (from to : ℕ) (lexemes : List (Lexeme HoaKind)) → drop from one ≡ drop from other
+    → Cuts hoa_format one from lexemes to → Cuts hoa_format other from lexemes to
+same_cuts exact one other from to [] same cuts = cuts
+same_cuts exact one other from to (lexeme ∷ lexemes) same cuts =
+    let place = exact.behind one from lexeme cuts.0 in (
+      same_follows one other from lexeme same cuts.0,
+      same_cuts exact one other lexeme.span.end to lexemes (same_further one other from lexeme.span.end (omega (arith, place.forward, place.nonempty)) same) cuts.1,
+    )

@@ -1,14 +1,15 @@
 -- A piece of a stream, behind the bytes before.
 use Rattle.std.proofs.Common.{◌≡◌, ℕ, ◌+◌, ◌-◌, ◌≤◌, ◌<◌, Bool, false, Option, None, Some, List, [], ◌++◌, length, take, drop, refl, sym, ap, subst, ◌∙◌, inl, inr, arith, append_assoc, append-nil, length-append, length-drop}
-use Rattle.std.proofs.lemmas.List.{drop-drop, drop_at, length-take-le, take-append-drop, take_all, take_at}
+use Rattle.std.proofs.lemmas.List.{drop-append-le, drop-drop, drop_at, length-take-le, take-append-drop, take_all, take_at}
 use Rattle.std.specs.Prelude.{Result, Ok, Err, IfErr, MatchOption, OnOk}
 use Rattle.std.specs.Result.{result_err}
+use Rattle.omega_text.specs.Cut.{Cuts}
 use Rattle.omega_text.specs.Format.{GoesOneWay}
 use Rattle.omega_text.specs.Lexeme.{Lexeme}
 use Rattle.omega_text.specs.Limits.{most_text}
 use Rattle.omega_text.specs.hoa.Format.{hoa_format}
 use Rattle.omega_text.specs.hoa.Pieces.{Settles}
-use Rattle.omega_text.specs.hoa.scanning.Reading.{HasRead, IsKept}
+use Rattle.omega_text.specs.hoa.scanning.Reading.{Any, HasRead, IsAt, IsKept}
 use Rattle.omega_text.specs.declared.hoa.tokenizer.HoaTokenizer.{HoaTokenizer}
 use Rattle.omega_text.specs.declared.hoa.kind.HoaKind.{HoaKind}
 use Rattle.omega_text.specs.declared.refusal.Refusal.{Refusal}
@@ -18,18 +19,28 @@ use Rattle.omega_hoa.specs.Feeding.{Appends, IsDivided, IsFed, IsRefusedSoFar, I
 use Rattle.omega_hoa.specs.Kept.{Kept}
 use Rattle.omega_hoa.specs.Laws.{IsAnsweredAtEnd}
 use Rattle.omega_hoa.specs.Stream.{IsStreamFault, IsStreamText}
+use Rattle.omega_hoa.specs.dividing.Fed.{HasReadTaken, IsFedSome, IsRefusedSome}
 use Rattle.omega_hoa.specs.dividing.Next.{IsProgress}
 use Rattle.omega_hoa.specs.declared.item.Item.{Item}
 use Rattle.omega_hoa.specs.declared.progress.Progress.{Progress}
-use Rattle.omega_hoa.proofs.Cutting.{cuts_forward}
+use Rattle.omega_hoa.proofs.Cutting.{cuts_end, cuts_forward, cuts_split, same_cuts, same_further}
 use Rattle.omega_hoa.proofs.Results.{nothing_more}
+use Rattle.omega_text.proofs.formats.Cutting.{cuts_join}
 use Rattle.omega_text.proofs.hoa_texts.Pieces.{kept_settled}
 
 -- where nothing was refused, the bytes were taken
 pub taken_of : (seen : List ℕ) (items : List Item) (kept : Kept) → kept.refused ≡ None → IsFed seen items kept → IsTaken seen items kept
 taken_of seen items kept is fed = subst (λ refused. MatchOption refused (IsTaken seen items kept) (IsRefusedSoFar seen items kept)) is fed
 
+-- and the tokenizer has read some
+pub known_of : (kept : Kept) (tokenizer : HoaTokenizer) → kept.refused ≡ None → IsFedSome kept tokenizer → HasReadTaken kept tokenizer
+known_of kept tokenizer is fed = subst (λ refused. MatchOption refused (HasReadTaken kept tokenizer) (IsRefusedSome kept)) is fed
+
 -- and the other way round
+pub known_some : (kept : Kept) (tokenizer : HoaTokenizer) → kept.refused ≡ None → HasReadTaken kept tokenizer → IsFedSome kept tokenizer
+known_some kept tokenizer is known = subst (λ refused. MatchOption refused (HasReadTaken kept tokenizer) (IsRefusedSome kept)) (sym is) known
+
+-- the same of what was fed
 pub fed_of : (seen : List ℕ) (items : List Item) (kept : Kept) → kept.refused ≡ None → IsTaken seen items kept → IsFed seen items kept
 fed_of seen items kept is taken = subst (λ refused. MatchOption refused (IsTaken seen items kept) (IsRefusedSoFar seen items kept)) (sym is) taken
 
@@ -58,7 +69,7 @@ too_long seen items kept piece taken long = inl (
     front = seen;
     behind = piece;
     split = refl;
-    taken = record { lexemes = taken.lexemes; settled = taken.settled; divided = taken.divided; bytes = taken.bytes; total = taken.total; short = taken.short; tied = taken.tied; sound = taken.sound };
+    taken = record { lexemes = taken.lexemes; settled = taken.settled; divided = taken.divided; bytes = taken.bytes; total = taken.total; short = taken.short };
     long = omega (arith, length-append seen piece, taken.total, long);
   },
 )
@@ -97,6 +108,76 @@ divided_within exact seen lexemes items begins inside divided =
     let within = cuts_forward hoa_format exact (seen ++ []) 0 begins divided.front (omega arith) (divided.cuts []) in
     omega (arith, within.1, ap length (append-nil seen))
 
+-- what a tokenizer has read without a fault
+kept_sound : (seen : List ℕ) (lexemes : List (Lexeme HoaKind)) (tokenizer : HoaTokenizer) → HasRead seen lexemes tokenizer → tokenizer.fault ≡ None → IsAt Any seen lexemes tokenizer.pending
+kept_sound seen lexemes tokenizer read sound = subst (λ fault. IsKept fault seen lexemes tokenizer.pending) sound read.kept
+
+-- a tokenizer that has read one text has read each other that differs from it in whole segments alone
+module _ (exact : GoesOneWay hoa_format) (seen : List ℕ) (items : List Item) (kept : Kept) (tokenizer : HoaTokenizer) (taken : IsTaken seen items kept) (known : HasReadTaken kept tokenizer) where
+  at : IsAt Any known.seen known.lexemes tokenizer.pending
+  at = kept_sound known.seen known.lexemes tokenizer known.read known.sound
+
+  -- the tokens that are settled
+  pub known_lexemes : List (Lexeme HoaKind)
+  known_lexemes = taken.divided.front ++ known.divided.rest
+
+  same_behind : drop kept.begins known.seen ≡ drop kept.begins seen
+  same_behind = sym known.taken.bytes ∙ taken.bytes
+
+  begins_inside : (kept.begins ≤ length known.seen) × (kept.begins ≤ length seen)
+  begins_inside = (omega (arith, known.taken.total), omega (arith, taken.total))
+
+  same_with : (rest : List ℕ) → drop kept.begins (known.seen ++ rest) ≡ drop kept.begins (seen ++ rest)
+  same_with rest = drop-append-le kept.begins known.seen rest begins_inside.0 ∙ ap (λ bytes. bytes ++ rest) same_behind
+      ∙ sym (drop-append-le kept.begins seen rest begins_inside.1)
+
+  -- those behind the whole segments stand in both
+  known_behind : (rest : List ℕ) → Cuts hoa_format (known.seen ++ rest) kept.begins known.divided.rest at.end
+  known_behind rest =
+      let all = subst (λ ls. Cuts hoa_format (known.seen ++ rest) 0 ls at.end) known.divided.split (at.cuts rest tt) in
+      let parts = cuts_split hoa_format (known.seen ++ rest) 0 at.end known.divided.front known.divided.rest all in
+      subst (λ n. Cuts hoa_format (known.seen ++ rest) n known.divided.rest at.end)
+      (cuts_end hoa_format (known.seen ++ rest) 0 parts.0 kept.begins known.divided.front parts.1 (known.divided.cuts rest)) parts.2
+
+  further : kept.begins ≤ at.end
+  further =
+      let within : kept.begins ≤ length (known.seen ++ []) = omega (arith, begins_inside.0, ap length (append-nil known.seen)) in
+      (cuts_forward hoa_format exact (known.seen ++ []) kept.begins at.end known.divided.rest within (known_behind [])).0
+
+  cuts_known : (rest : List ℕ) → Any rest → Cuts hoa_format (seen ++ rest) 0 known_lexemes at.end
+  unfolding known_lexemes
+  cuts_known rest any = cuts_join hoa_format (seen ++ rest) 0 kept.begins at.end taken.divided.front known.divided.rest (taken.divided.cuts rest)
+      (same_cuts exact (known.seen ++ rest) (seen ++ rest) kept.begins at.end known.divided.rest (same_with rest) (known_behind rest))
+
+  pub known_read : HasRead seen known_lexemes tokenizer
+  known_read = record {
+    place = omega (arith, known.read.place, known.taken.total, taken.total);
+    kept = subst (λ fault. IsKept fault seen known_lexemes tokenizer.pending) (sym known.sound) (record {
+      end = at.end;
+      gap = at.gap;
+      begun = at.begun;
+      cuts = cuts_known;
+      split = sym (same_further known.seen seen kept.begins at.end further same_behind) ∙ at.split;
+      within = omega (arith, at.within, known.taken.total, taken.total);
+      passed = at.passed;
+      start = at.start;
+      reached = at.reached;
+      unfinished = at.unfinished;
+    });
+  }
+
+  -- and are divided as the text is
+  pub known_divided : IsDivided seen known_lexemes items kept.begins kept.inside
+  unfolding known_lexemes
+  known_divided = record {
+    front = taken.divided.front;
+    rest = known.divided.rest;
+    split = refl;
+    before = taken.divided.before;
+    behind = known.divided.behind;
+    cuts = taken.divided.cuts;
+  }
+
 module _ (seen : List ℕ) (items : List Item) (kept : Kept) (piece all : List ℕ) (held : ℕ) (taken : IsTaken seen items kept) (is : all ≡ kept.bytes ++ piece) (count : held ≡ length kept.bytes) where
   -- the bytes before
   before : take kept.begins seen ++ kept.bytes ≡ seen
@@ -111,14 +192,15 @@ module _ (seen : List ℕ) (items : List Item) (kept : Kept) (piece all : List �
   with_piece = ap (λ bytes. take kept.begins seen ++ bytes) is ∙ sym (append_assoc (take kept.begins seen) kept.bytes piece) ∙ ap (λ bytes. bytes ++ piece) before
 
   -- how far they were read
-  pub progress_before : kept.begins + length kept.bytes + length piece ≤ most_text
-      → IsProgress all kept.begins held (record { tokenizer = kept.tokenizer; division = record { begins = kept.begins; inside = kept.inside } }) (take kept.begins seen) items
-  progress_before fits = record {
+  pub progress_before : GoesOneWay hoa_format → (tokenizer : HoaTokenizer) → HasReadTaken kept tokenizer → kept.begins + length kept.bytes + length piece ≤ most_text
+      → IsProgress all kept.begins held (record { tokenizer = tokenizer; division = record { begins = kept.begins; inside = kept.inside } }) (take kept.begins seen) items
+  progress_before exact tokenizer known fits = record {
     there = sym (length-take-le kept.begins seen (omega (arith, taken.total)));
-    lexemes = taken.lexemes;
-    read = subst (λ bytes. HasRead bytes taken.lexemes kept.tokenizer) (sym read_before) taken.tied;
-    sound = taken.sound;
-    divided = subst (λ bytes. IsDivided bytes taken.lexemes items kept.begins kept.inside) (sym read_before) taken.divided;
+    lexemes = known_lexemes exact seen items kept tokenizer taken known;
+    read = subst (λ bytes. HasRead bytes (known_lexemes exact seen items kept tokenizer taken known) tokenizer) (sym read_before) (known_read exact seen items kept tokenizer taken known);
+    sound = known.sound;
+    divided = subst (λ bytes. IsDivided bytes (known_lexemes exact seen items kept tokenizer taken known) items kept.begins kept.inside) (sym read_before)
+        (known_divided exact seen items kept tokenizer taken known);
     from = omega arith;
     short = omega (arith, fits, ap length is, length-append kept.bytes piece);
   }
@@ -126,45 +208,74 @@ module _ (seen : List ℕ) (items : List Item) (kept : Kept) (piece all : List �
 -- what a tokenizer has read without a fault is settled
 pub read_settled : (seen : List ℕ) (lexemes : List (Lexeme HoaKind)) (tokenizer : HoaTokenizer) → HasRead seen lexemes tokenizer → tokenizer.fault ≡ None → Settles seen lexemes
 read_settled seen lexemes tokenizer read sound =
-    kept_settled None seen lexemes tokenizer.pending (subst (λ fault. IsKept fault seen lexemes tokenizer.pending) sound read.kept)
+    kept_settled None seen lexemes tokenizer.pending (kept_sound seen lexemes tokenizer read sound)
 
 -- before the first byte
-pub nothing_fed : (bytes : List ℕ) (tokenizer : HoaTokenizer) → bytes ≡ [] → HasRead [] [] tokenizer → tokenizer.fault ≡ None
-    → IsTaken [] [] (record { bytes = bytes; begins = 0; inside = false; tokenizer = tokenizer; refused = None })
-nothing_fed bytes tokenizer empty read sound = record {
-  lexemes = [];
-  settled = read_settled [] [] tokenizer read sound;
-  divided = record { front = []; rest = []; split = refl; before = refl; behind = refl; cuts = λ more. refl };
-  bytes = empty;
-  total = omega (arith, ap length empty);
-  short = omega arith;
-  tied = read;
-  sound = sound;
-}
+module _ (bytes : List ℕ) (tokenizer : HoaTokenizer) (empty : bytes ≡ []) (read : HasRead [] [] tokenizer) (sound : tokenizer.fault ≡ None) where
+  nothing_divided : IsDivided [] [] [] 0 false
+  nothing_divided = record { front = []; rest = []; split = refl; before = refl; behind = refl; cuts = λ more. refl }
 
--- what is kept once all bytes were read
-pub kept_after : GoesOneWay hoa_format → (all : List ℕ) (first : ℕ) (after : Progress) (prior : List ℕ) (items : List Item) (bytes : List ℕ) (refused : Option Refusal)
-    → IsProgress all first (length all) after prior items → bytes ≡ drop (after.division.begins - first) all
-    → IsTaken (prior ++ all) items (record { bytes = bytes; begins = after.division.begins; inside = after.division.inside; tokenizer = after.tokenizer; refused = refused })
-kept_after exact all first after prior items bytes refused progress is =
-    let whole : prior ++ take (length all) all ≡ prior ++ all = ap (λ rest. prior ++ rest) (take_all (length all) all (omega arith)) in
-    let divided = subst (λ seen. IsDivided seen progress.lexemes items after.division.begins after.division.inside) whole progress.divided in
-    let place : first + (after.division.begins - first) ≡ after.division.begins = omega (arith, progress.from) in
-    let rest : bytes ≡ drop after.division.begins (prior ++ all) =
-    is ∙ ap (drop (after.division.begins - first)) (sym (drop_at prior all first (sym progress.there)))
-    ∙ drop-drop (after.division.begins - first) first (prior ++ all) ∙ ap (λ n. drop n (prior ++ all)) place in
-    let read = subst (λ seen. HasRead seen progress.lexemes after.tokenizer) whole progress.read in
-    let within = divided_within exact (prior ++ all) progress.lexemes items after.division.begins after.division.inside divided in
-    record {
-      lexemes = progress.lexemes;
-      settled = read_settled (prior ++ all) progress.lexemes after.tokenizer read progress.sound;
-      divided = divided;
-      bytes = rest;
-      total = omega (arith, within, ap length rest, length-drop after.division.begins (prior ++ all));
-      short = omega (arith, length-append prior all, progress.there, progress.short);
-      tied = read;
-      sound = progress.sound;
-    }
+  pub nothing_fed : IsTaken [] [] (record { bytes = bytes; begins = 0; inside = false; refused = None })
+  nothing_fed = record {
+    lexemes = [];
+    settled = read_settled [] [] tokenizer read sound;
+    divided = nothing_divided;
+    bytes = empty;
+    total = omega (arith, ap length empty);
+    short = omega arith;
+  }
+
+  pub nothing_known : HasReadTaken (record { bytes = bytes; begins = 0; inside = false; refused = None }) tokenizer
+  nothing_known = record {
+    seen = [];
+    items = [];
+    taken = nothing_fed;
+    lexemes = [];
+    divided = nothing_divided;
+    read = read;
+    sound = sound;
+  }
+
+-- once all bytes were read
+module _ (exact : GoesOneWay hoa_format) (all : List ℕ) (first : ℕ) (after : Progress) (prior : List ℕ) (items : List Item) (bytes : List ℕ) (refused : Option Refusal)
+    (progress : IsProgress all first (length all) after prior items) (is : bytes ≡ drop (after.division.begins - first) all) where
+  whole : prior ++ take (length all) all ≡ prior ++ all
+  whole = ap (λ rest. prior ++ rest) (take_all (length all) all (omega arith))
+
+  all_divided : IsDivided (prior ++ all) progress.lexemes items after.division.begins after.division.inside
+  all_divided = subst (λ seen. IsDivided seen progress.lexemes items after.division.begins after.division.inside) whole progress.divided
+
+  all_read : HasRead (prior ++ all) progress.lexemes after.tokenizer
+  all_read = subst (λ seen. HasRead seen progress.lexemes after.tokenizer) whole progress.read
+
+  -- what is kept
+  pub kept_after : IsTaken (prior ++ all) items (record { bytes = bytes; begins = after.division.begins; inside = after.division.inside; refused = refused })
+  kept_after =
+      let place : first + (after.division.begins - first) ≡ after.division.begins = omega (arith, progress.from) in
+      let rest : bytes ≡ drop after.division.begins (prior ++ all) =
+      is ∙ ap (drop (after.division.begins - first)) (sym (drop_at prior all first (sym progress.there)))
+      ∙ drop-drop (after.division.begins - first) first (prior ++ all) ∙ ap (λ n. drop n (prior ++ all)) place in
+      let within = divided_within exact (prior ++ all) progress.lexemes items after.division.begins after.division.inside all_divided in
+      record {
+        lexemes = progress.lexemes;
+        settled = read_settled (prior ++ all) progress.lexemes after.tokenizer all_read progress.sound;
+        divided = all_divided;
+        bytes = rest;
+        total = omega (arith, within, ap length rest, length-drop after.division.begins (prior ++ all));
+        short = omega (arith, length-append prior all, progress.there, progress.short);
+      }
+
+  -- and was read
+  pub known_after : HasReadTaken (record { bytes = bytes; begins = after.division.begins; inside = after.division.inside; refused = refused }) after.tokenizer
+  known_after = record {
+    seen = prior ++ all;
+    items = items;
+    taken = kept_after;
+    lexemes = progress.lexemes;
+    divided = all_divided;
+    read = all_read;
+    sound = progress.sound;
+  }
 
 -- the whole segments end within the bytes
 pub begins_within : GoesOneWay hoa_format → (all : List ℕ) (first : ℕ) (after : Progress) (prior : List ℕ) (items : List Item) → IsProgress all first (length all) after prior items

@@ -1,11 +1,10 @@
 -- What a stream that was fed with bytes keeps of them, and what was given of them.
-use Rattle.std.specs.Prelude.{◌≡◌, ℕ, ◌+◌, ◌<◌, ◌≤◌, ◌⊎◌, Bool, true, false, None, List, [], ◌++◌, length, drop, MatchOption}
+use Rattle.std.specs.Prelude.{◌≡◌, ℕ, ◌+◌, ◌<◌, ◌≤◌, ◌⊎◌, Bool, true, false, List, [], ◌++◌, length, drop, MatchOption}
 use Rattle.omega_text.specs.Cut.{Cuts}
 use Rattle.omega_text.specs.Lexeme.{Lexeme}
 use Rattle.omega_text.specs.Limits.{most_text}
 use Rattle.omega_text.specs.hoa.Format.{hoa_format}
 use Rattle.omega_text.specs.hoa.Pieces.{Settles}
-use Rattle.omega_text.specs.hoa.scanning.Reading.{HasRead}
 use Rattle.omega_text.specs.declared.hoa.kind.HoaKind.{HoaKind}
 use Rattle.omega_text.specs.declared.refusal.Refusal.{Refusal}
 use Rattle.omega_text.specs.declared.refusal.Refusal.TheVariants.{Memory, Text}
@@ -29,8 +28,7 @@ pub record IsDivided (seen : List ℕ) (lexemes : List (Lexeme HoaKind)) (items 
   pub behind : IsRest inside rest
   pub cuts : (more : List ℕ) → Cuts hoa_format (seen ++ more) 0 front begins
 
--- the bytes so far were taken, no fault of tokens is settled, and the items of their whole segments were given;
--- `tied` says of the tokenizer that it stands there, which the next call needs
+-- the bytes so far were taken, no fault of tokens is settled, and the items of their whole segments were given
 pub record IsTaken (seen : List ℕ) (items : List Item) (kept : Kept) : Type 0 where
   pub lexemes : List (Lexeme HoaKind)
   pub settled : Settles seen lexemes
@@ -38,8 +36,6 @@ pub record IsTaken (seen : List ℕ) (items : List Item) (kept : Kept) : Type 0 
   pub bytes : kept.bytes ≡ drop kept.begins seen
   pub total : length seen ≡ kept.begins + length kept.bytes
   pub short : length seen ≤ most_text
-  pub tied : HasRead seen lexemes kept.tokenizer
-  pub sound : kept.tokenizer.fault ≡ None
 
 -- the bytes passed the limit: those before the piece that did were taken, and none from there on
 pub record IsPastLimit (seen : List ℕ) (items : List Item) (kept : Kept) : Type 0 where

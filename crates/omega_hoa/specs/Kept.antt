@@ -1,13 +1,11 @@
 -- What a stream in pieces keeps.
 use Rattle.std.specs.Prelude.{ℕ, Bool, Option, List}
-use Rattle.omega_text.specs.declared.hoa.tokenizer.HoaTokenizer.{HoaTokenizer}
 use Rattle.omega_text.specs.declared.refusal.Refusal.{Refusal}
 
 -- the bytes behind the last whole segment, where they begin, whether a segment has begun in them,
--- how they are cut so far, and the refusal once there is one
+-- and the refusal once there is one
 pub record Kept : Type 0 where
   pub bytes : List ℕ
   pub begins : ℕ
   pub inside : Bool
-  pub tokenizer : HoaTokenizer
   pub refused : Option Refusal

@@ -33,9 +33,9 @@ impl Model for Stream {
 
     ghost Value = { Kept };
 
-    ghost view = { λ s. record { bytes = s.bytes.items; begins = s.begins; inside = s.inside; tokenizer = s.tokenizer; refused = s.refused } };
+    ghost view = { λ s. record { bytes = s.bytes.items; begins = s.begins; inside = s.inside; refused = s.refused } };
 
-    ghost invariant = { λ s. IsFedSome (record { bytes = s.bytes.items; begins = s.begins; inside = s.inside; tokenizer = s.tokenizer; refused = s.refused }) };
+    ghost invariant = { λ s. IsFedSome (record { bytes = s.bytes.items; begins = s.begins; inside = s.inside; refused = s.refused }) s.tokenizer };
 }
 
 impl Stream {
@@ -99,6 +99,7 @@ impl Stream {
         match self.refused {
             Some(refusal) => Err(refusal),
             None => {
+                HoaKind::goes_on_one_way();
                 let settled = self.tokenizer.finish();
                 if self.inside {
                     Err(end_inside(settled, self.begins + self.bytes.len()))

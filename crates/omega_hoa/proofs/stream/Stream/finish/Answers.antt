@@ -2,38 +2,47 @@
 use Rattle.std.proofs.Common.{◌≡◌, ◌+◌, ◌∙◌, None, ap, length, sym, subst, arith}
 use Rattle.omega_hoa.specs.Feeding.{IsDivided, IsFed, IsTaken}
 use Rattle.omega_hoa.specs.Kept.{Kept}
-use Rattle.omega_hoa.proofs.Feeds.{answered_before, answered_now, answered_of, taken_of}
+use Rattle.omega_hoa.proofs.Feeds.{answered_before, answered_now, answered_of, known_divided, known_lexemes, known_of, known_read, taken_of}
 use Rattle.omega_hoa.proofs.Ones.{err_says, ok_says}
 use Rattle.omega_hoa.proofs.stream.Stream.finish.Goals as goal
 
 pub returns-then-self-clause-refused : goal.returns-then-self-clause-refused
 returns-then-self-clause-refused c = λ none seen items fed.
-    let kept : Kept = record { bytes = c.self.inside.bytes.items; begins = c.self.inside.begins; inside = c.self.inside.inside; tokenizer = c.self.inside.tokenizer; refused = c.self.inside.refused } in
+    let kept : Kept = record { bytes = c.self.inside.bytes.items; begins = c.self.inside.begins; inside = c.self.inside.inside; refused = c.self.inside.refused } in
     let taken : IsTaken seen items kept = taken_of seen items kept c.in-None.is (subst (IsFed seen items) (sym c.self.view_is) fed) in
     let all : kept.begins + c.len.result ≡ length seen = omega (arith, taken.total, c.len.ensures, c.self.inside.bytes.ok.0) in
-    c.end_inside.ensures seen taken.lexemes items kept.begins all (record {
-      divided = subst (IsDivided seen taken.lexemes items kept.begins) c.if-self.true taken.divided;
-      finished = c.finish-settled.ensures.finishes seen taken.lexemes taken.tied;
+    let known = known_of kept c.self.inside.tokenizer c.in-None.is c.self.invariant in
+    let exact = c.goes_on_one_way.ensures in
+    let lexemes = known_lexemes exact seen items kept c.self.inside.tokenizer taken known in
+    c.end_inside.ensures seen lexemes items kept.begins all (record {
+      divided = subst (IsDivided seen lexemes items kept.begins) c.if-self.true (known_divided exact seen items kept c.self.inside.tokenizer taken known);
+      finished = c.finish-settled.ensures.finishes seen lexemes (known_read exact seen items kept c.self.inside.tokenizer taken known);
     })
 
 pub returns-clause-ok : goal.returns-clause-ok
 returns-clause-ok c = ok_says c.end_outside.result _ _ (λ value ends seen items fed.
-    let kept : Kept = record { bytes = c.self.inside.bytes.items; begins = c.self.inside.begins; inside = c.self.inside.inside; tokenizer = c.self.inside.tokenizer; refused = c.self.inside.refused } in
+    let kept : Kept = record { bytes = c.self.inside.bytes.items; begins = c.self.inside.begins; inside = c.self.inside.inside; refused = c.self.inside.refused } in
     let taken : IsTaken seen items kept = taken_of seen items kept c.in-None.is (subst (IsFed seen items) (sym c.self.view_is) fed) in
-    let whole = ends seen taken.lexemes items kept.begins (record {
-      divided = subst (IsDivided seen taken.lexemes items kept.begins) c.if-self.false taken.divided;
-      finished = c.finish-settled.ensures.finishes seen taken.lexemes taken.tied;
+    let known = known_of kept c.self.inside.tokenizer c.in-None.is c.self.invariant in
+    let exact = c.goes_on_one_way.ensures in
+    let lexemes = known_lexemes exact seen items kept c.self.inside.tokenizer taken known in
+    let whole = ends seen lexemes items kept.begins (record {
+      divided = subst (IsDivided seen lexemes items kept.begins) c.if-self.false (known_divided exact seen items kept c.self.inside.tokenizer taken known);
+      finished = c.finish-settled.ensures.finishes seen lexemes (known_read exact seen items kept c.self.inside.tokenizer taken known);
     }) in
     record { short = taken.short; lexemes = whole.lexemes; cut = whole.cut; stream = whole.stream })
     c.end_outside.ensures.ok
 
 pub returns-clause-refused : goal.returns-clause-refused
 returns-clause-refused c = λ none. err_says c.end_outside.result _ _ (λ refusal ends seen items fed.
-    let kept : Kept = record { bytes = c.self.inside.bytes.items; begins = c.self.inside.begins; inside = c.self.inside.inside; tokenizer = c.self.inside.tokenizer; refused = c.self.inside.refused } in
+    let kept : Kept = record { bytes = c.self.inside.bytes.items; begins = c.self.inside.begins; inside = c.self.inside.inside; refused = c.self.inside.refused } in
     let taken : IsTaken seen items kept = taken_of seen items kept c.in-None.is (subst (IsFed seen items) (sym c.self.view_is) fed) in
-    ends seen taken.lexemes items kept.begins (record {
-      divided = subst (IsDivided seen taken.lexemes items kept.begins) c.if-self.false taken.divided;
-      finished = c.finish-settled.ensures.finishes seen taken.lexemes taken.tied;
+    let known = known_of kept c.self.inside.tokenizer c.in-None.is c.self.invariant in
+    let exact = c.goes_on_one_way.ensures in
+    let lexemes = known_lexemes exact seen items kept c.self.inside.tokenizer taken known in
+    ends seen lexemes items kept.begins (record {
+      divided = subst (IsDivided seen lexemes items kept.begins) c.if-self.false (known_divided exact seen items kept c.self.inside.tokenizer taken known);
+      finished = c.finish-settled.ensures.finishes seen lexemes (known_read exact seen items kept c.self.inside.tokenizer taken known);
     }))
     c.end_outside.ensures.refused
 
