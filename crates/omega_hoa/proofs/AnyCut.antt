@@ -1,5 +1,5 @@
 -- How a text is cut into pieces changes nothing.
-use Rattle.std.proofs.Common.{◌≡◌, ℕ, Option, Some, None, List, [], sym, ap, subst, inl, inr, append-nil}
+use Rattle.std.proofs.Common.{◌≡◌, ℕ, Option, Some, None, List, [], ◌∷◌, ◌++◌, ◌∙◌, sym, ap, subst, inl, inr, append-nil, append_assoc}
 use Rattle.std.specs.Prelude.{MatchOption}
 use Rattle.omega_text.specs.Cut.{CutsAreOne}
 use Rattle.omega_text.specs.Format.{GoesOneWay}
@@ -9,7 +9,7 @@ use Rattle.omega_text.specs.declared.refusal.Refusal.TheVariants.{Text}
 use Rattle.omega_text.specs.declared.refusal.text.TextFault.TheVariants.{TooLong}
 use Rattle.omega_hoa.specs.Feeding.{IsFed, IsRefusedSoFar, IsTaken}
 use Rattle.omega_hoa.specs.Kept.{Kept}
-use Rattle.omega_hoa.specs.Laws.{AnswersAreAlike, IsAnsweredAtEnd}
+use Rattle.omega_hoa.specs.Laws.{AnswersAreAlike, CutsChangeNothing, IsAnsweredAtEnd, PiecesAreFed, PiecesChangeNothing, TakesPieces, bytes_of}
 use Rattle.omega_hoa.specs.Stream.{IsStream, IsStreamFault, IsStreamText}
 use Rattle.omega_hoa.specs.declared.item.Item.{Item}
 use Rattle.omega_hoa.proofs.OneStream.{stream_faults_one, stream_unrefused, streams_one}
@@ -39,6 +39,21 @@ ended seen items kept None within fed answered = answered
 ended seen items kept (Some refusal) within fed answered =
     refused_at_end seen items kept refusal kept.refused (λ long. within (ap (λ said. Some said) long)) fed answered
 
+-- pieces that were taken behind others
+taken_behind : (pieces : List (List ℕ)) (old new : Kept) (seen : List ℕ) (before items : List Item) → IsFed seen before old → TakesPieces old pieces items new
+    → IsFed (seen ++ bytes_of pieces) (before ++ items) new
+taken_behind [] old new seen before items fed taken =
+    subst (λ kept. IsFed (seen ++ []) (before ++ items) kept) taken.0
+    (subst (λ bytes. IsFed bytes (before ++ items) old) (sym (append-nil seen))
+    (subst (λ all. IsFed seen all old) (sym (ap (λ list. before ++ list) taken.1 ∙ append-nil before)) fed))
+taken_behind (piece ∷ pieces) old new seen before items fed taken =
+    subst (λ bytes. IsFed bytes (before ++ items) new) (append_assoc seen piece (bytes_of pieces))
+    (subst (λ all. IsFed ((seen ++ piece) ++ bytes_of pieces) all new) (append_assoc before taken.1 taken.2 ∙ sym (ap (λ list. before ++ list) taken.5))
+    (taken_behind pieces taken.0 new (seen ++ piece) (before ++ taken.1) taken.2 (taken.3 seen before fed) taken.4))
+
+pub pieces_are_fed : PiecesAreFed
+pieces_are_fed pieces items kept fed = taken_behind pieces fed.empty kept [] [] items fed.fresh fed.taken
+
 module _ (readings : Readings) (exact : GoesOneWay hoa_format) (cuts_one : CutsAreOne hoa_format) (seen : List ℕ) where
   ends_one : (items others : List Item) (one other : Option Refusal) → IsEnd seen items one → IsEnd seen others other → (items ≡ others) × AnswersAreAlike seen one other
   ends_one items others None None here there = (
@@ -54,3 +69,10 @@ module _ (readings : Readings) (exact : GoesOneWay hoa_format) (cuts_one : CutsA
       → (items ≡ others) × AnswersAreAlike seen one other
   cuts_change_nothing items others kept left one other fed feeds within short here there =
       ends_one items others one other (ended seen items kept one within fed here) (ended seen others left other short feeds there)
+
+-- so it is of lists of pieces
+pub pieces_change_nothing : CutsChangeNothing → PiecesChangeNothing
+pieces_change_nothing alike pieces recut items others kept left one other same fed feeds within short here there =
+    alike (bytes_of pieces) items others kept left one other (pieces_are_fed pieces items kept fed)
+    (subst (λ seen. IsFed seen others left) (sym same) (pieces_are_fed recut others left feeds)) within short here
+    (subst (λ seen. IsAnsweredAtEnd seen others left other) (sym same) there)

@@ -54,6 +54,11 @@ IsRefusedSoFar seen items kept refusal = ((refusal ≡ Text TooLong) × IsPastLi
 abbrev pub IsFed : List ℕ → List Item → Kept → Type 0
 IsFed seen items kept = MatchOption kept.refused (IsTaken seen items kept) (IsRefusedSoFar seen items kept)
 
+-- with one more piece, whatever was fed before, a stream was fed with the bytes before and these, and gave these items
+-- behind those before
+abbrev pub TakesPiece : Kept → List ℕ → List Item → Kept → Type 0
+TakesPiece old piece given new = (seen : List ℕ) (items : List Item) → IsFed seen items old → IsFed (seen ++ piece) (items ++ given) new
+
 -- some values were appended to a list, and of others with these behind them a fact holds
 pub record Appends {X : Type 0} (old new values : List X) (Holds : List X → Type 0) : Type 0 where
   pub added : List X

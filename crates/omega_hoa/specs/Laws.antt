@@ -1,7 +1,7 @@
 -- What holds of texts of one automaton, of streams, of streams in pieces, and of automata in tokens,
 -- whatever the code does.
-use Rattle.std.specs.Prelude.{◌≡◌, ℕ, ◌⊎◌, List, ◌++◌, Option, Some, None, MatchOption}
-use Rattle.std.specs.List.{AllByRecursion}
+use Rattle.std.specs.Prelude.{◌≡◌, ℕ, ◌⊎◌, List, [], ◌∷◌, ◌++◌, Option, Some, None, MatchOption}
+use Rattle.std.specs.List.{AllByRecursion, flat_map}
 use Rattle.omega_text.specs.Cut.{Cuts}
 use Rattle.omega_text.specs.Lexeme.{Lexeme}
 use Rattle.omega_text.specs.Reading.{IsTokenOf}
@@ -16,7 +16,7 @@ use Rattle.omega_raw.specs.Grammar.{ReadsAutomaton}
 use Rattle.omega_raw.specs.declared.raw_automaton.RawAutomaton.{RawAutomaton}
 use Rattle.omega_automaton.specs.Automaton.{Description}
 use Rattle.omega_hoa.specs.Alone.{IsAutomatonRefusal, IsAutomatonText}
-use Rattle.omega_hoa.specs.Feeding.{IsFed}
+use Rattle.omega_hoa.specs.Feeding.{IsFed, TakesPiece}
 use Rattle.omega_hoa.specs.Kept.{Kept}
 use Rattle.omega_hoa.specs.Segment.{IsNoRaw, IsRawOf}
 use Rattle.omega_hoa.specs.Stream.{IsSegment, IsStreamFault, IsStreamRefusal, IsStreamText}
@@ -87,6 +87,34 @@ abbrev pub CutsChangeNothing : Type 0
 CutsChangeNothing = (seen : List ℕ) (items others : List Item) (kept left : Kept) (one other : Option Refusal) → IsFed seen items kept → IsFed seen others left
     → (one ≡ Some (Text TooLong) → ⊥) → (other ≡ Some (Text TooLong) → ⊥) → IsAnsweredAtEnd seen items kept one → IsAnsweredAtEnd seen others left other
     → (items ≡ others) × AnswersAreAlike seen one other
+
+-- the bytes of pieces, one piece behind the other
+abbrev pub bytes_of : List (List ℕ) → List ℕ
+bytes_of pieces = flat_map (λ piece. piece) pieces
+
+-- calls of `feed`, one behind the other with these pieces and none refused memory, lead from one stream to another,
+-- and append these items
+abbrev pub TakesPieces : Kept → List (List ℕ) → List Item → Kept → Type 0
+TakesPieces old [] items new = (old ≡ new) × (items ≡ [])
+TakesPieces old (piece ∷ pieces) items new = (next : Kept) × (first : List Item) × (rest : List Item) × TakesPiece old piece first next × TakesPieces next pieces rest new × (items ≡ first ++ rest)
+
+-- a stream was fed with these pieces, one behind the other, from the first on, and gave these items
+pub record IsFedIn (pieces : List (List ℕ)) (items : List Item) (kept : Kept) : Type 0 where
+  pub empty : Kept
+  pub fresh : IsFed [] [] empty
+  pub taken : TakesPieces empty pieces items kept
+
+-- a stream that was fed with pieces was fed with their bytes
+abbrev pub PiecesAreFed : Type 0
+PiecesAreFed = (pieces : List (List ℕ)) (items : List Item) (kept : Kept) → IsFedIn pieces items kept → IsFed (bytes_of pieces) items kept
+
+-- two lists of pieces with the same bytes, each fed to a stream that did not pass the limit, gave the same items,
+-- and the streams answer alike at their ends
+abbrev pub PiecesChangeNothing : Type 0
+PiecesChangeNothing = (pieces recut : List (List ℕ)) (items others : List Item) (kept left : Kept) (one other : Option Refusal) → bytes_of pieces ≡ bytes_of recut
+    → IsFedIn pieces items kept → IsFedIn recut others left → (one ≡ Some (Text TooLong) → ⊥) → (other ≡ Some (Text TooLong) → ⊥)
+    → IsAnsweredAtEnd (bytes_of pieces) items kept one → IsAnsweredAtEnd (bytes_of recut) others left other
+    → (items ≡ others) × AnswersAreAlike (bytes_of pieces) one other
 
 -- the first of the tokens are a whole segment, which ends with `--END--` and is that of this automaton as it is
 -- written, and then come the rest

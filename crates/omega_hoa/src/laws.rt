@@ -1,6 +1,6 @@
 //! What holds of texts of one automaton, of streams and of automata in tokens, whatever the code does:
 //! each call does nothing and states one law.
-ghost use Rattle.omega_hoa.specs.Laws.{AutomataAreOne, AutomataAreUnrefused, AutomataFillSegments, AutomataOrRefused, CutsChangeNothing, RefusalsAreOne, StreamFaultsAreOne, StreamsAreOne, StreamsAreUnrefused, StreamsOrRefused};
+ghost use Rattle.omega_hoa.specs.Laws.{AutomataAreOne, AutomataAreUnrefused, AutomataFillSegments, AutomataOrRefused, CutsChangeNothing, PiecesAreFed, PiecesChangeNothing, RefusalsAreOne, StreamFaultsAreOne, StreamsAreOne, StreamsAreUnrefused, StreamsOrRefused};
 
 use omega_automaton::{meanings_are_one, meanings_are_there};
 use omega_raw::raws_are_one;
@@ -83,9 +83,13 @@ pub fn streams_or_refused()
 }
 
 /// In whichever pieces a text within the limit is fed to a `Stream`, its items are the same, and what is answered at
-/// its end is alike: nothing, or the same refusal but for the place of 3 inside a segment.
+/// its end is alike: nothing, or the same refusal but for the place of 3 inside a segment. So it is of streams that are
+/// known to be fed with the same bytes (`fed`), and of every two lists of pieces with the same bytes (`pieces`), since
+/// pieces that are fed one behind the other are their bytes fed (`together`).
 pub fn pieces_change_nothing()
-    ensures { CutsChangeNothing }
+    ensures fed { CutsChangeNothing }
+    ensures together { PiecesAreFed }
+    ensures pieces { PiecesChangeNothing }
 {
     HoaKind::goes_on_one_way();
     cuts_are_one::<HoaKind>();
