@@ -57,10 +57,9 @@ wins_exactly nodes player won choices exact = record {
 pub right_answer : (nodes : List Node) (player : Player) (budget : ℕ) (found : Found) (output : List ℕ)
     → is_too_wide player (priorities nodes) ≡ false → IsFound nodes player budget found
     → output ≡ answer_text player found.lifts nodes (places_from 0 found.won.items) found.choice.items
-    → IsAnswerOf nodes player budget output
+    → IsAnswerOf nodes player budget found.lifts output
 right_answer nodes player budget found output narrow is_found written = record {
   narrow = narrow;
-  lifts = found.lifts;
   won = places_from 0 found.won.items;
   choices = found.choice.items;
   written = written;

@@ -1,5 +1,5 @@
--- In which games, and for whom, `solve` lifts.
-use Rattle.std.specs.Prelude.{◌≡◌, ◌⊎◌, ℕ, List, [], ◌∷◌, Option}
+-- In which games, and for whom, `solve` lifts, and that its answer counts the lifts that are told of.
+use Rattle.std.specs.Prelude.{◌≡◌, ◌⊎◌, ℕ, List, [], ◌∷◌, Option, None}
 use Rattle.omega_text.specs.declared.refusal.Refusal.{Refusal}
 use Rattle.omega_game.specs.declared.player.Player.{Player}
 use Rattle.omega_game.specs.declared.player.Player.TheVariants.{One, Zero}
@@ -8,7 +8,9 @@ use Rattle.omega_game_answers.specs.Part.{IsPartFrom}
 use Rattle.omega_game_answers.specs.Verify.{IsJudgedGame}
 use Rattle.omega_game_answers.specs.declared.solve.asked.Asked.{Asked}
 use Rattle.omega_game_answers.specs.declared.solve.asked.Asked.TheVariants as way
-use Rattle.omega_budget.specs.Watching.{AreMade, IsSpent}
+use Rattle.omega_game_answers.specs.solve.AnswerText.{IsAnswerOf}
+use Rattle.omega_budget.specs.Watching.{AreMade, IsSpent, TellsRun}
+use Rattle.omega_budget.specs.declared.watching.Progress.{Progress}
 
 -- for whom a game is lifted, until the run of one is refused; a search that answers makes no run
 abbrev pub AreRuns : Asked → Option Refusal → List Player → Type 0
@@ -27,3 +29,21 @@ LiftsPart game asked identifier refusal nodes players = IsPartFrom game identifi
 -- `solve` lifts the game of the text, or the part of it that a node reaches
 abbrev pub LiftsText : List ℕ → Asked → Option ℕ → Option Refusal → List Node → List Player → Type 0
 LiftsText text asked from refusal nodes players = IsJudgedGame text from nodes × AreRuns asked refusal players
+
+-- the answer for one player counts as many lifts as the run made that a listener was told of;
+-- of both players no lifts are counted
+abbrev pub CountsTold : {L : Type 0} → (Progress → L → L → Type 0) → (every : ℕ) → List Node → Asked → (budget : ℕ) → (output : List ℕ) → L → L → Type 0
+CountsTold tells every nodes way.Both budget output before after = Unit {0}
+CountsTold tells every nodes way.Search budget output before after = Unit {0}
+CountsTold tells every nodes (way.Player player) budget output before after =
+    (lifts : ℕ) × IsAnswerOf nodes player budget lifts output × TellsRun tells every nodes player budget lifts None before after
+
+-- so does the answer for the part of a game that the node with the identifier reaches
+abbrev pub CountsToldOfPart : {L : Type 0} → (Progress → L → L → Type 0) → (every : ℕ) → List Node → Asked → (identifier budget : ℕ) → (output : List ℕ) → L → L → Type 0
+CountsToldOfPart tells every game asked identifier budget output before after =
+    (nodes : List Node) × IsPartFrom game identifier nodes × CountsTold tells every nodes asked budget output before after
+
+-- so does what `solve` answers for the game of the text, or for the part of it that a node reaches
+abbrev pub CountsToldOfText : {L : Type 0} → (Progress → L → L → Type 0) → (every : ℕ) → List ℕ → Asked → Option ℕ → (budget : ℕ) → (output : List ℕ) → L → L → Type 0
+CountsToldOfText tells every text asked from budget output before after =
+    (nodes : List Node) × IsJudgedGame text from nodes × CountsTold tells every nodes asked budget output before after

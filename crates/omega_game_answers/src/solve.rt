@@ -4,7 +4,7 @@ ghost use Rattle.omega_text.specs.Cases.{or_memory};
 ghost use Rattle.omega_game_answers.specs.solve.Refusing.{IsSolveRefusal};
 ghost use Rattle.omega_game_answers.specs.solve.Solving.{IsSolveAnswer, SolvesPart, SolvesWhole};
 ghost use Rattle.omega_game_answers.specs.steps.SolveGameRefusal.{IsSolveGameRefusal};
-ghost use Rattle.omega_game_answers.specs.Watching.{LiftsWholeGame, LiftsPart, LiftsText};
+ghost use Rattle.omega_game_answers.specs.Watching.{CountsTold, CountsToldOfPart, CountsToldOfText, LiftsPart, LiftsText, LiftsWholeGame};
 ghost use Rattle.omega_budget.specs.Watching.{IsWatched, refusal_in};
 
 mod answer_text;
@@ -40,6 +40,7 @@ pub fn solve_game<L, W: Watch<L>>(
     ensures answer { IfOk result (λ output. IsSolveAnswer text.items asked from budget output.items) }
     ensures refused { IfErr result (or_memory (IsSolveRefusal text.items asked from budget)) }
     ensures told { IsWatched (LiftsText text.items asked from) (refusal_in result) (W.tells watch.now) (W.pace watch.now) budget listener.old listener.new }
+    ensures counted { IfOk result (λ output. CountsToldOfText (W.tells watch.now) (W.pace watch.now) text.items asked from budget output.items listener.old listener.new) }
 {
     let game = game_of(alloc, text)?;
     match from {
@@ -62,6 +63,7 @@ fn solve_part<L, W: Watch<L>>(
     ensures answer { IfOk result (λ output. SolvesPart game asked identifier budget output.items) }
     ensures refused { IfErr result (IsSolveGameRefusal game asked (Some identifier) budget) }
     ensures told { IsWatched (LiftsPart game asked identifier) (refusal_in result) (W.tells watch.now) (W.pace watch.now) budget listener.old listener.new }
+    ensures counted { IfOk result (λ output. CountsToldOfPart (W.tells watch.now) (W.pace watch.now) game asked identifier budget output.items listener.old listener.new) }
 {
     regions_of_parts();
     game.keeps_limits();
@@ -82,6 +84,7 @@ fn solve_whole<L, W: Watch<L>>(
     ensures answer { IfOk result (λ output. SolvesWhole game.now asked budget output.items) }
     ensures refused { IfErr result (IsSolveGameRefusal game.now asked None budget) }
     ensures told { IsWatched (LiftsWholeGame game.now asked) (refusal_in result) (W.tells watch.now) (W.pace watch.now) budget listener.old listener.new }
+    ensures counted { IfOk result (λ output. CountsTold (W.tells watch.now) (W.pace watch.now) game.now asked budget output.items listener.old listener.new) }
 {
     match asked {
         Asked::Both => solve_both(alloc, game, budget, watch, listener),

@@ -38,11 +38,10 @@ pub record WinsExactly (nodes : List Node) (player : Player) (won : List ℕ) (c
   pub printed : (v w : ℕ) → Chooses choices v w → Contains won v
   pub wins : (v : ℕ) → Contains won v → Wins nodes player choices v
 
--- a right answer for a game that is not too wide: it wins exactly, and so many lifts,
+-- a right answer for a game that is not too wide: it wins exactly, and the lifts that it counts,
 -- at most the budget and at most the bound, end a lifting run
-pub record IsAnswerOf (nodes : List Node) (player : Player) (budget : ℕ) (output : List ℕ) : Type 0 where
+pub record IsAnswerOf (nodes : List Node) (player : Player) (budget lifts : ℕ) (output : List ℕ) : Type 0 where
   pub narrow : is_too_wide player (priorities nodes) ≡ false
-  pub lifts : ℕ
   pub won : List ℕ
   pub choices : List (Option ℕ)
   pub written : output ≡ answer_text player lifts nodes won choices

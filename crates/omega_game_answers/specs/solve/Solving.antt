@@ -21,7 +21,7 @@ SameRegions game kept part player =
 abbrev pub SolvesWhole : List Node → Asked → ℕ → List ℕ → Type 0
 SolvesWhole nodes way.Both budget output = IsSolutionOf nodes budget output
 SolvesWhole nodes way.Search budget output = IsExactSolutionOf nodes output
-SolvesWhole nodes (way.Player player) budget output = IsAnswerOf nodes player budget output
+SolvesWhole nodes (way.Player player) budget output = (lifts : ℕ) × IsAnswerOf nodes player budget lifts output
 
 -- a right answer for the part that the node with the identifier reaches,
 -- whose nodes are won in the part exactly where they are won in the game

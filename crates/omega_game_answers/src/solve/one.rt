@@ -1,9 +1,8 @@
 ghost use Rattle.std.specs.Prelude.{◌≡◌, ◌≤◌, IfOk, IfErr, None};
 ghost use Rattle.omega_game_answers.specs.declared.solve.asked.Asked.TheVariants as way;
 ghost use Rattle.omega_solve.specs.Limits.{most_lifts};
-ghost use Rattle.omega_game_answers.specs.solve.AnswerText.{IsAnswerOf};
 ghost use Rattle.omega_game_answers.specs.steps.SolveGameRefusal.{IsSolveGameRefusal};
-ghost use Rattle.omega_game_answers.specs.Watching.{LiftsWholeGame};
+ghost use Rattle.omega_game_answers.specs.Watching.{CountsTold, LiftsWholeGame};
 ghost use Rattle.omega_budget.specs.Watching.{IsWatched, refusal_in};
 
 use super::answer_text::write_answer;
@@ -21,7 +20,7 @@ pub fn solve_one<L, W: Watch<L>>(
     listener: &mut L,
 ) -> Result<Vec<u8>, Refusal>
     requires { budget ≤ most_lifts }
-    ensures answer { IfOk result (λ output. IsAnswerOf game.now player budget output.items) }
+    ensures answer { IfOk result (λ output. CountsTold (W.tells watch.now) (W.pace watch.now) game.now (way.Player player) budget output.items listener.old listener.new) }
     ensures refused { IfErr result (IsSolveGameRefusal game.now (way.Player player) None budget) }
     ensures told { IsWatched (LiftsWholeGame game.now (way.Player player)) (refusal_in result) (W.tells watch.now) (W.pace watch.now) budget listener.old listener.new }
 {

@@ -1,6 +1,7 @@
 -- `solve_game`: the text for the whole game is refused as it is, and what is told is told of runs in the game of the
 -- text, or in its part.
 use Rattle.std.proofs.Common.{rules}
+use Rattle.std.proofs.lemmas.Result.{IfOk-weaker}
 use Rattle.omega_pg.specs.game.Refusing.{IsReadRefusal}
 use Rattle.omega_game_answers.proofs.Watching.{read_spares}
 use Rattle.omega_budget.proofs.Watched.{none_watched, spares, watched_alike, watched_as}
@@ -24,3 +25,17 @@ returns-in-Some-clause-told g c =
     rw c.in-Some.is (watched_as _ _ _ _ _ _ _ _
     (λ nodes players lifted. (record { game = c.in_ok-game.game; read = c.in_ok-game.ensures.game; part_of = lifted.0 }, lifted.1))
     c.solve_part.ensures.told)
+
+pub returns-in-None-clause-counted : goal.returns-in-None-clause-counted
+returns-in-None-clause-counted g c =
+    rw c.in-None.is (IfOk-weaker c.solve_whole.result _ _ (λ output counted. (c.in_ok-game.game, c.in_ok-game.ensures.game, counted)) c.solve_whole.ensures.counted)
+
+pub returns-in-Some-clause-counted : goal.returns-in-Some-clause-counted
+returns-in-Some-clause-counted g c =
+    rw c.in-Some.is (IfOk-weaker c.solve_part.result _ _
+    (λ output counted. (
+      counted.0,
+      record { game = c.in_ok-game.game; read = c.in_ok-game.ensures.game; part_of = counted.1 },
+      counted.2,
+    ))
+    c.solve_part.ensures.counted)

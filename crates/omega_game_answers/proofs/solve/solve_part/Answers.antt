@@ -45,3 +45,7 @@ pub returns-clause-told : goal.returns-clause-told
 returns-clause-told g c =
     let part_of = c.in_ok-part.ensures.part in
     watched_as _ _ _ _ _ _ _ _ (λ nodes players lifted. (rw lifted.0 part_of, lifted.1)) c.solve_whole.ensures.told
+
+pub returns-clause-counted : goal.returns-clause-counted
+returns-clause-counted g c =
+    IfOk-weaker c.solve_whole.result _ _ (λ output counted. (c.in_ok-part.part, c.in_ok-part.ensures.part, counted)) c.solve_whole.ensures.counted

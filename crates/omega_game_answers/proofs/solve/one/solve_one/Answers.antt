@@ -1,4 +1,5 @@
--- `solve_one`: what was found for the player is a right answer, and what was refused is a fault of the game.
+-- `solve_one`: what was found for the player is a right answer, which counts the lifts of the run that was told of, and
+-- what was refused is a fault of the game.
 use Rattle.std.proofs.Common.{◌≡◌, None, Some, Ok, Err, List, Bool, refl, rules, subst, true}
 use Rattle.std.specs.List.{slice_get}
 use Rattle.std.proofs.lemmas.Result.{IfOk-weaker}
@@ -20,11 +21,14 @@ pub returns-clause-answer : goal.returns-clause-answer
 returns-clause-answer g c =
     let same = c.in_ok-reordered.ensures.given in
     IfOk-weaker c.write_answer.result _ _
-    (λ output written.
-    right_answer c.args.game.now c.args.player c.args.budget c.in_ok-found.found output.items
-    (narrow_for _ _ same c.args.player (c.in_ok-found.ensures.fits (refl {a = true})))
-    (found_for _ _ same c.args.player c.args.budget c.in_ok-found.found c.in_ok-found.ensures.found)
-    (rw (← c.as_slice.ensures.value, ← c.as_slice-2.ensures.value) written))
+    (λ output written. (
+      c.in_ok-found.found.lifts,
+      right_answer c.args.game.now c.args.player c.args.budget c.in_ok-found.found output.items
+          (narrow_for _ _ same c.args.player (c.in_ok-found.ensures.fits (refl {a = true})))
+          (found_for _ _ same c.args.player c.args.budget c.in_ok-found.found c.in_ok-found.ensures.found)
+          (rw (← c.as_slice.ensures.value, ← c.as_slice-2.ensures.value) written),
+      told_for _ _ same c.args.player _ _ _ (Ok c.in_ok-found.found) _ _ (rw c.in_ok-found.was at c.solve.ensures.told),
+    ))
     c.write_answer.ensures.text
 
 pub returns-in_err-found-clause-refused : goal.returns-in_err-found-clause-refused
