@@ -68,9 +68,10 @@ def shim():
 
 
 class Shimmed:
-    """The program under the shim."""
+    """A program under the shim."""
 
-    def __init__(self, folder, path):
+    def __init__(self, folder, path, program=OMEGA):
+        self.program = program
         self.count = os.path.join(folder, "count")
         self.held = os.path.join(folder, "game")
         self.path = path
@@ -84,7 +85,7 @@ class Shimmed:
         given = {"LD_PRELOAD": self.path, "REFUSE_COUNT": self.count}
         if refuse_from:
             given |= {"REFUSE_FROM": str(refuse_from), "REFUSE_TO": str(max(refuse_from, refuse_to))}
-        ran = subprocess.run([OMEGA] + words, input=text, capture_output=True, env=given, timeout=SECONDS)
+        ran = subprocess.run([self.program] + words, input=text, capture_output=True, env=given, timeout=SECONDS)
         with open(self.count) as file:
             return (ran.returncode, ran.stdout, ran.stderr), int(file.read())
 

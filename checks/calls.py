@@ -1,0 +1,139 @@
+"""Public calls of the libraries, each with every request for memory refused in turn: an answer as with ample memory, or 60.
+
+The program `omega_calls` makes one call a run. It asks some calls a second time where a request was refused, and ends
+with status 61 where they left something changed that they promise to leave as it was."""
+import os
+import subprocess
+
+from memory import (ABORTED, ALIASES, BUCHI, CARRY, CHOICE, DENSE, GAPS, TWO, TWO_SETS, WRITTEN, Shimmed, shim)
+from program import ROOT, shown
+
+CRATE = os.path.join(ROOT, "crates", "omega_calls")
+CALLS = os.path.join(CRATE, "out", "omega_calls")
+
+GAMES = (TWO, GAPS, CARRY, CHOICE, DENSE)
+AUTOMATA = (BUCHI, ALIASES, WRITTEN, TWO_SETS)
+LABEL = b"!(0 & @a) | (t | !!f) & 2"
+FORMULA = b"(Inf(0) & Fin(!1)) | t & (f | Inf(2))"
+STREAM = ABORTED + b" " + BUCHI + WRITTEN
+
+# Calls, the two texts that they are given, and the status and the beginning of the output with ample memory, which are
+# known by hand.
+RUNS = [
+    ("write_number", b"", b"", 0, b"<340282366920938463463374607431768211455"),
+    ("pg_tokens", b"0 12;", b"", 0, b"0 1 2 4 4 5 "),
+    ("pg_tokens", b"0 00", b"", 2, b""),
+    ("hoa_tokens", b"HOA: v1", b"", 0, b"0 4 5 7 "),
+    ("ByteString", b"a" * 40, b"", 0, b"a" * 40),
+    ("Numbers", b"", b"", 0, b"3 1 4 1 5 0 1 2 3 4 "),
+    ("write_escaped", b'"\\&' * 20, b"", 0, b'\\"\\\\&amp;'),
+    ("write_name_line", b"n" * 40, b"", 0, b"n" * 40),
+    *((call, LABEL, b"", 0, b"<!(0&(1|2))|(t|!!f)&2") for call in ("read_label", "read_raw_label")),
+    ("read_label", b"0 &", b"", 3, b""),
+    ("RawLabel", b"", b"", 0, b"<!0&t|(1|2)"),
+    *((call, b"@b|!@a", b"0|1", 0, b"<(0|1)&!(0|1)|!(0|1)") for call in ("expand", "expand_in_place")),
+    ("expand", b"@c", b"0|1", 27, b""),
+    ("expanded_size", b"@b|!@a", b"0|1", 0, b"13 "),
+    *((call, FORMULA, b"", 0, b"<Inf(0)&Fin(!1)|t&(f|Inf(2))") for call in ("read_acc", "read_raw_acc")),
+    ("read_acc", b"Inf(", b"", 3, b""),
+    *((call, b"", b"", 0, b"<Inf(0)&t|Fin(!1)") for call in ("RawAcc", "Acc")),
+    *((call, text, b"", 0, b"HOA: v1\n") for call in ("read_raw", "automaton_of", "read_one", "write_canonical")
+      for text in AUTOMATA),
+    *((call, b"HOA: v2 --BODY-- --END--", b"", 20, b"") for call in ("automaton_of", "read_one")),
+    *((call, text, b"", 0, b"digraph automaton {\n") for call in ("draw_automaton", "draw_lasso") for text in AUTOMATA),
+    *((call, STREAM, b"", 0, b"aborted\nHOA: v1\n") for call in ("read_stream", "feed")),
+    *((call, BUCHI + b"x", b"", 3, b"") for call in ("read_stream", "feed")),
+    *((call, text, b"", 0, b"parity ") for call in ("read_game", "GameBuilder", "part") for text in GAMES),
+    ("read_game", b"0 0 0 1;", b"", 11, b""),
+    ("build", b"", b"", 0, b"parity 7;\n7 1 1 7,7;\n"),
+    *(("draw_game", text, b"", 0, b"digraph game {\n") for text in GAMES),
+    ("read_solution", CHOICE, b"paritysol 2; 0 0 2; 1 0; 2 0;", 0, b"paritysol 2;\n0 0 2;\n1 0;\n2 0;\n"),
+    ("read_solution", CHOICE, b"paritysol 2; 0 0;", 53, b""),
+    ("draw_solution", CHOICE, b"paritysol 2; 0 0 2; 1 0; 2 0;", 0, b"digraph game {\n"),
+    ("places_given", CHOICE, b"paritysol 2; 0 0 2; 1 0; 2 0;", 0, b"0 1 2 ;;"),
+    *((call, CHOICE, b"paritysol 2; 0 0 2; 1 0; 2 0;", 0, b"++")
+      for call in ("check_strategy", "check_strategy_fast", "counterexample")),
+    *((call, CHOICE, b"paritysol 2; 0 0 1; 1 0; 2 0;", 0, b"-+") for call in ("check_strategy", "check_strategy_fast")),
+    ("check_strategy_by_order", CHOICE, b"paritysol 2; 0 0 1; 1 0; 2 0;", 0, b"-+"),
+    ("counterexample", CHOICE, b"paritysol 2; 0 0 1; 1 0; 2 0;", 0, b""),
+    *(("Reordered", text, b"", 0, b"") for text in GAMES),
+    *((call, text, b"", 0, b"") for call in ("solve_by_search", "search") for text in GAMES),
+    ("order", CHOICE, b"", 0, b""),
+    *((call, text, b"", 0, b"") for call in ("emptiness_game", "emptiness", "lasso", "verdict_of")
+      for text in (BUCHI, TWO_SETS, WRITTEN)),
+    ("emptiness", b"HOA: v1 Acceptance: 0 t --BODY-- --END--", b"", 40, b""),
+]
+
+SOLVERS = [f"{table} {order}" for table in ("plain", "packed") for order in ("sweep", "worklist", "nested")]
+
+# Calls that ask for no memory behind those that make what they are asked of: made where the second text is `run`.
+QUIET = [
+    *((solver, text, b"") for solver in SOLVERS for text in GAMES),
+    *(("texts", text, b"") for text in AUTOMATA),
+    *(("game", text, b"") for text in GAMES),
+    ("label", b"0 & !0 | 1 & 2", b"+"),
+    ("label", b"0 & !0", b"-"),
+    *(("automaton", text, b"") for text in AUTOMATA),
+]
+
+
+def build():
+    """Builds the program where it is missing, or older than its sources or a library."""
+    sources = [os.path.join(folder, name) for folder, _, names in os.walk(os.path.join(CRATE, "src")) for name in names]
+    if os.path.exists(CALLS) and all(os.path.getmtime(file) <= os.path.getmtime(CALLS) for file in sources):
+        return
+    subprocess.run(["rt", "run", "--", "write_number", "0", "0"], cwd=CRATE, stdout=subprocess.DEVNULL, check=True)
+
+
+def fault_in(came, ample):
+    """What is wrong with status and output behind a refused request."""
+    return None if came in (ample, (60, b"", b"")) else f"status {came[0]}, {shown(came[1])}, {shown(came[2])}"
+
+
+def refused_calls(shimmed, call, text, other, status, beginning):
+    """Each request refused, alone and with all behind it."""
+    words = [call, text, other]
+    ample, requests = shimmed.run(words, b"", None)
+    label = f"{call} of {shown(text)} {shown(other)}"
+    wanted = ample[0] == status and ample[1].startswith(beginning) and (status == 0) == (ample[1] != b"")
+    yield f"{label}: with ample memory", None if wanted else f"status {ample[0]}, {shown(ample[1])}"
+    for n in range(1, requests + 1):
+        for to in (n, 2 ** 60):
+            came, _ = shimmed.run(words, b"", None, n, to)
+            yield f"{label}: request {n} of {requests}{'' if to == n else ' and all behind it'}", fault_in(came, ample)
+
+
+def quiet_calls(shimmed, call, text, beginning):
+    """The calls make no request, and with each later request refused they give what they give with ample memory."""
+    _, before = shimmed.run([call, text, b""], b"", None)
+    ample, requests = shimmed.run([call, text, b"run"], b"", None)
+    label = f"{call} of {shown(text)}"
+    fault = None
+    if ample[0] != 0 or not ample[1].startswith(beginning) or ample[1] == b"":
+        fault = f"status {ample[0]}, {shown(ample[1])}"
+    elif requests != before:
+        fault = f"{requests} requests, and {before} without these calls"
+    yield f"{label}: requests", fault
+    came, _ = shimmed.run([call, text, b"run"], b"", None, before + 1, 2 ** 60)
+    yield f"{label}: no memory left", None if came == ample else f"status {came[0]}, {shown(came[1])}"
+
+
+def pieces_again(shimmed):
+    """A stream in pieces gives the items of the whole text, also where a piece was fed once more behind a refused request."""
+    whole, _ = shimmed.run(["read_stream", STREAM, b""], b"", None)
+    fed, requests = shimmed.run(["feed", STREAM, b""], b"", None)
+    yield "a stream in pieces and whole", None if fed == whole else f"{shown(fed[1])} for {shown(whole[1])}"
+    again = [shimmed.run(["feed", STREAM, b""], b"", None, n)[0] for n in range(1, requests + 1)]
+    most = sum(came == whole for came in again)
+    yield "pieces fed once more", None if most * 2 > requests else f"{most} answers for {requests} refused requests"
+
+
+def call_checks():
+    build()
+    with shim() as (folder, path):
+        shimmed = Shimmed(folder, path, CALLS)
+        for run in RUNS:
+            yield from refused_calls(shimmed, *run)
+        for run in QUIET:
+            yield from quiet_calls(shimmed, *run)
+        yield from pieces_again(shimmed)

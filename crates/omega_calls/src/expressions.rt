@@ -1,0 +1,182 @@
+//! Labels, aliases and acceptance formulas.
+use crate::lists::put;
+use omega_acc::{
+    Acc, Aliases, Label, RawAcc, RawLabel, expand, expand_in_place, expanded_size, read_acc,
+    read_label, read_raw_acc, read_raw_label, write_acc, write_label,
+};
+use omega_text::{Cursor, HoaKind, Refusal, TextCursor, check_tokens, hoa_tokens};
+use std::alloc::Global;
+
+pub(crate) fn called(
+    alloc: Global,
+    call: &str,
+    text: &[u8],
+    other: &[u8],
+) -> Option<Result<Vec<u8>, Refusal>> {
+    match call {
+        "read_label" => Some(label_written(alloc, label_in(alloc, text))),
+        "read_raw_label" => Some(label_written(alloc, raw_label_in(alloc, text))),
+        "RawLabel" => Some(label_written(alloc, label_built(alloc))),
+        "expand" => Some(expanded(alloc, text, other)),
+        "expand_in_place" => Some(expanded_in_place(alloc, text, other)),
+        "expanded_size" => Some(size(alloc, text, other)),
+        "read_acc" => Some(formula_written(alloc, formula_in(alloc, text))),
+        "read_raw_acc" => Some(raw_written(alloc, raw_formula_in(alloc, text))),
+        "RawAcc" => Some(raw_written(alloc, raw_built(alloc))),
+        "Acc" => Some(formula_written(alloc, built(alloc))),
+        _ => None,
+    }
+}
+
+/// The label of a text, over the list of its tokens.
+fn label_in(alloc: Global, text: &[u8]) -> Result<RawLabel, Refusal> {
+    let tokens = hoa_tokens(alloc, text)?;
+    read_label(alloc, &mut Cursor::new(tokens.as_slice(), text.len()))
+}
+
+/// The same over the bytes.
+fn raw_label_in(alloc: Global, text: &[u8]) -> Result<RawLabel, Refusal> {
+    match check_tokens::<HoaKind>(text) {
+        Ok(()) => read_raw_label(alloc, &mut TextCursor::<HoaKind>::new(text)),
+        Err(fault) => Err(Refusal::Text(fault)),
+    }
+}
+
+/// `(!0)&t|@a`.
+fn label_built(alloc: Global) -> Result<RawLabel, Refusal> {
+    let left = front_built(alloc)?;
+    left.or(RawLabel::alias(alloc, b"@a")?)
+}
+
+fn front_built(alloc: Global) -> Result<RawLabel, Refusal> {
+    let left = RawLabel::proposition(alloc, 0)?.not()?.group()?;
+    left.and(RawLabel::constant(alloc, true)?)
+}
+
+/// What is written of a label in which `@a` stands for `1|2`.
+fn label_written(alloc: Global, raw: Result<RawLabel, Refusal>) -> Result<Vec<u8>, Refusal> {
+    match raw {
+        Ok(raw) => over_aliases(alloc, &raw, &aliases(alloc, b"1|2")?),
+        Err(refusal) => Err(refusal),
+    }
+}
+
+fn over_aliases(alloc: Global, raw: &RawLabel, aliases: &Aliases) -> Result<Vec<u8>, Refusal> {
+    written(alloc, &expand(alloc, raw, aliases)?)
+}
+
+/// A label behind `<`. A refused request leaves `<` alone, and the label is asked for once more.
+fn written(alloc: Global, label: &Label) -> Result<Vec<u8>, Refusal> {
+    let mut out = Vec::from_slice(alloc, b"<")?;
+    match write_label(label, &mut out) {
+        Ok(()) => Ok(out),
+        Err(_) if out.as_slice() != b"<".as_slice() => Err(Refusal::Io),
+        Err(_) => {
+            write_label(label, &mut out)?;
+            Ok(out)
+        }
+    }
+}
+
+/// `@a` for a text, and `@b` for `@a&!@a`.
+fn aliases(alloc: Global, text: &[u8]) -> Result<Aliases, Refusal> {
+    let mut aliases = Aliases::new(alloc);
+    add_again(alloc, &mut aliases, b"@a", text)?;
+    add_again(alloc, &mut aliases, b"@b", b"@a&!@a")?;
+    Ok(aliases)
+}
+
+/// Adds an alias. A refused request adds none, so that it may be added once more.
+fn add_again(
+    alloc: Global,
+    aliases: &mut Aliases,
+    name: &[u8],
+    text: &[u8],
+) -> Result<(), Refusal> {
+    match aliases.add(name, label_in(alloc, text)?) {
+        Err(Refusal::Memory) => aliases.add(name, label_in(alloc, text)?),
+        given => given,
+    }
+}
+
+fn expanded(alloc: Global, text: &[u8], definition: &[u8]) -> Result<Vec<u8>, Refusal> {
+    let aliases = aliases(alloc, definition)?;
+    over_aliases(alloc, &label_in(alloc, text)?, &aliases)
+}
+
+fn expanded_in_place(alloc: Global, text: &[u8], definition: &[u8]) -> Result<Vec<u8>, Refusal> {
+    let aliases = aliases(alloc, definition)?;
+    let label = expand_in_place(alloc, label_in(alloc, text)?, &aliases)?;
+    written(alloc, &label)
+}
+
+fn size(alloc: Global, text: &[u8], definition: &[u8]) -> Result<Vec<u8>, Refusal> {
+    let aliases = aliases(alloc, definition)?;
+    let size = expanded_size(alloc, &label_in(alloc, text)?, &aliases)?;
+    let mut out = Vec::new(alloc);
+    put(&mut out, u128::from(size))?;
+    Ok(out)
+}
+
+/// The acceptance formula of a text, over the list of its tokens.
+fn formula_in(alloc: Global, text: &[u8]) -> Result<Acc, Refusal> {
+    let tokens = hoa_tokens(alloc, text)?;
+    read_acc(alloc, &mut Cursor::new(tokens.as_slice(), text.len()))
+}
+
+/// The same as it is written, over the bytes.
+fn raw_formula_in(alloc: Global, text: &[u8]) -> Result<RawAcc, Refusal> {
+    match check_tokens::<HoaKind>(text) {
+        Ok(()) => read_raw_acc(alloc, &mut TextCursor::<HoaKind>::new(text)),
+        Err(fault) => Err(Refusal::Text(fault)),
+    }
+}
+
+/// `(Inf(0))&t|Fin(!1)`.
+fn raw_built(alloc: Global) -> Result<RawAcc, Refusal> {
+    let left = raw_front_built(alloc)?;
+    left.or(RawAcc::atom(alloc, b"Fin", true, 1)?)
+}
+
+fn raw_front_built(alloc: Global) -> Result<RawAcc, Refusal> {
+    let left = RawAcc::atom(alloc, b"Inf", false, 0)?.group()?;
+    left.and(RawAcc::constant(alloc, true)?)
+}
+
+/// `Inf(0)&t|Fin(!1)`.
+fn built(alloc: Global) -> Result<Acc, Refusal> {
+    let left = front_of_built(alloc)?;
+    left.or(Acc::fin(alloc, true, 1)?)
+}
+
+fn front_of_built(alloc: Global) -> Result<Acc, Refusal> {
+    let left = Acc::inf(alloc, false, 0)?;
+    left.and(Acc::constant(alloc, true)?)
+}
+
+fn raw_written(alloc: Global, raw: Result<RawAcc, Refusal>) -> Result<Vec<u8>, Refusal> {
+    match raw {
+        Ok(raw) => formula_written(alloc, raw.formula(alloc)),
+        Err(refusal) => Err(refusal),
+    }
+}
+
+fn formula_written(alloc: Global, formula: Result<Acc, Refusal>) -> Result<Vec<u8>, Refusal> {
+    match formula {
+        Ok(formula) => text_of(alloc, &formula),
+        Err(refusal) => Err(refusal),
+    }
+}
+
+/// A formula behind `<`. A refused request leaves `<` alone, and the formula is asked for once more.
+fn text_of(alloc: Global, formula: &Acc) -> Result<Vec<u8>, Refusal> {
+    let mut out = Vec::from_slice(alloc, b"<")?;
+    match write_acc(formula, &mut out) {
+        Ok(()) => Ok(out),
+        Err(_) if out.as_slice() != b"<".as_slice() => Err(Refusal::Io),
+        Err(_) => {
+            write_acc(formula, &mut out)?;
+            Ok(out)
+        }
+    }
+}

@@ -1,0 +1,229 @@
+//! Games, solutions and strategies: read, built, judged, written, drawn.
+ghost use Rattle.std.specs.Prelude.{◌<◌, length, All, IfOk, IsTrue};
+
+use crate::lists::{put_all, put_answer};
+use omega_game::{
+    Game, GameBuilder, Lasso, MOST_NUMBER, NodeSpec, Player, Refusal, Seq, Solution,
+    check_strategy, check_strategy_by_order, check_strategy_fast, counterexample,
+};
+use omega_game_drawing::{draw_game, draw_solution};
+use omega_pg::{read_game, read_solution, write_game, write_solution};
+use std::alloc::Global;
+
+pub(crate) fn called(
+    alloc: Global,
+    call: &str,
+    text: &[u8],
+    other: &[u8],
+) -> Option<Result<Vec<u8>, Refusal>> {
+    match call {
+        "read_game" => Some(written(alloc, read_game(alloc, text))),
+        "GameBuilder" => Some(written(alloc, built_again(alloc, text))),
+        "build" => Some(written(alloc, built_of_one(alloc))),
+        "part" => Some(written(alloc, part(alloc, text))),
+        "draw_game" => Some(drawn(alloc, text)),
+        "read_solution"
+        | "draw_solution"
+        | "places_given"
+        | "check_strategy"
+        | "check_strategy_fast"
+        | "check_strategy_by_order"
+        | "counterexample" => { Some(called_of_both(alloc, call, text, other)) }
+        _ => None,
+    }
+}
+
+fn written(alloc: Global, game: Result<Game, Refusal>) -> Result<Vec<u8>, Refusal> {
+    match game {
+        Ok(game) => write_game(alloc, &game),
+        Err(refusal) => Err(refusal),
+    }
+}
+
+fn drawn(alloc: Global, text: &[u8]) -> Result<Vec<u8>, Refusal> {
+    match read_game(alloc, text) {
+        Ok(game) => draw_game(alloc, &game),
+        Err(refusal) => Err(refusal),
+    }
+}
+
+/// The part of the game's first node.
+fn part(alloc: Global, text: &[u8]) -> Result<Game, Refusal> {
+    match read_game(alloc, text) {
+        Ok(game) => part_of_first(alloc, &game),
+        Err(refusal) => Err(refusal),
+    }
+}
+
+fn part_of_first(alloc: Global, game: &Game) -> Result<Game, Refusal> {
+    if game.len() == 0 {
+        return Err(Refusal::Io);
+    }
+    game.part(alloc, 0)
+}
+
+/// The game of one node with a name.
+fn built_of_one(alloc: Global) -> Result<Game, Refusal> {
+    let successors = Seq::from_vec(Vec::from_slice(alloc, &[7, 7])?);
+    let specs = vec![in alloc;
+        NodeSpec {
+            id: 7,
+            priority: 1,
+            owner: Player::One,
+            successors,
+            name: None
+        },
+    ]?;
+    Game::build(alloc, specs)
+}
+
+/// The game of a text, its nodes handed to a builder one by one.
+fn built_again(alloc: Global, text: &[u8]) -> Result<Game, Refusal> {
+    match read_game(alloc, text) {
+        Ok(game) => rebuilt(GameBuilder::with_room(alloc, 1, 1)?, &game),
+        Err(refusal) => Err(refusal),
+    }
+}
+
+fn rebuilt(mut builder: GameBuilder, game: &Game) -> Result<Game, Refusal> {
+    for place in 0..game.len() as u32 {
+        add_node(&mut builder, game, place)?;
+    }
+    if builder.len() == 0 {
+        return Err(Refusal::Io);
+    }
+    builder.finish()
+}
+
+/// Adds the node at a place. A refused request adds nothing, so that it may be added once more.
+fn add_node(builder: &mut GameBuilder, game: &Game, place: u32) -> Result<(), Refusal>
+    requires { place < length game.now }
+{
+    let (id, priority, owner) = (game.id(place), game.priority(place), game.owner(place));
+    let successors = game.successors(place);
+    if successors.is_empty() || id > MOST_NUMBER || priority > MOST_NUMBER {
+        return Err(Refusal::Io);
+    }
+    for (at, successor) in successors.iter().enumerate() {
+        if *successor as usize >= game.len() {
+            return Err(Refusal::Io);
+        }
+        let id_of_successor = game.id(*successor);
+        if at == 0 {
+            add_again(builder, id, priority, owner, id_of_successor)?;
+        } else {
+            list_again(builder, id_of_successor)?;
+        }
+    }
+    Ok(())
+}
+
+fn add_again(
+    builder: &mut GameBuilder,
+    id: u32,
+    priority: u32,
+    owner: Player,
+    first: u32,
+) -> Result<(), Refusal> {
+    if id > MOST_NUMBER || priority > MOST_NUMBER || first > MOST_NUMBER {
+        return Err(Refusal::Io);
+    }
+    let count = builder.len();
+    match builder.add_node(id, priority, owner, first) {
+        Err(Refusal::Memory) if builder.len() != count => Err(Refusal::Io),
+        Err(Refusal::Memory) => builder.add_node(id, priority, owner, first),
+        given => given,
+    }
+}
+
+fn list_again(builder: &mut GameBuilder, successor: u32) -> Result<(), Refusal> {
+    if builder.len() == 0 || successor > MOST_NUMBER {
+        return Err(Refusal::Io);
+    }
+    match builder.add_successor(successor) {
+        Err(Refusal::Memory) if builder.len() != 0 => builder.add_successor(successor),
+        given => given,
+    }
+}
+
+/// What a call gives of a game and a solution.
+fn called_of_both(
+    alloc: Global,
+    call: &str,
+    text: &[u8],
+    other: &[u8],
+) -> Result<Vec<u8>, Refusal> {
+    match read_game(alloc, text) {
+        Ok(game) => of_game(alloc, call, &game, other),
+        Err(refusal) => Err(refusal),
+    }
+}
+
+fn of_game(alloc: Global, call: &str, game: &Game, other: &[u8]) -> Result<Vec<u8>, Refusal> {
+    match read_solution(alloc, game, other) {
+        Ok(solution) => match call {
+            "read_solution" => write_solution(alloc, game, &solution),
+            "draw_solution" => draw_solution(alloc, game, &solution),
+            _ => judged(alloc, call, game, &solution),
+        },
+        Err(refusal) => Err(refusal),
+    }
+}
+
+/// What a call gives of both players' choices.
+fn judged(alloc: Global, call: &str, game: &Game, solution: &Solution) -> Result<Vec<u8>, Refusal> {
+    let mut out = Vec::new(alloc);
+    judge(alloc, call, game, solution, Player::Zero, &mut out)?;
+    judge(alloc, call, game, solution, Player::One, &mut out)?;
+    Ok(out)
+}
+
+fn judge(
+    alloc: Global,
+    call: &str,
+    game: &Game,
+    solution: &Solution,
+    player: Player,
+    out: &mut Vec<u8>,
+) -> Result<(), Refusal> {
+    if solution.winners.len() > MOST_NUMBER as usize {
+        return Err(Refusal::Io);
+    }
+    let places = solution.places_given(alloc, player)?;
+    if !are_places(game, places.as_slice()) || !solution.strategy(player).fits(game, player) {
+        return Err(Refusal::Io);
+    }
+    let (given, strategy) = (places.as_slice(), solution.strategy(player));
+    match call {
+        "places_given" => put_all(out, given),
+        "check_strategy" => put_answer(out, check_strategy(alloc, game, player, given, strategy)?),
+        "check_strategy_fast" => {
+            let said = check_strategy_fast(alloc, game, player, given, strategy)?;
+            put_answer(out, said == Some(true))
+        }
+        "check_strategy_by_order" => {
+            put_answer(
+                out,
+                check_strategy_by_order(alloc, game, player, given, strategy, given)?,
+            )
+        }
+        _ => put_lasso(out, counterexample(alloc, game, player, given, strategy)?),
+    }
+}
+
+fn are_places(game: &Game, places: &[u32]) -> bool
+    ensures { IsTrue result → All (λ place. place < length game.now) places.now }
+{
+    let count = game.len();
+    places.iter().all(|place| (*place as usize) < count)
+}
+
+fn put_lasso(out: &mut Vec<u8>, lasso: Option<Lasso>) -> Result<(), Refusal> {
+    match lasso {
+        None => put_answer(out, true),
+        Some(lasso) => {
+            put_all(out, lasso.stem.as_slice())?;
+            put_all(out, lasso.cycle.as_slice())
+        }
+    }
+}

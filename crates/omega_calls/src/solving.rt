@@ -1,0 +1,184 @@
+//! Games solved: by lifting, over each table and each schedule, in an order of their own, and by the search.
+use crate::lists::{put, put_all, put_answer};
+use omega_budget::{Found, Reordered, Unwatched};
+use omega_game::{Game, Player, Refusal};
+use omega_order::{FilledWords, Ranking, numbers_below, rank_set};
+use omega_pg::{read_game, write_solution};
+use omega_search::solve_by_search;
+use omega_solve::{
+    MOST_LIFTS, MeasureTable, Nested, Outcome, PackedTable, PlainTable, Schedule, Solver, Sweep,
+    Worklist,
+};
+use omega_zielonka::search;
+use std::alloc::Global;
+
+pub(crate) fn called(
+    alloc: Global,
+    call: &str,
+    text: &[u8],
+    other: &[u8],
+) -> Option<Result<Vec<u8>, Refusal>> {
+    let runs = other == b"run".as_slice();
+    match call {
+        "plain sweep" => Some(of_text::<PlainTable, Sweep>(alloc, text, runs)),
+        "plain worklist" => Some(of_text::<PlainTable, Worklist>(alloc, text, runs)),
+        "plain nested" => Some(of_text::<PlainTable, Nested>(alloc, text, runs)),
+        "packed sweep" => Some(of_text::<PackedTable, Sweep>(alloc, text, runs)),
+        "packed worklist" => Some(of_text::<PackedTable, Worklist>(alloc, text, runs)),
+        "packed nested" => Some(of_text::<PackedTable, Nested>(alloc, text, runs)),
+        "Reordered" => Some(reordered(alloc, text)),
+        "solve_by_search" => Some(searched(alloc, text)),
+        "search" => Some(suggested(alloc, text)),
+        "order" => Some(ordered(alloc, text)),
+        _ => None,
+    }
+}
+
+/// What two solvers find, one of which takes the places in the game's order. All of the text's room is asked for
+/// before they are made, and neither runs where it is not to.
+fn of_text<T: MeasureTable, S: Schedule>(
+    alloc: Global,
+    text: &[u8],
+    runs: bool,
+) -> Result<Vec<u8>, Refusal> {
+    match read_game(alloc, text) {
+        Ok(game) => of_game::<T, S>(alloc, &game, runs),
+        Err(refusal) => Err(refusal),
+    }
+}
+
+fn of_game<T: MeasureTable, S: Schedule>(
+    alloc: Global,
+    game: &Game,
+    runs: bool,
+) -> Result<Vec<u8>, Refusal> {
+    let mut out = Vec::with_capacity(alloc, 4096)?;
+    lift_by_both::<T, S>(alloc, game, runs, &mut out)?;
+    Ok(out)
+}
+
+fn lift_by_both<T: MeasureTable, S: Schedule>(
+    alloc: Global,
+    game: &Game,
+    runs: bool,
+    out: &mut Vec<u8>,
+) -> Result<(), Refusal> {
+    match Solver::<'_, T, S>::prepare_in_order(alloc, game, Player::One) {
+        Ok(mut other) => match Solver::<'_, T, S>::prepare(alloc, game, Player::Zero) {
+            Ok(mut solver) if runs => {
+                lift_whole(&mut other, out)?;
+                lift_whole(&mut solver, out)
+            }
+            Ok(_) => Ok(()),
+            Err(refusal) => Err(refusal),
+        },
+        Err(refusal) => Err(refusal),
+    }
+}
+
+/// Runs a solver lift by lift. Its lifts, its attempts, and what it finds.
+fn lift_whole<T: MeasureTable, S: Schedule>(
+    solver: &mut Solver<'_, T, S>,
+    out: &mut Vec<u8>,
+) -> Result<(), Refusal> {
+    for _ in 0..100_000 {
+        if solver.room() == 0 || solver.run(1) == Outcome::Done {
+            break;
+        }
+    }
+    put(out, u128::from(solver.lifts()))?;
+    put(out, u128::from(solver.attempts()))?;
+    match solver.answer() {
+        Some(answer) => put_found(out, answer.won, answer.choice),
+        None => Err(Refusal::Io),
+    }
+}
+
+fn put_found(out: &mut Vec<u8>, won: &[bool], choices: &[Option<u32>]) -> Result<(), Refusal> {
+    for holds in won {
+        put_answer(out, *holds)?;
+    }
+    for choice in choices {
+        put(out, u128::from(choice.unwrap_or(u32::MAX)))?;
+    }
+    Ok(())
+}
+
+fn reordered(alloc: Global, text: &[u8]) -> Result<Vec<u8>, Refusal> {
+    match read_game(alloc, text) {
+        Ok(game) => in_order(alloc, &game),
+        Err(refusal) => Err(refusal),
+    }
+}
+
+fn in_order(alloc: Global, game: &Game) -> Result<Vec<u8>, Refusal> {
+    let mut out = Vec::new(alloc);
+    let reordered = Reordered::of(alloc, game)?;
+    let zero = reordered.solve(alloc, Player::Zero, MOST_LIFTS, &Unwatched, &mut ());
+    put_solved(&mut out, zero)?;
+    let one = reordered.solve(alloc, Player::One, MOST_LIFTS, &Unwatched, &mut ());
+    put_solved(&mut out, one)?;
+    Ok(out)
+}
+
+fn put_solved(out: &mut Vec<u8>, found: Result<Found, Refusal>) -> Result<(), Refusal> {
+    match found {
+        Ok(found) => {
+            put(out, u128::from(found.lifts))?;
+            put_found(out, found.won.as_slice(), found.choice.as_slice())
+        }
+        Err(refusal) => Err(refusal),
+    }
+}
+
+fn searched(alloc: Global, text: &[u8]) -> Result<Vec<u8>, Refusal> {
+    match read_game(alloc, text) {
+        Ok(game) => found_by_search(alloc, &game),
+        Err(refusal) => Err(refusal),
+    }
+}
+
+fn found_by_search(alloc: Global, game: &Game) -> Result<Vec<u8>, Refusal> {
+    match solve_by_search(alloc, game)? {
+        Some(solution) => write_solution(alloc, game, &solution),
+        None => Ok(Vec::from_slice(alloc, b"nothing\n")?),
+    }
+}
+
+fn suggested(alloc: Global, text: &[u8]) -> Result<Vec<u8>, Refusal> {
+    match read_game(alloc, text) {
+        Ok(game) => suggestion(alloc, &game),
+        Err(refusal) => Err(refusal),
+    }
+}
+
+fn suggestion(alloc: Global, game: &Game) -> Result<Vec<u8>, Refusal> {
+    let mut out = Vec::new(alloc);
+    match search(alloc, game, 1000)? {
+        Some(suggestion) => put_all(&mut out, suggestion.order.as_slice())?,
+        None => out.extend_from_slice(b"nothing\n")?,
+    }
+    Ok(out)
+}
+
+fn ordered(alloc: Global, text: &[u8]) -> Result<Vec<u8>, Refusal> {
+    match read_game(alloc, text) {
+        Ok(game) => order(alloc, &game),
+        Err(refusal) => Err(refusal),
+    }
+}
+
+/// The places of a game in the order of their ranks, and how many words its sets of ranks have.
+fn order(alloc: Global, game: &Game) -> Result<Vec<u8>, Refusal> {
+    let ranking = Ranking::nested(alloc, game)?;
+    let mut out = Vec::new(alloc);
+    for rank in 0..ranking.len() {
+        put(&mut out, u128::from(ranking.place(rank)))?;
+    }
+    let _filled = FilledWords::all(alloc, ranking.len())?;
+    let all = rank_set::all_ranks(alloc, ranking.len())?;
+    put(&mut out, all.len() as u128)?;
+    let numbers = numbers_below(alloc, ranking.len())?;
+    put_all(&mut out, numbers.as_slice())?;
+    Ok(out)
+}

@@ -1,0 +1,56 @@
+//! Streams of automata, whole and in pieces.
+use omega_canon::write_canonical;
+use omega_hoa::{Item, Stream, read_stream};
+use omega_text::Refusal;
+use std::alloc::Global;
+
+pub(crate) fn called(alloc: Global, call: &str, text: &[u8]) -> Option<Result<Vec<u8>, Refusal>> {
+    match call {
+        "read_stream" => Some(whole(alloc, text)),
+        "feed" => Some(in_pieces(alloc, text)),
+        _ => None,
+    }
+}
+
+fn whole(alloc: Global, text: &[u8]) -> Result<Vec<u8>, Refusal> {
+    let items = read_stream(alloc, text)?;
+    written(alloc, items.as_slice())
+}
+
+fn in_pieces(alloc: Global, text: &[u8]) -> Result<Vec<u8>, Refusal> {
+    let mut items = Vec::new(alloc);
+    feed_pieces(Stream::new(alloc), text, &mut items)?;
+    written(alloc, items.as_slice())
+}
+
+/// Feeds a stream with pieces of up to 40 bytes.
+fn feed_pieces(mut stream: Stream, text: &[u8], items: &mut Vec<Item>) -> Result<(), Refusal> {
+    let mut rest = text;
+    while !rest.is_empty() {
+        let (piece, behind) = rest.split_at(rest.len().min(40));
+        feed_again(&mut stream, piece, items)?;
+        rest = behind;
+    }
+    stream.finish()
+}
+
+/// Feeds a piece. A refused request leaves stream and items as they were, so that the piece may be fed once more.
+fn feed_again(stream: &mut Stream, piece: &[u8], items: &mut Vec<Item>) -> Result<(), Refusal> {
+    let count = items.len();
+    match stream.feed(piece, items) {
+        Err(Refusal::Memory) if items.len() != count => Err(Refusal::Io),
+        Err(Refusal::Memory) => stream.feed(piece, items),
+        given => given,
+    }
+}
+
+fn written(alloc: Global, items: &[Item]) -> Result<Vec<u8>, Refusal> {
+    let mut out = Vec::new(alloc);
+    for item in items {
+        match item {
+            Item::Automaton(automaton) => write_canonical(automaton, &mut out)?,
+            Item::Aborted => out.extend_from_slice(b"aborted\n")?,
+        }
+    }
+    Ok(out)
+}
