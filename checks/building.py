@@ -1,4 +1,4 @@
-"""How the program is built: which crates are proved when, by a toolchain that only sleeps, in a small tree of its own."""
+"""How the program is built: which crates are proved when, by a toolchain that only sleeps, in a small tree."""
 import os
 import shutil
 import signal
@@ -27,6 +27,9 @@ def note(what):
 does = open("does").read() if os.path.exists("does") else ""
 note("begin")
 time.sleep(float(os.environ.get("TAKES", "0.05")))
+if does.startswith("meets"):
+    while f"begin {{does.split()[1]}}\\n" not in open(os.environ["NOTES"]).read():
+        time.sleep(0.01)
 if does == "dies":
     os.remove("does")
     os.kill(os.getpid(), 9)
@@ -78,7 +81,8 @@ class Tree:
         write(self.file("examples", "two_nodes.pg"), "")
         for name in CRATES:
             root = "main" if name == "omega_tool" else "lib"
-            write(self.file("crates", name, "src", f"{root}.rt"), f"the statements of {name}\n" + SIZES[name] * 1000 * "x")
+            text = f"the statements of {name}\n" + SIZES[name] * 1000 * "x"
+            write(self.file("crates", name, "src", f"{root}.rt"), text)
         write(os.path.join(kit, "bin", "rattle"), PROVER, 0o755)
         write(os.path.join(kit, "bin", "rattle-link"), LINKER, 0o755)
         write(os.path.join(self.tools, "rt"), FRONT.replace("@KIT@", KIT), 0o755)
@@ -114,6 +118,9 @@ class Tree:
             held = file.read()
         write(path, f"{text}{held}" if text.endswith("\n") else f"{held}{text}")
 
+    def has_kept(self, name):
+        return os.path.exists(self.file("crates", "omega_tool", "out", "rlib", f"{name}.made"))
+
     def does(self, name, what):
         write(self.file("crates", name, "does"), what)
 
@@ -134,7 +141,7 @@ def order_fault(noted):
     for what, _ in noted:
         running += 1 if what == "begin" else -1
         most = max(most, running)
-    return None if most == 2 else f"{most} proofs ran at once"
+    return None if most <= 2 else f"{most} proofs ran at once"
 
 
 def fault(ran, status, error, proved):
@@ -156,13 +163,19 @@ def whole_checks(tree):
     yield "no rt", line_fault(tree.run(PATH=other_tools(tree)), "rt, is not in PATH")
     yield "another toolchain", line_fault(tree.run(KIT_HERE="rattle-kit-1 logic 01"), KIT)
     yield "no number of jobs", line_fault(tree.run(JOBS="0"), "JOBS")
-    ran = tree.run(TAKES="0.5")
+    # Each of the two ends once the other has begun.
+    tree.does("wide", "meets side")
+    tree.does("side", "meets wide")
+    ran = tree.run()
     yield "a whole build", fault(ran, 0, "proved and built", CRATES) or order_fault(ran[3])
     yield "nothing to do", fault(tree.run(), 0, "", [])
     os.utime(tree.file("crates", "low", "src", "lib.rt"))
-    yield "the same text, newer", fault(tree.run(), 0, "", [])
+    ran = tree.run()
+    yield "the same text, newer", fault(ran, 0, "", []) or (f"it says {ran[2]!r}" if ran[2] else None)
     yield "and then nothing to do", fault(tree.run(PATH=other_tools(tree)), 0, "", [])
     shutil.rmtree(tree.file("crates", "omega_tool", "out"))
+    tree.does("wide", "")
+    tree.does("side", "")
     noted = tree.run(JOBS="1")[3]
     yield "the longest chain first", None if begun(noted) == LONGEST_FIRST else f"{noted}"
 
@@ -200,25 +213,34 @@ def failure_checks(tree):
     yield "a proof alone that is killed", fault(tree.run(JOBS="1"), 70, "want of memory", ["low"])
 
 
-def wait_for(tree, note):
+def wait_until(holds):
     until = time.monotonic() + SECONDS
-    while note not in tree.noted() and time.monotonic() < until:
+    while not holds() and time.monotonic() < until:
         time.sleep(0.01)
 
 
 def break_checks(tree):
     start = tree.started(TAKES="2")
-    wait_for(tree, ("begin", "wide"))
+    wait_until(lambda: ("begin", "wide") in tree.noted() and tree.has_kept("low") and tree.has_kept("small"))
     os.killpg(start.pid, signal.SIGINT)
     said = start.communicate(timeout=SECONDS)[1]
     is_off = start.returncode in (130, -signal.SIGINT) and "broken off" in said
     yield "broken off", None if is_off else f"{start.returncode}: {said!r}"
     yield "going on", fault(tree.run(), 0, "proved and built", ["wide", "side", "top", "omega_tool"])
+    tree.change("wide", "new\n")
+    before = len(tree.noted())
+    start = tree.started(TAKES="1")
+    wait_until(lambda: ("begin", "wide") in tree.noted()[before:])
+    os.killpg(start.pid, signal.SIGKILL)
+    start.communicate(timeout=SECONDS)
+    yield "killed", fault(tree.run(), 0, "waiting", ["wide", "top", "omega_tool"])
+    order = [it for it in tree.noted()[before:] if it[1] == "wide"]
+    yield "no proof beside what was left", None if order == 2 * [("begin", "wide"), ("end", "wide")] else f"{order}"
 
 
 def lock_checks(tree):
     first = tree.started(TAKES="0.5")
-    wait_for(tree, ("begin", "low"))
+    wait_until(lambda: ("begin", "low") in tree.noted())
     second = tree.run()
     first.communicate(timeout=SECONDS)
     proved = begun(tree.noted())

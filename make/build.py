@@ -3,9 +3,9 @@
     python3 make/build.py            as many crates at once as there are processors, and 2 GB of free memory for each
     JOBS=2 python3 make/build.py     two at most
 
-Each crate is proved from nothing, over the statements of those below it, which are kept in `crates/omega_tool/out/rlib`.
-So a build that was broken off goes on with the crates that are left. A crate is proved again where its files changed, or
-the statements of a crate below it: where proofs alone changed, these may be the same as before.
+Each crate is proved from nothing, over the statements of those below it. These are kept, in `crates/omega_tool/out/rlib`,
+so a build that was broken off goes on with the crates that are left. A crate is proved again where its files changed, or
+the statements of a crate below it.
 """
 
 import fcntl
@@ -23,6 +23,8 @@ from progress import Progress, chains, say
 FAILED, BROKEN_OFF = 70, 130
 # What a proof takes at most, in bytes.
 NEED = 2_000_000_000
+# More jobs seldom make a proof faster.
+MOST_JOBS = 8
 # What compiling the program takes beside its proof, in seconds.
 COMPILING = 100
 
@@ -82,7 +84,7 @@ class Build:
         return inputs_of(crate, self.kit.identity, self.gave)
 
     def ready(self) -> list[Crate]:
-        """The crates whose turn it is, first those with the longest chain of others behind them. What is kept is passed."""
+        """The crates whose turn it is, those with the longest chain above them first. What is kept is passed over."""
         busy, found = {it.crate.name for it in self.running}, []
         for name, crate in self.crates.items():
             if name in busy or name in self.gave or not all(it in self.gave for it in crate.below):
@@ -101,7 +103,7 @@ class Build:
             idle = self.lanes - sum(it.jobs for it in self.running)
             if idle < 1:
                 return
-            self.running.append(self.start(crate, max(1, idle // (len(ready) - at))))
+            self.running.append(self.start(crate, min(max(1, idle // (len(ready) - at)), MOST_JOBS)))
 
     def start(self, crate: Crate, jobs: int) -> Proof:
         words = self.kit.compiling if crate.name == TOOL else self.kit.proving
@@ -179,7 +181,7 @@ class Build:
 
 
 def lock() -> int:
-    """Waits until nothing else builds here. The lock is on the folder, as the toolchain's, and ends with the process."""
+    """Waits until nothing else builds here. As the toolchain's, the lock is on the folder, and ends with the process."""
     held = os.open(os.path.dirname(OUT), os.O_RDONLY)
     try:
         fcntl.flock(held, fcntl.LOCK_EX | fcntl.LOCK_NB)
@@ -204,12 +206,15 @@ def built() -> bool:
     with open(beside(TOOL, "begun"), "w", encoding="ascii"):
         began, begun = os.stat(beside(TOOL, "begun")).st_mtime_ns, time.monotonic()
     build = Build(kit, crates, lanes, held)
-    say("proving and building the program, which takes minutes; what is proved is kept")
+    is_work = bool(build.ready())
+    if is_work:
+        say(f"proving and building the program by {lanes} processors, which takes minutes; what is proved is kept")
     if not build.run():
         return False
     os.utime(PROGRAM, ns=(began, began))
-    took = int(time.monotonic() - begun)
-    say(f"proved and built in {took // 60} min {took % 60} s")
+    if is_work:
+        took = int(time.monotonic() - begun)
+        say(f"proved and built in {took // 60} min {took % 60} s")
     return True
 
 

@@ -17,7 +17,7 @@ class NotBuilt(Exception):
 
 @dataclass(frozen=True)
 class Crate:
-    """A crate, the crates of the repository and the libraries of the toolchain that it names, and all crates below it."""
+    """A crate, the repository's crates and the toolchain's libraries that it names, and all crates below it."""
 
     name: str
     uses: tuple[str, ...]
@@ -84,7 +84,7 @@ def crates_for(program: str) -> dict[str, Crate]:
 
 
 def is_newer_than(made: str) -> bool:
-    """Whether some source is newer than what was made, or that is not there. A folder is newer once a file of it went."""
+    """Whether a source is newer than what was made, or that is not there. A folder is newer once a file of it went."""
     try:
         since = os.stat(made).st_mtime_ns
     except OSError:

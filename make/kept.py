@@ -1,5 +1,6 @@
 """What was proved and built, and is kept: each library's statements, the program, and what each was made from."""
 
+import contextlib
 import hashlib
 import json
 import os
@@ -10,7 +11,7 @@ from crates import ROOT, Crate
 TOOL = "omega_tool"
 OUT = os.path.join(ROOT, "crates", TOOL, "out")
 PROGRAM = os.path.join(OUT, TOOL)
-# The toolchain's other commands neither make nor remove this folder of a program, nor refuse what stands in it.
+# `rt check`, `rt run` and `rt ci` leave this folder of a program as it is, and refuse libraries in any other.
 LIBRARIES = os.path.join(OUT, "rlib")
 
 
@@ -46,7 +47,7 @@ def sum_of(made: str) -> str:
 
 
 def inputs_of(crate: Crate, identity: str, gave: dict[str, str]) -> str:
-    """A sum of all that the crate's proof reads, where `gave` has the sum of what the proof of each crate below made."""
+    """A sum of all that the crate's proof reads, where `gave` has the sum of what each crate below made."""
     below = [(name, gave[name]) for name in crate.below]
     return hashlib.sha256(repr((identity, crate.sum(), below)).encode()).hexdigest()
 
@@ -54,15 +55,18 @@ def inputs_of(crate: Crate, identity: str, gave: dict[str, str]) -> str:
 def still_given(name: str, inputs: str) -> str | None:
     """The sum of what the crate's last proof gave, where that was made from these inputs and stands as it was made."""
     record = record_of(name)
-    is_kept = record.get("from") == inputs and record.get("gave") == sum_of(target(name))
-    return record["gave"] if is_kept else None
+    # `rt run` and `rt ci` write the program too. Libraries are written here alone.
+    stands = os.path.isdir(target(name)) if name != TOOL else record.get("gave") == sum_of(PROGRAM)
+    return record["gave"] if stands and record.get("from") == inputs else None
 
 
 def keep(name: str, inputs: str, seconds: float) -> str:
     """Puts what a proof made in its place, with its record. The sum of it."""
     made = target(name)
-    if os.path.isdir(made):
-        shutil.rmtree(made)
+    # A record never stands beside what was made by another proof.
+    with contextlib.suppress(FileNotFoundError):
+        os.remove(beside(name, "made"))
+    shutil.rmtree(made, ignore_errors=True)
     os.replace(beside(name, "new"), made)
     gave = sum_of(made)
     with open(beside(name, "made.new"), "w", encoding="ascii") as file:
