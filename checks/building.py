@@ -42,9 +42,10 @@ else:
     os.makedirs(made, exist_ok=True)
     open(made + "/statements", "w").write(open("src/lib.rt").readline())
 note("end")
-more = "incremental=trusted " * (does == "trusts")
-print("logic=proved functions=1 sum=00 native=nat,char,string logic-built=trusted libraries-built=trusted",
-      more + "statements=trusted")
+trusted = "incremental=trusted " * (does == "trusts")
+more = "target=none cpu=none " * (name == "omega_tool")
+print(f"logic=proved functions=1 {{more}}sum=00 native=nat,char,string logic-built=trusted libraries-built=trusted",
+      trusted + "statements=trusted")
 """
 LINKER = f"""#!{sys.executable}
 import os, shutil, sys

@@ -208,7 +208,7 @@ def built() -> bool:
     build = Build(kit, crates, lanes, held)
     is_work = bool(build.ready())
     if is_work:
-        say(f"proving and building the program by {lanes} processors, which takes minutes; what is proved is kept")
+        say(f"proving and building the program, up to {lanes} crates at once; it takes minutes, and what is proved is kept")
     if not build.run():
         return False
     os.utime(PROGRAM, ns=(began, began))
