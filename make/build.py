@@ -3,9 +3,9 @@
     python3 make/build.py            as many crates at once as there are processors, and 2 GB of free memory for each
     JOBS=2 python3 make/build.py     two at most
 
-Each crate is proved from nothing, over the statements of those below it. These are kept, in `crates/omega_tool/out/rlib`,
-so a build that was broken off goes on with the crates that are left. A crate is proved again where its files changed, or
-the statements of a crate below it.
+Each crate is proved from nothing, over the statements of those below it. These are kept, in
+`crates/omega_tool/out/rlib`, so a build that was broken off goes on with the crates that are left. A crate is proved
+again where its files changed, or the statements of a crate below it.
 """
 
 import fcntl
@@ -181,7 +181,7 @@ class Build:
 
 
 def lock() -> int:
-    """Waits until nothing else builds here. As the toolchain's, the lock is on the folder, and ends with the process."""
+    """Waits until nothing else builds here. As the toolchain's locks, it is on a folder, and ends with the process."""
     held = os.open(os.path.dirname(OUT), os.O_RDONLY)
     try:
         fcntl.flock(held, fcntl.LOCK_EX | fcntl.LOCK_NB)
@@ -208,7 +208,7 @@ def built() -> bool:
     build = Build(kit, crates, lanes, held)
     is_work = bool(build.ready())
     if is_work:
-        say(f"proving and building the program, up to {lanes} crates at once; it takes minutes, and what is proved is kept")
+        say(f"proving and building the program, up to {lanes} crates at once; this takes minutes, and is kept")
     if not build.run():
         return False
     os.utime(PROGRAM, ns=(began, began))
