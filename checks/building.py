@@ -59,6 +59,8 @@ version) echo "${KIT_HERE-@KIT@}" ;;
 doc) echo "$KIT_FOLDER/START-HERE.md" ;;
 esac
 """
+# The build where a megabyte of memory is free.
+SCARCE = "import build, sys; build.free_memory = lambda: 1_000_000; sys.exit(build.main())"
 TOOLS = ["sh", "env", "python3", "find", "readlink", "dirname"]
 
 
@@ -94,15 +96,16 @@ class Tree:
     def file(self, *path):
         return os.path.join(self.root, *path)
 
-    def started(self, **environment):
-        """A start of `./omega`, in a group of processes of its own."""
-        return subprocess.Popen([self.file("omega")], env={**self.environment, **environment}, text=True,
-                                stdout=subprocess.PIPE, stderr=subprocess.PIPE, start_new_session=True)
+    def started(self, words=None, **environment):
+        """A start of `./omega`, or of other words, in a group of processes of its own."""
+        return subprocess.Popen(words or [self.file("omega")], env={**self.environment, **environment}, text=True,
+                                cwd=self.file("make"), stdout=subprocess.PIPE, stderr=subprocess.PIPE,
+                                start_new_session=True)
 
-    def run(self, **environment):
+    def run(self, words=None, **environment):
         """The status of a start, its output and error, and what was noted of proofs meanwhile."""
         before = len(self.noted())
-        start = self.started(**environment)
+        start = self.started(words, **environment)
         out, error = start.communicate(timeout=SECONDS)
         return start.returncode, out, error, self.noted()[before:]
 
@@ -164,6 +167,7 @@ def whole_checks(tree):
     yield "no rt", line_fault(tree.run(PATH=other_tools(tree)), "rt, is not in PATH")
     yield "another toolchain", line_fault(tree.run(KIT_HERE="rattle-kit-1 logic 01"), KIT)
     yield "no number of jobs", line_fault(tree.run(JOBS="0"), "JOBS")
+    yield "no memory", line_fault(tree.run([sys.executable, "-c", SCARCE], JOBS=""), "2.5 GB of memory, and 0.0 GB")
     # Each of the two ends once the other has begun.
     tree.does("wide", "meets side")
     tree.does("side", "meets wide")
