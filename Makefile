@@ -8,7 +8,7 @@ PROGRAM = crates/omega_tool/out/omega_tool
 
 .PHONY: all check install dist clean
 all:
-	@JOBS=$(JOBS) python3 make/build.py
+	@JOBS='$(JOBS)' python3 make/build.py
 
 check:
 	rt ci

@@ -227,7 +227,7 @@ def main() -> int:
         signal.signal(it, break_off)
     try:
         return 0 if built() else FAILED
-    except NotBuilt as why:
+    except (NotBuilt, OSError) as why:
         say(str(why))
         return FAILED
     except KeyboardInterrupt:
