@@ -1,4 +1,4 @@
-# make            proves and builds the program
+# make            proves and builds the program, crates side by side; make JOBS=2 uses two processors
 # make check      proves everything from nothing, tries wrong bodies, runs the tests, and checks the built program
 # make install    installs program, manual and completions below PREFIX
 # make dist       packs the built program into dist/: an archive and a Debian package, with their SHA-256 sums
@@ -8,7 +8,7 @@ PROGRAM = crates/omega_tool/out/omega_tool
 
 .PHONY: all check install dist clean
 all:
-	@./omega --help >/dev/null
+	@JOBS='$(JOBS)' python3 make/build.py
 
 check:
 	rt ci
