@@ -3,7 +3,7 @@ ghost use Rattle.std.specs.Prelude.{◌≡◌, ◌+◌, ◌-◌, ◌^◌, ◌<�
 ghost use Rattle.std.specs.Io.KnownBytes.{Keeps};
 ghost use Rattle.omega_budget.specs.Watching.{IsWatched, refusal_in};
 ghost use Rattle.omega_io.specs.Failures.{failures_of};
-ghost use Rattle.omega_run.specs.Progress.{AreProgressLines, HasTold, LiftsInput};
+ghost use Rattle.omega_run.specs.Progress.{AreProgressLines, CountsLines, CountsToldOfInput, HasTold, LiftsInput};
 ghost use Rattle.omega_run.specs.Respond.{IsRunRefusal, Responds};
 ghost use Rattle.omega_run.specs.Run.{BreaksOff, Completes};
 ghost use Rattle.omega_solve.specs.Limits.{most_lifts};
@@ -41,6 +41,7 @@ pub fn run_watched<R: Input, W: Output, E: Output>(
     ensures reads_kept { R.failed input.old ≤ R.failed input.new }
     ensures writes_kept { W.failed output.old ≤ W.failed output.new }
     ensures told { (lines : List ℕ) × AreProgressLines command.now (refusal_in result) (max 1 every) budget (R.remaining input.old) (R.remaining input.new) lines
+        × CountsLines command.now result (max 1 every) budget (R.remaining input.old) (R.remaining input.new) (W.contents output.old) (W.contents output.new) lines
         × HasTold (E.contents errors.old) (E.contents errors.new) (E.failed errors.old) (E.failed errors.new) lines }
 {
     let lines = ProgressLines {
@@ -66,6 +67,7 @@ fn respond_watched<R: Input, L, W: Watch<L>>(
     ensures answered { IfOk result (λ made. Responds command.now budget (R.remaining input.old) (R.remaining input.new) made.0 made.1.items) }
     ensures refused { IfErr result (IsRunRefusal command.now budget (R.remaining input.old) (R.remaining input.new)) }
     ensures counted { R.failed input.new ≡ R.failed input.old + failures_of result }
+    ensures printed { IfOk result (λ made. CountsToldOfInput (W.tells watch.now) (W.pace watch.now) command.now (R.remaining input.old) (R.remaining input.new) budget made.1.items listener.old listener.new) }
     ensures told { IsWatched (LiftsInput command.now (R.remaining input.old) (R.remaining input.new)) (refusal_in result) (W.tells watch.now) (W.pace watch.now) budget listener.old listener.new }
 {
     match command {

@@ -1,6 +1,8 @@
 -- `respond_watched`: where nothing is lifted, nothing is told, and else of runs in games of the text that was read.
+use Rattle.std.proofs.lemmas.Result.{IfOk-weaker}
 use Rattle.omega_io.specs.Failures.{IsTransferRefusal}
 use Rattle.omega_budget.proofs.Watched.{none_watched, spares, watched_alike, watched_as}
+use Rattle.omega_run.proofs.Counted.{counts_none}
 use Rattle.omega_run.proofs.Lifted.{none_lifted}
 use Rattle.omega_run.proofs.watching.respond_watched.Goals as goal
 
@@ -66,6 +68,22 @@ returns-in_default g c = record {
   answered = c.respond.ensures.answered;
   refused = c.respond.ensures.refused;
   counted = c.respond.ensures.counted;
+  printed = IfOk-weaker c.respond.result _ _
+      (λ made answered. counts_none _ _ c.args.command.now _ _ _ _ _ _ (λ player from. c.in_default.not-Solve player from)) c.respond.ensures.answered;
   told = none_lifted c.args.command.now _ _ _ _ _ _ _ (λ player from. c.in_default.not-Solve player from) (λ from. c.in_default.not-Search from)
       c.in_default.not-Empty;
 }
+
+pub returns-in_ok-made-in-Solve-clause-printed : goal.returns-in_ok-made-in-Solve-clause-printed
+returns-in_ok-made-in-Solve-clause-printed g c =
+    rw c.in-Solve.is (record {
+      text = c.in_ok-text-in-Solve.text.items;
+      read = c.in_ok-text-in-Solve.ensures.read;
+      holds = rw c.asked_for-asked.ensures at c.in_ok-made-in-Solve.ensures.counted;
+    })
+
+pub returns-in_ok-made-in-Search-clause-printed : goal.returns-in_ok-made-in-Search-clause-printed
+returns-in_ok-made-in-Search-clause-printed g c = rw c.in-Search.is tt
+
+pub returns-in_ok-made-in-Empty-clause-printed : goal.returns-in_ok-made-in-Empty-clause-printed
+returns-in_ok-made-in-Empty-clause-printed g c = rw c.in-Empty.is tt

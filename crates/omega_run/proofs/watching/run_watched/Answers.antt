@@ -3,6 +3,7 @@
 use Rattle.std.proofs.Common.{◌≡◌, max, rules}
 use Rattle.omega_text.specs.declared.refusal.Refusal.TheVariants.{Io}
 use Rattle.omega_budget.proofs.Watched.{spares, watched_alike, watched_refused}
+use Rattle.omega_run.proofs.Counted.{counted_lines, uncounted_refusal}
 use Rattle.omega_run.proofs.Lifted.{input_refused}
 use Rattle.omega_run.proofs.ProgressLines.{watched_lines}
 use Rattle.omega_run.proofs.watching.run_watched.Goals as goal
@@ -13,7 +14,7 @@ returns-in_err-exit-clause-told g c =
     (rw c.in_err-exit.was at c.respond_watched.ensures.told) in
     let lines = watched_lines g.E.Output.contents g.E.Output.failed _ _ (max 1 c.args.every) c.args.budget c.failures.result c.args.errors.now
     c.respond_watched.new.listener c.requires.tells c.failures.ensures told in
-    (lines.text, lines.holds, lines.told)
+    (lines.text, lines.holds, uncounted_refusal _ _ _ _ _ _ _ _ _ _ c.from_residual.ensures.1, lines.told)
 
 pub returns-in_err-write_text-clause-told : goal.returns-in_err-write_text-clause-told
 returns-in_err-write_text-clause-told g c =
@@ -23,14 +24,14 @@ returns-in_err-write_text-clause-told g c =
     watched_refused _ _ _ _ _ _ _ _ other (input_refused c.args.command.now _ _ _ other) (rw c.in_ok-exit.was at c.respond_watched.ensures.told)) in
     let lines = watched_lines g.E.Output.contents g.E.Output.failed _ _ (max 1 c.args.every) c.args.budget c.failures.result c.args.errors.now
     c.respond_watched.new.listener c.requires.tells c.failures.ensures told in
-    (lines.text, lines.holds, lines.told)
+    (lines.text, lines.holds, uncounted_refusal _ _ _ _ _ _ _ _ _ _ c.from_residual-in_err-write_text.ensures.1, lines.told)
 
 pub returns-clause-told : goal.returns-clause-told
 returns-clause-told g c =
     let told = rw c.in_ok-exit.was at c.respond_watched.ensures.told in
-    let lines = watched_lines g.E.Output.contents g.E.Output.failed _ _ (max 1 c.args.every) c.args.budget c.failures.result c.args.errors.now
-    c.respond_watched.new.listener c.requires.tells c.failures.ensures told in
-    (lines.text, lines.holds, lines.told)
+    let lines = counted_lines g.E.Output.contents g.E.Output.failed (max 1 c.args.every) c.args.budget c.failures.result _ _ _ c.args.errors.now
+    c.respond_watched.new.listener c.requires.tells c.failures.ensures c.args.command.now told c.in_ok-exit.ensures.printed in
+    (lines.text, lines.holds.0, (_, rw c.as_slice.ensures.value at c.in_ok-write_text.ensures.whole, lines.holds.1), lines.told)
 
 pub returns-in_err-exit-clause-unwritten : goal.returns-in_err-exit-clause-unwritten
 returns-in_err-exit-clause-unwritten g c = search rules
