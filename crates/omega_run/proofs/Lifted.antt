@@ -1,5 +1,5 @@
 -- In which games a command lifts, where it goes on to be refused.
-use Rattle.std.proofs.Common.{◌≢◌, ℕ, List, [], Option, None, Some, inr, refl}
+use Rattle.std.proofs.Common.{◌≡◌, ◌≢◌, ℕ, List, [], Option, None, Some, inr, refl, sym}
 use Rattle.omega_text.specs.declared.refusal.Refusal.{Refusal}
 use Rattle.omega_text.specs.declared.refusal.Refusal.TheVariants.{Task}
 use Rattle.omega_text.specs.declared.refusal.task.TaskFault.TheVariants.{Budget}
@@ -13,6 +13,14 @@ use Rattle.omega_automaton_answers.proofs.Watching.{text_refused}
 use Rattle.omega_game_answers.proofs.Watching.{runs_refused}
 use Rattle.omega_game_answers.specs.declared.solve.asked.Asked.TheVariants as way
 use Rattle.omega_run.specs.Progress.{LiftsInput}
+use Rattle.omega_run.specs.declared.kinds.Kind.{Kind}
+use Rattle.omega_run.specs.declared.kinds.Kind.TheVariants as kind
+use Rattle.omega_run.specs.declared.kinds.OfFile.{OfFile}
+use Rattle.omega_run.specs.declared.kinds.OfFile.TheVariants as file
+use Rattle.omega_run.specs.declared.kinds.OfStream.{OfStream}
+use Rattle.omega_run.specs.declared.kinds.OfStream.TheVariants as stream
+use Rattle.omega_run.specs.declared.kinds.OfText.{OfText}
+use Rattle.omega_run.specs.steps.Kinds.{of_file, of_kind, of_stream, of_text}
 
 -- the runs of a command stay made, whatever refuses it later but the budget
 pub input_refused : (command : Command) (unread_before unread_after : Option (List ℕ)) (refusal : Refusal) → refusal ≢ Task Budget
@@ -44,32 +52,45 @@ input_refused (Draw format) unread_before unread_after refusal other nodes playe
 input_refused (DrawSolution solution) unread_before unread_after refusal other nodes players lifted = lifted
 input_refused DrawLasso unread_before unread_after refusal other nodes players lifted = lifted
 
--- a command that is none of these lifts no game
-lifts_none : (command : Command) (unread_before unread_after : Option (List ℕ)) (refusal : Option Refusal) (nodes : List Node)
-    → ((player : Option Player) (from : Option ℕ) → command ≢ Solve player from) → ((from : Option ℕ) → command ≢ Search from) → command ≢ Empty
-    → LiftsInput command unread_before unread_after refusal nodes []
-lifts_none (Solve player from) unread_before unread_after refusal nodes solve search empty = absurd (solve player from refl)
-lifts_none (Search from) unread_before unread_after refusal nodes solve search empty = absurd (search from refl)
-lifts_none Empty unread_before unread_after refusal nodes solve search empty = absurd (empty refl)
-lifts_none (Show format) unread_before unread_after refusal nodes solve search empty = refl
-lifts_none (Check format) unread_before unread_after refusal nodes solve search empty = refl
-lifts_none (Canon format) unread_before unread_after refusal nodes solve search empty = refl
-lifts_none (CanonPart from) unread_before unread_after refusal nodes solve search empty = refl
-lifts_none (Verify game from explain) unread_before unread_after refusal nodes solve search empty = refl
-lifts_none EmptySearch unread_before unread_after refusal nodes solve search empty = refl
-lifts_none Game unread_before unread_after refusal nodes solve search empty = refl
-lifts_none (Draw format) unread_before unread_after refusal nodes solve search empty = refl
-lifts_none (DrawSolution solution) unread_before unread_after refusal nodes solve search empty = refl
-lifts_none DrawLasso unread_before unread_after refusal nodes solve search empty = refl
-
--- of a command that lifts no game nothing is told
-pub none_lifted : {L : Type 0} (command : Command) (unread_before unread_after : Option (List ℕ)) (refusal : Option Refusal)
-    (tells : Progress → L → L → Type 0) (every budget : ℕ) (before : L)
-    → ((player : Option Player) (from : Option ℕ) → command ≢ Solve player from) → ((from : Option ℕ) → command ≢ Search from) → command ≢ Empty
-    → IsWatched (LiftsInput command unread_before unread_after) refusal tells every budget before before
-none_lifted command unread_before unread_after refusal tells every budget before solve search empty = record {
+-- of runs for nobody nothing is told
+pub nothing_lifted : {L : Type 0} (Runs : Option Refusal → List Node → List Player → Type 0) (refusal : Option Refusal)
+    (tells : Progress → L → L → Type 0) (every budget : ℕ) (before : L) → Runs refusal [] [] → IsWatched Runs refusal tells every budget before before
+nothing_lifted Runs refusal tells every budget before runs = record {
   nodes = [];
   players = [];
-  runs = inr (lifts_none command unread_before unread_after refusal [] solve search empty);
+  runs = inr runs;
   told = refl;
 }
+
+-- a command of a stream lifts no game
+streams_lift_none : (one : OfStream) (unread_before unread_after : Option (List ℕ)) (refusal : Option Refusal)
+    → LiftsInput (of_stream one) unread_before unread_after refusal [] []
+streams_lift_none stream.Show unread_before unread_after refusal = refl
+streams_lift_none stream.Check unread_before unread_after refusal = refl
+streams_lift_none stream.Canon unread_before unread_after refusal = refl
+
+-- nor does one of a text beside that of a file
+files_lift_none : (one : OfFile) (unread_before unread_after : Option (List ℕ)) (refusal : Option Refusal)
+    → LiftsInput (of_file one) unread_before unread_after refusal [] []
+files_lift_none (file.Verify game from explain) unread_before unread_after refusal = refl
+files_lift_none (file.DrawSolution solution) unread_before unread_after refusal = refl
+
+-- so nothing is told of them
+pub stream_watched : {L : Type 0} (one : OfStream) (sort : Kind) (command : Command) (unread_before unread_after : Option (List ℕ)) (refusal : Option Refusal)
+    (tells : Progress → L → L → Type 0) (every budget : ℕ) (before : L) → of_kind sort ≡ command → sort ≡ kind.Stream one
+    → IsWatched (LiftsInput command unread_before unread_after) refusal tells every budget before before
+stream_watched one sort command unread_before unread_after refusal tells every budget before same is =
+    rw (sym same, is) (nothing_lifted _ _ _ _ _ _ (streams_lift_none one unread_before unread_after refusal))
+
+pub file_watched : {L : Type 0} (one : OfFile) (sort : Kind) (command : Command) (unread_before unread_after : Option (List ℕ)) (refusal : Option Refusal)
+    (tells : Progress → L → L → Type 0) (every budget : ℕ) (before : L) → of_kind sort ≡ command → sort ≡ kind.File one
+    → IsWatched (LiftsInput command unread_before unread_after) refusal tells every budget before before
+file_watched one sort command unread_before unread_after refusal tells every budget before same is =
+    rw (sym same, is) (nothing_lifted _ _ _ _ _ _ (files_lift_none one unread_before unread_after refusal))
+
+-- what is told of a command of one text is told of the command
+pub text_watched : {L : Type 0} (one : OfText) (sort : Kind) (command : Command) (unread_before unread_after : Option (List ℕ)) (refusal : Option Refusal)
+    (tells : Progress → L → L → Type 0) (every budget : ℕ) (before after : L) → of_kind sort ≡ command → sort ≡ kind.Text one
+    → IsWatched (LiftsInput (of_text one) unread_before unread_after) refusal tells every budget before after
+    → IsWatched (LiftsInput command unread_before unread_after) refusal tells every budget before after
+text_watched one sort command unread_before unread_after refusal tells every budget before after same is watched = rw (sym same, is) watched

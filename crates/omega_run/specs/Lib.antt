@@ -1,4 +1,4 @@
--- What contracts of running commands and obeying command lines cite.
+-- What contracts of running commands and obeying command lines cite; in `steps` what private contracts alone cite.
 pub use Rattle.omega_line.specs.CommandLine
 pub use Rattle.omega_line.specs.Line
 pub use Rattle.omega_io.specs.Exit
@@ -10,3 +10,4 @@ pub mod Obey
 pub mod Progress
 pub mod Respond
 pub mod Run
+pub mod steps

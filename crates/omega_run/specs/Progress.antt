@@ -49,10 +49,16 @@ CountsToldOfInput tells every (Solve player from) unread_before unread_after bud
     ReadsText unread_before unread_after (λ text. CountsToldOfText tells every text (asked_for player) from budget output before after)
 CountsToldOfInput tells every other unread_before unread_after budget output before after = Unit {0}
 
+-- an answer was written that counts the lifts of the run that a listener was told of
+abbrev pub CountsWritten : {L : Type 0} → (Progress → L → L → Type 0) → (every : ℕ) → Command → (budget : ℕ)
+    → (unread_before unread_after held_before held_after : Option (List ℕ)) → L → L → Type 0
+CountsWritten tells every command budget unread_before unread_after held_before held_after before after =
+    (output : List ℕ) × Appends held_before held_after output × CountsToldOfInput tells every command unread_before unread_after budget output before after
+
 -- where the command is done, an answer was written that counts the lifts that the lines tell of
 abbrev pub CountsLines : Command → Result Exit Refusal → (every budget : ℕ) → (unread_before unread_after held_before held_after : Option (List ℕ)) → List ℕ → Type 0
 CountsLines command (Ok exit) every budget unread_before unread_after held_before held_after lines =
-    (output : List ℕ) × Appends held_before held_after output × CountsToldOfInput GoesOnByLine every command unread_before unread_after budget output [] lines
+    CountsWritten GoesOnByLine every command budget unread_before unread_after held_before held_after [] lines
 CountsLines command (Err refusal) every budget unread_before unread_after held_before held_after lines = Unit {0}
 
 -- the output took more of a text of which it took so much before: nothing, where a write of that failed;

@@ -1,6 +1,7 @@
 //! The program's work, over any input, output and standard error: a command is run, a command line is obeyed.
 #![tactic(auto)]
 
+mod kinds;
 mod laws;
 mod obeying;
 mod progress;
@@ -10,6 +11,7 @@ mod watching;
 
 pub use laws::budgets_are_of_solvers;
 pub use obeying::obey;
+pub use omega_budget::{Progress, Unwatched, Watch};
 pub use omega_io::{
     Exit, FromRead, GameFiles, HostFiles, Input, Output, Refusal, ToWrite, exit_code, refusal_line,
 };

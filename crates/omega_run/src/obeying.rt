@@ -7,7 +7,7 @@ ghost use Rattle.omega_run.specs.Progress.{TellsLast};
 
 use crate::run::run_command;
 use crate::watching::run_watched;
-use omega_budget::LIFTS_BETWEEN_REPORTS;
+use omega_budget::{LIFTS_BETWEEN_REPORTS, Unwatched};
 use omega_io::{
     Exit, GameFiles, Input, Output, Refusal, exit_code, refusal_line, tell, write_text,
 };
@@ -40,14 +40,14 @@ pub fn obey<F: GameFiles, R: Input, W: Output, E: Output>(
 {
     match asked {
         Ok(Line::Run(command, budget)) => {
-            let outcome = run_command(alloc, &command, input, output, budget);
+            let outcome = run_command(alloc, command, input, output, budget, &Unwatched, &mut ());
             report(alloc, outcome, errors)
         }
         Ok(Line::Watched(command, budget)) => {
             let sound = errors.failures();
             let outcome = run_watched(
                 alloc,
-                &command,
+                command,
                 input,
                 output,
                 errors,
@@ -122,7 +122,15 @@ fn verify_file<F: GameFiles, R: Input, W: Output>(
         from,
         explain,
     };
-    run_command(alloc, &command, input, output, MOST_LIFTS)
+    run_command(
+        alloc,
+        command,
+        input,
+        output,
+        MOST_LIFTS,
+        &Unwatched,
+        &mut (),
+    )
 }
 
 /// Draws a game with the solution in a file, which is read before the game is.
@@ -141,7 +149,15 @@ fn draw_file<F: GameFiles, R: Input, W: Output>(
 {
     let solution = Seq::from_vec(files.read_file(alloc, file)?);
     let command = Command::DrawSolution { solution };
-    run_command(alloc, &command, input, output, MOST_LIFTS)
+    run_command(
+        alloc,
+        command,
+        input,
+        output,
+        MOST_LIFTS,
+        &Unwatched,
+        &mut (),
+    )
 }
 
 /// Writes a text that was asked for.

@@ -1,127 +1,119 @@
-ghost use Rattle.std.specs.Prelude.{◌≡◌, ◌+◌, ◌-◌, ◌^◌, ◌<◌, ◌≤◌, IfOk, IfErr, OnOk, length};
+ghost use Rattle.std.specs.Prelude.{◌≡◌, ◌+◌, ◌-◌, ◌^◌, ◌<◌, ◌≤◌, ℕ, List, Option, Ok, Err, IfOk, IfErr, OnOk, length};
 ghost use Rattle.omega_text.specs.Cases.{or_memory};
 ghost use Rattle.omega_text.specs.Limits.{most_text};
+ghost use Rattle.omega_budget.specs.Watching.{IsWatched, refusal_in};
 ghost use Rattle.omega_solve.specs.Limits.{most_lifts};
-ghost use Rattle.omega_run.specs.Respond.{Answers, IsOfOneText, IsRunRefusal, Refuses, Responds, asked_for};
+ghost use Rattle.omega_run.specs.Progress.{CountsToldOfInput, LiftsInput};
+ghost use Rattle.omega_run.specs.Respond.{Answers, IsRunRefusal, Responds, asked_for};
+ghost use Rattle.omega_run.specs.steps.Kinds.{of_text};
 ghost use Rattle.omega_io.specs.Failures.{failures_of};
+ghost use Rattle.omega_io.specs.Reading.{IsRead};
 ghost use Rattle.omega_io.specs.declared.exit.Exit.TheVariants.{Done};
-ghost use Rattle.omega_game_answers.specs.solve.Refusing.{IsSolveRefusal};
-ghost use Rattle.omega_game_answers.specs.solve.Solving.{IsSolveAnswer};
 
+use crate::kinds::{Kind, OfFile, OfStream, OfText, kind_of};
 use omega_automaton_answers::{
     canon_stream, check_stream, decide_emptiness, draw_automaton_text, draw_lasso_text,
     search_emptiness, show_stream, write_emptiness_game,
 };
-use omega_budget::Unwatched;
+use omega_budget::Watch;
 use omega_game::Player;
 use omega_game_answers::{
     Asked, canon_game, canon_part, check_game, draw_game_text, draw_solution_text, show_game,
     solve_game, verify_solution,
 };
 use omega_io::{Exit, Input, Refusal, read_all};
-use omega_line::{Command, Format};
+use omega_line::Command;
 use std::alloc::Global;
 
 /// Reads what a command needs, and makes its whole answer in memory, with how it ends. Each command reads for itself,
-/// to the end of the input where it answers. Each run of a solver makes at most `budget` lifts.
-/// The refusals of the command.
-pub fn respond<R: Input>(
+/// to the end of the input where it answers. Each run of a solver makes at most `budget` lifts, and the listener is
+/// told of it. The refusals of the command.
+pub(crate) fn respond<R: Input, L, T: Watch<L>>(
     alloc: Global,
-    command: &Command,
+    command: Command,
     input: &mut R,
     budget: u64,
+    watch: &T,
+    listener: &mut L,
 ) -> Result<(Exit, Vec<u8>), Refusal>
     requires budget { budget ≤ most_lifts }
     requires reads { R.failed input.old < 2 ^ 64 - 1 }
-    ensures answered { IfOk result (λ made. Responds command.now budget (R.remaining input.old) (R.remaining input.new) made.0 made.1.items) }
-    ensures refused { IfErr result (IsRunRefusal command.now budget (R.remaining input.old) (R.remaining input.new)) }
+    ensures answered { IfOk result (λ made. Responds command budget (R.remaining input.old) (R.remaining input.new) made.0 made.1.items) }
+    ensures refused { IfErr result (IsRunRefusal command budget (R.remaining input.old) (R.remaining input.new)) }
     ensures counted { R.failed input.new ≡ R.failed input.old + failures_of result }
+    ensures printed { IfOk result (λ made. CountsToldOfInput (T.tells watch.now) (T.pace watch.now) command (R.remaining input.old) (R.remaining input.new) budget made.1.items listener.old listener.new) }
+    ensures told { IsWatched (LiftsInput command (R.remaining input.old) (R.remaining input.new)) (refusal_in result) (T.tells watch.now) (T.pace watch.now) budget listener.old listener.new }
 {
-    match command {
-        Command::Show(Format::Hoa) => Ok((Exit::Done, show_stream(alloc, input)?)),
-        Command::Check(Format::Hoa) => Ok((Exit::Done, check_stream(alloc, input)?)),
-        Command::Canon(Format::Hoa) => Ok((Exit::Done, canon_stream(alloc, input)?)),
-        Command::Verify {
-            game,
-            from,
-            explain,
-        } => {
+    match kind_of(command) {
+        Kind::Stream(OfStream::Show) => Ok((Exit::Done, show_stream(alloc, input)?)),
+        Kind::Stream(OfStream::Check) => Ok((Exit::Done, check_stream(alloc, input)?)),
+        Kind::Stream(OfStream::Canon) => Ok((Exit::Done, canon_stream(alloc, input)?)),
+        Kind::Text(command) => {
+            let text = read_all(alloc, input)?;
+            let made = answer(alloc, command, text, budget, watch, listener)?;
+            Ok((Exit::Done, made))
+        }
+        Kind::File(
+            OfFile::Verify {
+                game,
+                from,
+                explain,
+            },
+        ) => {
             let solution = read_all(alloc, input)?;
-            verify_solution(alloc, game.as_slice(), *from, solution, *explain)
+            verify_solution(alloc, game.as_slice(), from, solution, explain)
         }
-        _ => respond_to_text(alloc, command, input, budget),
+        Kind::File(OfFile::DrawSolution { solution }) => {
+            let game = read_all(alloc, input)?;
+            let made = draw_solution_text(alloc, game, solution.as_slice())?;
+            Ok((Exit::Done, made))
+        }
     }
 }
 
-/// The same of a command that reads one text and is done with it.
-fn respond_to_text<R: Input>(
+/// The whole answer of a command of one text. Each run of a solver makes at most `budget` lifts, and the listener is
+/// told of it, as of runs of the command wherever the text is what an input gave. The refusals of the command.
+fn answer<L, T: Watch<L>>(
     alloc: Global,
-    command: &Command,
-    input: &mut R,
+    command: OfText,
+    text: Vec<u8>,
     budget: u64,
-) -> Result<(Exit, Vec<u8>), Refusal>
-    requires one { IsOfOneText command.now }
+    watch: &T,
+    listener: &mut L,
+) -> Result<Vec<u8>, Refusal>
     requires budget { budget ≤ most_lifts }
-    requires reads { R.failed input.old < 2 ^ 64 - 1 }
-    ensures answered { IfOk result (λ made. Responds command.now budget (R.remaining input.old) (R.remaining input.new) made.0 made.1.items) }
-    ensures refused { IfErr result (IsRunRefusal command.now budget (R.remaining input.old) (R.remaining input.new)) }
-    ensures counted { R.failed input.new ≡ R.failed input.old + failures_of result }
-{
-    let text = read_all(alloc, input)?;
-    Ok((Exit::Done, answer(alloc, command, text, budget)?))
-}
-
-/// The whole answer of a command that reads one text and is done with it. Each run of a solver makes at most `budget`
-/// lifts. The refusals of the command.
-fn answer(alloc: Global, command: &Command, text: Vec<u8>, budget: u64) -> Result<Vec<u8>, Refusal>
-    requires one { IsOfOneText command.now }
-    requires budget { budget ≤ most_lifts }
-    ensures answered { IfOk result (λ output. Answers command.now budget text.items Done output.items) }
+    ensures answered { IfOk result (λ output. Answers (of_text command) budget text.items (Ok (Done, output.items))) }
     ensures limit { OnOk result (length text.items ≤ most_text) }
-    ensures refused { IfErr result (or_memory (Refuses command.now budget text.items)) }
+    ensures refused { IfErr result (or_memory (λ refusal. Answers (of_text command) budget text.items (Err refusal))) }
     ensures unfailed { failures_of result ≡ 0 }
+    ensures printed { (unread_before unread_after : Option (List ℕ)) → IsRead unread_before unread_after text.items
+        → IfOk result (λ output. CountsToldOfInput (T.tells watch.now) (T.pace watch.now) (of_text command) unread_before unread_after budget output.items listener.old listener.new) }
+    ensures told { (unread_before unread_after : Option (List ℕ)) → IsRead unread_before unread_after text.items
+        → IsWatched (LiftsInput (of_text command) unread_before unread_after) (refusal_in result) (T.tells watch.now) (T.pace watch.now) budget listener.old listener.new }
 {
     match command {
-        Command::Show(Format::Pg) => show_game(alloc, text),
-        Command::Check(Format::Pg) => check_game(alloc, text),
-        Command::Canon(Format::Pg) => canon_game(alloc, text),
-        Command::CanonPart { from } => canon_part(alloc, text, *from),
-        Command::Solve { player, from } => {
-            let asked = asked_for(*player);
-            solved(alloc, text, asked, *from, budget)
+        OfText::Show => show_game(alloc, text),
+        OfText::Check => check_game(alloc, text),
+        OfText::Canon => canon_game(alloc, text),
+        OfText::CanonPart { from } => canon_part(alloc, text, from),
+        OfText::Solve { player, from } => {
+            let asked = asked_for(player);
+            solve_game(alloc, text, asked, from, budget, watch, listener)
         }
-        Command::Search { from } => { solved(alloc, text, Asked::Search, *from, budget) }
-        Command::Empty => decide_emptiness(alloc, text, budget, &Unwatched, &mut ()),
-        Command::EmptySearch => search_emptiness(alloc, text),
-        Command::Game => write_emptiness_game(alloc, text),
-        Command::Draw(Format::Pg) => draw_game_text(alloc, text),
-        Command::Draw(Format::Hoa) => draw_automaton_text(alloc, text),
-        Command::DrawSolution { solution } => draw_solution_text(alloc, text, solution.as_slice()),
-        Command::DrawLasso => draw_lasso_text(alloc, text),
-        Command::Show(Format::Hoa)
-        | Command::Check(Format::Hoa)
-        | Command::Canon(Format::Hoa)
-        | Command::Verify { .. } => unreachable!(),
+        OfText::Search { from } => {
+            solve_game(alloc, text, Asked::Search, from, budget, watch, listener)
+        }
+        OfText::Empty => decide_emptiness(alloc, text, budget, watch, listener),
+        OfText::EmptySearch => search_emptiness(alloc, text),
+        OfText::Game => write_emptiness_game(alloc, text),
+        OfText::DrawGame => draw_game_text(alloc, text),
+        OfText::DrawAutomaton => draw_automaton_text(alloc, text),
+        OfText::DrawLasso => draw_lasso_text(alloc, text),
     }
-}
-
-/// The text that solves a game, of which nobody is told while it is made.
-fn solved(
-    alloc: Global,
-    text: Vec<u8>,
-    asked: Asked,
-    from: Option<u32>,
-    budget: u64,
-) -> Result<Vec<u8>, Refusal>
-    requires { budget ≤ most_lifts }
-    ensures answer { IfOk result (λ output. IsSolveAnswer text.items asked from budget output.items) }
-    ensures refused { IfErr result (or_memory (IsSolveRefusal text.items asked from budget)) }
-{
-    solve_game(alloc, text, asked, from, budget, &Unwatched, &mut ())
 }
 
 /// What is asked of a game for one player, or for both where none is named.
-pub(crate) fn asked_for(player: Option<Player>) -> Asked
+fn asked_for(player: Option<Player>) -> Asked
     ensures { result ≡ asked_for player }
 {
     match player {

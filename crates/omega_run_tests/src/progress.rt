@@ -23,7 +23,7 @@ struct Told {
 /// Runs a command over a text, told of after so many lifts more each time.
 fn watched(
     alloc: Global,
-    command: &Command,
+    command: Command,
     text: &str,
     budget: u32,
     every: u64,
@@ -55,7 +55,7 @@ fn solved(alloc: Global, budget: u32, every: u64, errors: Filling) -> Told {
         player: None,
         from: None,
     };
-    watched(alloc, &command, RING, budget, every, errors)
+    watched(alloc, command, RING, budget, every, errors)
 }
 
 #[test]
@@ -101,7 +101,7 @@ fn emptiness_is_told_of_player_0(rt: HostRuntime) -> Result<(), Fail> {
         State: 0 [t] 0 {0} [t] 1 State: 1 [t] 1 --END--";
     let left = watched(
         alloc,
-        &Command::Empty,
+        Command::Empty,
         automaton,
         1000,
         3,

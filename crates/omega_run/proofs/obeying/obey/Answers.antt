@@ -1,7 +1,7 @@
 -- `obey`: a refusal in place of a line is told on standard error,
 -- and that of a command that is watched behind its lines.
 use Rattle.std.proofs.Common.{rules}
-use Rattle.omega_run.proofs.Performing.{performs, reports_as}
+use Rattle.omega_run.proofs.Performing.{reports_as}
 use Rattle.omega_run.proofs.ProgressLines.{told_at_last}
 use Rattle.omega_run.proofs.obeying.obey.Goals as goal
 
@@ -12,7 +12,7 @@ returns-in-Ok-Watched g c =
     rw (c.in-Ok-Watched.is, c.in-Ok-Watched.field-0-is) (
       c.run_watched-outcome.result,
       told.0,
-      performs _ _ _ _ _ ran.completed ran.refused ran.unwritten ran.broken_off ran.counted ran.reads_kept ran.writes_kept,
+      ran.performed,
       told.1,
       told.2,
       reports_as _ _ _ _ (λ text last. told_at_last _ _ _ _ _ _ _ _ told.3 last)

@@ -1,0 +1,2 @@
+-- What stands between a command and its answer: cited by private contracts alone.
+pub mod Kinds

@@ -1,0 +1,44 @@
+-- Which command is of which kind: of a stream, of one text, or of a text beside that of a file.
+use Rattle.omega_line.specs.declared.command.Command.{Command}
+use Rattle.omega_line.specs.declared.command.Command.TheVariants as command
+use Rattle.omega_line.specs.declared.command.Format.TheVariants.{Hoa, Pg}
+use Rattle.omega_run.specs.declared.kinds.Kind.{Kind}
+use Rattle.omega_run.specs.declared.kinds.Kind.TheVariants as kind
+use Rattle.omega_run.specs.declared.kinds.OfFile.{OfFile}
+use Rattle.omega_run.specs.declared.kinds.OfFile.TheVariants as file
+use Rattle.omega_run.specs.declared.kinds.OfStream.{OfStream}
+use Rattle.omega_run.specs.declared.kinds.OfStream.TheVariants as stream
+use Rattle.omega_run.specs.declared.kinds.OfText.{OfText}
+use Rattle.omega_run.specs.declared.kinds.OfText.TheVariants as text
+
+-- the command of a stream of automata
+abbrev pub of_stream : OfStream → Command
+of_stream stream.Show = command.Show Hoa
+of_stream stream.Check = command.Check Hoa
+of_stream stream.Canon = command.Canon Hoa
+
+-- the command of one text
+abbrev pub of_text : OfText → Command
+of_text text.Show = command.Show Pg
+of_text text.Check = command.Check Pg
+of_text text.Canon = command.Canon Pg
+of_text (text.CanonPart from) = command.CanonPart from
+of_text (text.Solve player from) = command.Solve player from
+of_text (text.Search from) = command.Search from
+of_text text.Empty = command.Empty
+of_text text.EmptySearch = command.EmptySearch
+of_text text.Game = command.Game
+of_text text.DrawGame = command.Draw Pg
+of_text text.DrawAutomaton = command.Draw Hoa
+of_text text.DrawLasso = command.DrawLasso
+
+-- the command of a text beside that of a file
+abbrev pub of_file : OfFile → Command
+of_file (file.Verify game from explain) = command.Verify game from explain
+of_file (file.DrawSolution solution) = command.DrawSolution solution
+
+-- the command of one of the three kinds
+abbrev pub of_kind : Kind → Command
+of_kind (kind.Stream one) = of_stream one
+of_kind (kind.Text one) = of_text one
+of_kind (kind.File one) = of_file one

@@ -1,0 +1,95 @@
+ghost use Rattle.std.specs.Prelude.{◌≡◌};
+ghost use Rattle.omega_run.specs.steps.Kinds.{of_kind};
+
+use omega_game::Player;
+use omega_line::{Command, Format};
+use omega_text::Seq;
+
+/// A command, told apart by what it reads.
+#[derive(Drop)]
+pub(crate) enum Kind {
+    /// Of a stream of automata, which is answered while it is read.
+    Stream(OfStream),
+    /// Of one text.
+    Text(OfText),
+    /// Of a text beside that of a file.
+    File(OfFile),
+}
+
+/// A command of a stream of automata.
+#[derive(Clone, Copy)]
+pub(crate) enum OfStream {
+    Show,
+    Check,
+    Canon,
+}
+
+/// A command of one text, which is done with it where it answers.
+#[derive(Clone, Copy)]
+pub(crate) enum OfText {
+    Show,
+    Check,
+    Canon,
+    CanonPart {
+        from: u32,
+    },
+    Solve {
+        player: Option<Player>,
+        from: Option<u32>,
+    },
+    Search {
+        from: Option<u32>,
+    },
+    Empty,
+    EmptySearch,
+    Game,
+    DrawGame,
+    DrawAutomaton,
+    DrawLasso,
+}
+
+/// A command of a text beside that of a file, which is kept here.
+#[derive(Drop)]
+pub(crate) enum OfFile {
+    Verify {
+        game: Seq<u8>,
+        from: Option<u32>,
+        explain: bool,
+    },
+    DrawSolution {
+        solution: Seq<u8>,
+    },
+}
+
+/// Tells of which kind a command is.
+pub(crate) fn kind_of(command: Command) -> Kind
+    ensures { of_kind result ≡ command }
+{
+    match command {
+        Command::Show(Format::Hoa) => Kind::Stream(OfStream::Show),
+        Command::Check(Format::Hoa) => Kind::Stream(OfStream::Check),
+        Command::Canon(Format::Hoa) => Kind::Stream(OfStream::Canon),
+        Command::Show(Format::Pg) => Kind::Text(OfText::Show),
+        Command::Check(Format::Pg) => Kind::Text(OfText::Check),
+        Command::Canon(Format::Pg) => Kind::Text(OfText::Canon),
+        Command::CanonPart { from } => Kind::Text(OfText::CanonPart { from }),
+        Command::Solve { player, from } => Kind::Text(OfText::Solve { player, from }),
+        Command::Search { from } => Kind::Text(OfText::Search { from }),
+        Command::Empty => Kind::Text(OfText::Empty),
+        Command::EmptySearch => Kind::Text(OfText::EmptySearch),
+        Command::Game => Kind::Text(OfText::Game),
+        Command::Draw(Format::Pg) => Kind::Text(OfText::DrawGame),
+        Command::Draw(Format::Hoa) => Kind::Text(OfText::DrawAutomaton),
+        Command::DrawLasso => Kind::Text(OfText::DrawLasso),
+        Command::Verify {
+            game,
+            from,
+            explain,
+        } => Kind::File(OfFile::Verify {
+            game,
+            from,
+            explain,
+        }),
+        Command::DrawSolution { solution } => Kind::File(OfFile::DrawSolution { solution }),
+    }
+}
