@@ -1,4 +1,5 @@
 -- Lemmas by theme.
+pub mod Counted
 pub mod Lifted
 pub mod Performing
 pub mod ProgressLines

@@ -89,7 +89,7 @@ nothing_appended : (held : Option (List ℕ)) → Appends held held []
 nothing_appended None = tt
 nothing_appended (Some bytes) = sym (append-nil bytes)
 
-nothing_told : (held : Option (List ℕ)) (failed : ℕ) → HasTold held held failed failed []
+pub nothing_told : (held : Option (List ℕ)) (failed : ℕ) → HasTold held held failed failed []
 nothing_told held failed = record {
   counted = omega arith;
   told = record { whole = λ same. nothing_appended held; beginning = λ less. absurd (omega (arith, less)) };
@@ -125,7 +125,7 @@ each_lines {L} held failed sound start player every most (suc times) before afte
       holds = (so_far.text, so_far.holds, refl);
     }
 
-run_lines : {L : Type 0} (held : L → Option (List ℕ)) (failed : L → ℕ) (sound : ℕ) (start : Option (List ℕ)) (every : ℕ) (nodes : List Node)
+pub run_lines : {L : Type 0} (held : L → Option (List ℕ)) (failed : L → ℕ) (sound : ℕ) (start : Option (List ℕ)) (every : ℕ) (nodes : List Node)
     (player : Player) (budget lifts : ℕ) (refusal : Option Refusal) (before after : L) (text : List ℕ) → sound < 2 ^ 64 - 1
     → HasTold start (held before) sound (failed before) text → TellsRun (TellsLines held failed sound) every nodes player budget lifts refusal before after
     → HasLines (TellsRun GoesOnByLine every nodes player budget lifts refusal text) start (held after) sound (failed after)

@@ -13,7 +13,7 @@ use Rattle.omega_line.specs.declared.line.Line.TheVariants.{DrawSolution, Fault,
 use Rattle.omega_io.specs.Exit.{fault_status, status_of}
 use Rattle.omega_io.specs.RefusalLine.{line_of}
 use Rattle.omega_budget.specs.Watching.{lifts_between_reports, refusal_in}
-use Rattle.omega_run.specs.Progress.{AreProgressLines}
+use Rattle.omega_run.specs.Progress.{AreProgressLines, CountsLines}
 use Rattle.omega_run.specs.Respond.{IsRunRefusal}
 use Rattle.omega_run.specs.Run.{BreaksOff, Completes}
 use Rattle.omega_io.specs.Failures.{failures_in}
@@ -95,13 +95,15 @@ Reports (Ok exit) status tells = (status ≡ status_of (Ok exit)) × tells []
 Reports (Err refusal) status tells = IsTold refusal status tells ⊎ IsTold Memory status tells
 
 -- the program obeyed the command line, or told why it asks for nothing that can be done; of a command that is watched,
--- the lines of its progress come before what is told of its outcome, and both are one text
+-- the lines of its progress come before what is told of its outcome, and both are one text; its answer counts the lifts
+-- that they tell of
 abbrev pub IsObeyed : (List ℕ → List ℕ → Type 0) → (List ℕ → Refusal → Type 0) → Result Line Refusal → ℕ → (List ℕ → Type 0) → Streams → Streams → Type 0
 IsObeyed reads refuses (Ok (Fault text)) status tells before after =
     (status ≡ fault_status) × tells (string_bytes text) × (after ≡ before)
 IsObeyed reads refuses (Ok (Watched command budget)) status tells before after =
     (outcome : Result Exit Refusal) × (lines : List ℕ) × Performs command budget outcome before after
-    × AreProgressLines command (refusal_in outcome) lifts_between_reports budget before.unread after.unread lines × Reports outcome status (λ text. tells (lines ++ text))
+    × AreProgressLines command (refusal_in outcome) lifts_between_reports budget before.unread after.unread lines
+    × CountsLines command outcome lifts_between_reports budget before.unread after.unread before.held after.held lines × Reports outcome status (λ text. tells (lines ++ text))
 IsObeyed reads refuses (Ok line) status tells before after =
     (outcome : Result Exit Refusal) × Obeys reads refuses line outcome before after × Reports outcome status tells
 IsObeyed reads refuses (Err refusal) status tells before after = Reports (Err refusal) status tells × (after ≡ before)

@@ -1,16 +1,18 @@
--- What standard error is told of runs that lift, while they last.
-use Rattle.std.specs.Prelude.{◌≡◌, ◌++◌, ◌-◌, ◌^◌, ◌<◌, ◌≤◌, List, [], Option, ℕ, codes, decimal}
+-- What standard error is told of runs that lift, while they last, and that the answer counts the lifts it is told of.
+use Rattle.std.specs.Prelude.{◌≡◌, ◌++◌, ◌-◌, ◌^◌, ◌<◌, ◌≤◌, List, [], Option, Result, Ok, Err, ℕ, codes, decimal}
+use Rattle.std.specs.Io.KnownBytes.{Appends}
 use Rattle.omega_text.specs.declared.refusal.Refusal.{Refusal}
 use Rattle.omega_game.specs.declared.player.Player.{Player}
 use Rattle.omega_game.specs.Game.{Node}
 use Rattle.omega_game_answers.specs.PlayerText.{player_text}
 use Rattle.omega_automaton_answers.specs.Watching.{LiftsAutomatonText}
-use Rattle.omega_game_answers.specs.Watching.{LiftsText}
+use Rattle.omega_game_answers.specs.Watching.{CountsToldOfText, LiftsText}
 use Rattle.omega_budget.specs.Watching.{IsWatched}
 use Rattle.omega_game_answers.specs.declared.solve.asked.Asked.TheVariants as way
 use Rattle.omega_budget.specs.declared.watching.Progress.{Progress}
 use Rattle.omega_line.specs.declared.command.Command.{Command}
 use Rattle.omega_line.specs.declared.command.Command.TheVariants.{Empty, Search, Solve}
+use Rattle.omega_io.specs.declared.exit.Exit.{Exit}
 use Rattle.omega_io.specs.Reading.{ReadsText}
 use Rattle.omega_io.specs.Writing.{Tells}
 use Rattle.omega_run.specs.Respond.{asked_for}
@@ -38,6 +40,26 @@ LiftsInput other unread_before unread_after refusal nodes players = players ≡ 
 abbrev pub AreProgressLines : Command → Option Refusal → (every budget : ℕ) → (unread_before unread_after : Option (List ℕ)) → List ℕ → Type 0
 AreProgressLines command refusal every budget unread_before unread_after lines =
     IsWatched (LiftsInput command unread_before unread_after) refusal GoesOnByLine every budget [] lines
+
+-- what `solve` answers for one player, to the text that was read, counts as many lifts as the run made that a listener
+-- was told of; other answers count none
+abbrev pub CountsToldOfInput : {L : Type 0} → (Progress → L → L → Type 0) → (every : ℕ) → Command → (unread_before unread_after : Option (List ℕ)) → (budget : ℕ) → (output : List ℕ)
+    → L → L → Type 0
+CountsToldOfInput tells every (Solve player from) unread_before unread_after budget output before after =
+    ReadsText unread_before unread_after (λ text. CountsToldOfText tells every text (asked_for player) from budget output before after)
+CountsToldOfInput tells every other unread_before unread_after budget output before after = Unit {0}
+
+-- an answer was written that counts the lifts of the run that a listener was told of
+abbrev pub CountsWritten : {L : Type 0} → (Progress → L → L → Type 0) → (every : ℕ) → Command → (budget : ℕ)
+    → (unread_before unread_after held_before held_after : Option (List ℕ)) → L → L → Type 0
+CountsWritten tells every command budget unread_before unread_after held_before held_after before after =
+    (output : List ℕ) × Appends held_before held_after output × CountsToldOfInput tells every command unread_before unread_after budget output before after
+
+-- where the command is done, an answer was written that counts the lifts that the lines tell of
+abbrev pub CountsLines : Command → Result Exit Refusal → (every budget : ℕ) → (unread_before unread_after held_before held_after : Option (List ℕ)) → List ℕ → Type 0
+CountsLines command (Ok exit) every budget unread_before unread_after held_before held_after lines =
+    CountsWritten GoesOnByLine every command budget unread_before unread_after held_before held_after [] lines
+CountsLines command (Err refusal) every budget unread_before unread_after held_before held_after lines = Unit {0}
 
 -- the output took more of a text of which it took so much before: nothing, where a write of that failed;
 -- a failed write breaks it off

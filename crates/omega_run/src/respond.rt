@@ -3,7 +3,7 @@ ghost use Rattle.omega_text.specs.Cases.{or_memory};
 ghost use Rattle.omega_text.specs.Limits.{most_text};
 ghost use Rattle.omega_budget.specs.Watching.{IsWatched, refusal_in};
 ghost use Rattle.omega_solve.specs.Limits.{most_lifts};
-ghost use Rattle.omega_run.specs.Progress.{LiftsInput};
+ghost use Rattle.omega_run.specs.Progress.{CountsToldOfInput, LiftsInput};
 ghost use Rattle.omega_run.specs.Respond.{Answers, IsRunRefusal, Responds, asked_for};
 ghost use Rattle.omega_run.specs.steps.Kinds.{of_text};
 ghost use Rattle.omega_io.specs.Failures.{failures_of};
@@ -41,6 +41,7 @@ pub(crate) fn respond<R: Input, L, T: Watch<L>>(
     ensures answered { IfOk result (λ made. Responds command budget (R.remaining input.old) (R.remaining input.new) made.0 made.1.items) }
     ensures refused { IfErr result (IsRunRefusal command budget (R.remaining input.old) (R.remaining input.new)) }
     ensures counted { R.failed input.new ≡ R.failed input.old + failures_of result }
+    ensures printed { IfOk result (λ made. CountsToldOfInput (T.tells watch.now) (T.pace watch.now) command (R.remaining input.old) (R.remaining input.new) budget made.1.items listener.old listener.new) }
     ensures told { IsWatched (LiftsInput command (R.remaining input.old) (R.remaining input.new)) (refusal_in result) (T.tells watch.now) (T.pace watch.now) budget listener.old listener.new }
 {
     match kind_of(command) {
@@ -52,11 +53,13 @@ pub(crate) fn respond<R: Input, L, T: Watch<L>>(
             let made = answer(alloc, command, text, budget, watch, listener)?;
             Ok((Exit::Done, made))
         }
-        Kind::File(OfFile::Verify {
-            game,
-            from,
-            explain,
-        }) => {
+        Kind::File(
+            OfFile::Verify {
+                game,
+                from,
+                explain,
+            },
+        ) => {
             let solution = read_all(alloc, input)?;
             verify_solution(alloc, game.as_slice(), from, solution, explain)
         }
@@ -83,6 +86,8 @@ fn answer<L, T: Watch<L>>(
     ensures limit { OnOk result (length text.items ≤ most_text) }
     ensures refused { IfErr result (or_memory (λ refusal. Answers (of_text command) budget text.items (Err refusal))) }
     ensures unfailed { failures_of result ≡ 0 }
+    ensures printed { (unread_before unread_after : Option (List ℕ)) → IsRead unread_before unread_after text.items
+        → IfOk result (λ output. CountsToldOfInput (T.tells watch.now) (T.pace watch.now) (of_text command) unread_before unread_after budget output.items listener.old listener.new) }
     ensures told { (unread_before unread_after : Option (List ℕ)) → IsRead unread_before unread_after text.items
         → IsWatched (LiftsInput (of_text command) unread_before unread_after) (refusal_in result) (T.tells watch.now) (T.pace watch.now) budget listener.old listener.new }
 {

@@ -2,7 +2,7 @@ ghost use Rattle.std.specs.Prelude.{◌≡◌, ◌+◌, ◌-◌, ◌^◌, ◌<�
 ghost use Rattle.omega_solve.specs.Limits.{most_lifts};
 ghost use Rattle.std.specs.Io.KnownBytes.{Keeps};
 ghost use Rattle.omega_budget.specs.Watching.{IsWatched, refusal_in};
-ghost use Rattle.omega_run.specs.Progress.{LiftsInput};
+ghost use Rattle.omega_run.specs.Progress.{CountsWritten, LiftsInput};
 ghost use Rattle.omega_run.specs.Respond.{IsRunRefusal};
 ghost use Rattle.omega_run.specs.Run.{BreaksOff, Completes};
 ghost use Rattle.omega_io.specs.Failures.{failures_of};
@@ -43,7 +43,8 @@ pub fn run_command<R: Input, W: Output, L, T: Watch<L>>(
     ensures reads_kept { R.failed input.old ≤ R.failed input.new }
     ensures writes_kept { W.failed output.old ≤ W.failed output.new }
 
-    // What the listener is told of the runs of a solver that the command makes.
+    // What the listener is told of the runs of a solver that the command makes, whose lifts its answer counts.
+    ensures printed { IfOk result (λ _. CountsWritten (T.tells watch.now) (T.pace watch.now) command budget (R.remaining input.old) (R.remaining input.new) (W.contents output.old) (W.contents output.new) listener.old listener.new) }
     ensures told { IsWatched (LiftsInput command (R.remaining input.old) (R.remaining input.new)) (refusal_in result) (T.tells watch.now) (T.pace watch.now) budget listener.old listener.new }
 {
     let (exit, made) = respond(alloc, command, input, budget, watch, listener)?;

@@ -2,7 +2,7 @@
 ghost use Rattle.std.specs.Prelude.{◌≡◌, ◌-◌, ◌^◌, ◌<◌, ◌≤◌, List, ℕ, max};
 ghost use Rattle.omega_budget.specs.Watching.{refusal_in};
 ghost use Rattle.omega_run.specs.Obey.{Performs, streams};
-ghost use Rattle.omega_run.specs.Progress.{AreProgressLines, HasTold};
+ghost use Rattle.omega_run.specs.Progress.{AreProgressLines, CountsLines, HasTold};
 ghost use Rattle.omega_solve.specs.Limits.{most_lifts};
 
 use crate::progress::ProgressLines;
@@ -30,6 +30,7 @@ pub fn run_watched<R: Input, W: Output, E: Output>(
         (streams (R.remaining input.old) (R.failed input.old) (W.contents output.old) (W.failed output.old))
         (streams (R.remaining input.new) (R.failed input.new) (W.contents output.new) (W.failed output.new)) }
     ensures told { (lines : List ℕ) × AreProgressLines command (refusal_in result) (max 1 every) budget (R.remaining input.old) (R.remaining input.new) lines
+        × CountsLines command result (max 1 every) budget (R.remaining input.old) (R.remaining input.new) (W.contents output.old) (W.contents output.new) lines
         × HasTold (E.contents errors.old) (E.contents errors.new) (E.failed errors.old) (E.failed errors.new) lines }
 {
     let lines = ProgressLines {

@@ -14,7 +14,8 @@ returns-in-Ok-Watched g c =
       told.0,
       ran.performed,
       told.1,
-      reports_as _ _ _ _ (λ text last. told_at_last _ _ _ _ _ _ _ _ told.2 last)
+      told.2,
+      reports_as _ _ _ _ (λ text last. told_at_last _ _ _ _ _ _ _ _ told.3 last)
           (rw c.failures-sound.ensures at c.report_behind.ensures),
     )
 

@@ -43,3 +43,6 @@ returns-in_err-write_text-clause-told g c =
 
 pub returns-clause-told : goal.returns-clause-told
 returns-clause-told g c = rw c.in_ok-exit.was at c.respond.ensures.told
+
+pub returns-clause-printed : goal.returns-clause-printed
+returns-clause-printed g c = (_, rw c.as_slice.ensures.value at c.in_ok-write_text.ensures.whole, c.in_ok-exit.ensures.printed)

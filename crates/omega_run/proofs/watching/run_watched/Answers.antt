@@ -1,7 +1,7 @@
--- `run_watched`: what standard error was told of the runs is a text of lines.
+-- `run_watched`: what standard error was told of the runs is a text of lines, and the answer counts what these tell of.
 use Rattle.std.proofs.Common.{max}
+use Rattle.omega_run.proofs.Counted.{outcome_lines}
 use Rattle.omega_run.proofs.Performing.{performs}
-use Rattle.omega_run.proofs.ProgressLines.{watched_lines}
 use Rattle.omega_run.proofs.watching.run_watched.Goals as goal
 
 pub returns-clause-performed : goal.returns-clause-performed
@@ -11,6 +11,6 @@ returns-clause-performed g c =
 
 pub returns-clause-told : goal.returns-clause-told
 returns-clause-told g c =
-    let lines = watched_lines g.E.Output.contents g.E.Output.failed _ _ (max 1 c.args.every) c.args.budget c.failures.result c.args.errors.now
-    c.run_command.new.listener c.requires.tells c.failures.ensures c.run_command.ensures.told in
-    (lines.text, lines.holds, lines.told)
+    let lines = outcome_lines g.E.Output.contents g.E.Output.failed c.args.command _ (max 1 c.args.every) c.args.budget c.failures.result _ _ _ _ c.args.errors.now
+    c.run_command.new.listener c.requires.tells c.failures.ensures c.run_command.ensures.told c.run_command.ensures.printed in
+    (lines.text, lines.holds.0, lines.holds.1, lines.told)
