@@ -8,9 +8,9 @@ use std::test::Fail;
 
 const HEADER: Piece<'static> = ("HOA: v1 Acceptance: 0 ", 1);
 
-/// The pieces of a text, and what it is answered alone and as a stream. A fault of syntax is refused before a formula that
-/// is too deep, and before an atom that is neither `Fin` nor `Inf`; a wrong version before a formula that is too deep. A
-/// million parentheses are not too many to be refused; and a number is too great.
+/// The pieces of a text, and what it is answered alone and as a stream. A fault of syntax is refused before a formula
+/// that is too deep, and before an atom that is neither `Fin` nor `Inf`; a wrong version before a formula that is too
+/// deep. A million parentheses are not too many to be refused; and a number is too great.
 static TEXTS: [(&[Piece<'static>], Told); 5] = [
     (
         &[HEADER, ("(", 300), ("t", 1), (")", 300), (" --BODY-- ", 1)],
