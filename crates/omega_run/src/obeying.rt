@@ -122,7 +122,15 @@ fn verify_file<F: GameFiles, R: Input, W: Output>(
         from,
         explain,
     };
-    run_command(alloc, command, input, output, MOST_LIFTS, &Unwatched, &mut ())
+    run_command(
+        alloc,
+        command,
+        input,
+        output,
+        MOST_LIFTS,
+        &Unwatched,
+        &mut (),
+    )
 }
 
 /// Draws a game with the solution in a file, which is read before the game is.
@@ -141,7 +149,15 @@ fn draw_file<F: GameFiles, R: Input, W: Output>(
 {
     let solution = Seq::from_vec(files.read_file(alloc, file)?);
     let command = Command::DrawSolution { solution };
-    run_command(alloc, command, input, output, MOST_LIFTS, &Unwatched, &mut ())
+    run_command(
+        alloc,
+        command,
+        input,
+        output,
+        MOST_LIFTS,
+        &Unwatched,
+        &mut (),
+    )
 }
 
 /// Writes a text that was asked for.

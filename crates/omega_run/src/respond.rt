@@ -52,11 +52,13 @@ pub(crate) fn respond<R: Input, L, T: Watch<L>>(
             let made = answer(alloc, command, text, budget, watch, listener)?;
             Ok((Exit::Done, made))
         }
-        Kind::File(OfFile::Verify {
-            game,
-            from,
-            explain,
-        }) => {
+        Kind::File(
+            OfFile::Verify {
+                game,
+                from,
+                explain,
+            },
+        ) => {
             let solution = read_all(alloc, input)?;
             verify_solution(alloc, game.as_slice(), from, solution, explain)
         }
