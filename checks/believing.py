@@ -4,8 +4,8 @@
     checks/believing.py                          writes docs/believe.md
     checks/believing.py check --format pg        prints the definitions of that promise, in the order of reading
 
-A promise of a subcommand is the rows of `Answers` and of `Refuses` (crates/omega_run/specs/Respond.antt) for what the
-subcommand asks for. From the words of these rows the definitions are followed, each to the words of its body, as the
+A promise of a subcommand is the rows of `Answers` (crates/omega_run/specs/Respond.antt) for what the subcommand asks
+for. From the words of these rows the definitions are followed, each to the words of its body, as the
 `use` lines of its file lead. A file stands after the files that it cites.
 """
 import glob
@@ -49,8 +49,8 @@ A proof shows that the code does what the definitions say. It does not show that
 that is for a reader to judge. This page counts what such a reader has to read, promise by promise. It is made from
 the sources by `checks/believing.py`, and `checks/run pages` fails where it is no longer true.
 
-The promise of a subcommand is its rows of two tables in `crates/omega_run/specs/Respond.antt`: `Answers` says what it
-writes, and `Refuses` when it writes nothing and which refusal comes. The definitions that these rows cite, and those
+The promise of a subcommand is its rows of the table `Answers` in `crates/omega_run/specs/Respond.antt`: a row says
+what is written, and when nothing is written and which refusal comes. The definitions that these rows cite, and those
 that they cite in turn, are all that the promise rests on. A line is a line of a definition or of its comment; `use`
 lines are not counted. The promises share most of their definitions: whoever has read one of them has read the greater
 part of the next.
@@ -200,12 +200,11 @@ class Sources:
         return [one for one in found.values()]
 
     def rows_cite(self, arguments):
-        """What the rows of the two tables cite for these commands."""
-        for table in ("Answers", "Refuses"):
-            cited = list(self.cited(self.held[RESPOND, table], arguments))
-            if not cited:
-                raise ValueError(f"{table} of {RESPOND} has no row for {arguments}")
-            yield from cited
+        """What the rows of the table cite for these commands."""
+        cited = list(self.cited(self.held[RESPOND, "Answers"], arguments))
+        if not cited:
+            raise ValueError(f"Answers of {RESPOND} has no row for {arguments}")
+        return cited
 
 
 def parts_of(definition):
