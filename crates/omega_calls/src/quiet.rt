@@ -36,7 +36,7 @@ fn texts(alloc: Global, text: &[u8], runs: bool) -> Result<Vec<u8>, Refusal> {
     Ok(out)
 }
 
-/// The tokens of a text of the Hanoi format, one by one, by a cursor and byte by byte, and its first one as a game text.
+/// The tokens of a text of the Hanoi format, one by one and by a cursor, and its first one as a game text.
 fn put_tokens(alloc: Global, text: &[u8], out: &mut Vec<u8>) -> Result<(), Refusal> {
     if let Ok(Some(token)) = next_hoa_token(text, 0) {
         put(out, token.span.end as u128)?;

@@ -25,11 +25,8 @@ fn in_pieces(alloc: Global, text: &[u8]) -> Result<Vec<u8>, Refusal> {
 
 /// Feeds a stream with pieces of up to 40 bytes.
 fn feed_pieces(mut stream: Stream, text: &[u8], items: &mut Vec<Item>) -> Result<(), Refusal> {
-    let mut rest = text;
-    while !rest.is_empty() {
-        let (piece, behind) = rest.split_at(rest.len().min(40));
+    for piece in text.chunks(40) {
         feed_again(&mut stream, piece, items)?;
-        rest = behind;
     }
     stream.finish()
 }
