@@ -174,6 +174,25 @@ static STOPS: [(&str, &[usize], Option<(u32, usize)>); 10] = [
     ("123456789--ABORT--0012 ", &[17, 22], Some((2, 18))),
 ];
 
+// Texts, the token that is settled by their ends, and the number and the place of the fault.
+static LASTS: [(&str, Option<Part>, Option<(u32, usize)>); 15] = [
+    ("", None, None),
+    ("ab ", None, None),
+    (" ab", Some((HoaKind::Identifier, 1, 3)), None),
+    ("[t", Some((HoaKind::True, 1, 2)), None),
+    ("0 12", Some((HoaKind::Int, 2, 4)), None),
+    ("[@a-", Some((HoaKind::AliasName, 1, 4)), None),
+    ("a:", None, None),
+    ("9--END--", None, None),
+    ("{\"a\"", None, None),
+    ("a \"b", None, Some((1, 2))),
+    ("t/*/**/", None, Some((1, 1))),
+    ("9 --EN", None, Some((1, 2))),
+    ("x 2147483648", None, Some((2, 2))),
+    ("x 007", None, Some((2, 2))),
+    ("a$b", None, Some((1, 1))),
+];
+
 // What a tokenizer settles of a piece that begins at a place is put behind other tokens; the answer is its fault.
 fn read(
     tokenizer: &mut HoaTokenizer,
@@ -389,6 +408,56 @@ fn bytes_are_passed_up_to_marks_and_faults(rt: HostRuntime) {
             &rt,
             row,
             are_stops(rt.alloc(), text.as_bytes(), stops, *fault),
+        );
+    }
+}
+
+fn is_last(token: Option<PlacedToken>, part: Option<Part>) -> bool {
+    match token {
+        Some(token) => match part {
+            Some(part) => is_part(&token, &part),
+            None => false,
+        },
+        None => part.is_none(),
+    }
+}
+
+// Whether the end of a text settles this token and this fault, and no other token.
+fn ends_so(
+    alloc: Global,
+    text: &[u8],
+    part: Option<Part>,
+    fault: Option<(u32, usize)>,
+) -> Result<bool, AllocError>
+    requires { length text.now < 2 ^ 59 }
+{
+    let mut tokens = Vec::new(alloc);
+    let mut tokenizer = HoaTokenizer::new();
+    read(&mut tokenizer, 0, text, &mut tokens)?;
+    let settled = tokenizer.finish();
+    Ok(
+        is_last(settled.first, part)
+            && settled.second.is_none()
+            && settled.fault.map(number_and_place) == fault,
+    )
+}
+
+// The same of a short text.
+fn are_last(alloc: Global, text: &[u8], part: Option<Part>, fault: Option<(u32, usize)>) -> bool {
+    text.len() < LONGEST
+        && match ends_so(alloc, text, part, fault) {
+            Ok(is) => is,
+            Err(_) => false,
+        }
+}
+
+#[test]
+fn the_end_settles_what_is_left(rt: HostRuntime) {
+    for (row, (text, part, fault)) in LASTS.iter().enumerate() {
+        assert_row(
+            &rt,
+            row,
+            are_last(rt.alloc(), text.as_bytes(), *part, *fault),
         );
     }
 }
