@@ -19,18 +19,18 @@ use omega_pg::{read_game, read_solution};
 use std::alloc::Global;
 
 /// Says whether the choices of the solution that a text stands for win, without solving its game, which has a text of
-/// its own; where they do not, also why, if that is asked for. Where an identifier is given, the solution is one of the
-/// part that its node reaches. The refusal of the game text, or else 54, or else that of the solution text: 1 to 4, 10
+/// its own, which is let go before the solution is read; where they do not, also why, if that is asked for. Where an
+/// identifier is given, the solution is one of the part that its node reaches. The refusal of the game text, or else 54, or else that of the solution text: 1 to 4, 10
 /// to 14, 54, 53 or 60.
 pub fn verify_solution(
     alloc: Global,
-    game: &[u8],
+    game: Vec<u8>,
     from: Option<u32>,
     text: Vec<u8>,
     explain: bool,
 ) -> Result<(Exit, Vec<u8>), Refusal>
-    ensures answer { IfOk result (λ made. IsVerifyAnswer game.now from text.items explain made.0 made.1.items) }
-    ensures refused { IfErr result (or_memory (IsVerifyRefusal game.now from text.items)) }
+    ensures answer { IfOk result (λ made. IsVerifyAnswer game.items from text.items explain made.0 made.1.items) }
+    ensures refused { IfErr result (or_memory (IsVerifyRefusal game.items from text.items)) }
 {
     let game = judged_game(alloc, game, from)?;
     judged(alloc, &game, text, explain)
@@ -50,15 +50,15 @@ fn judged(
     verdict_on(alloc, game, &solution, explain)
 }
 
-/// The game that a text stands for, or where an identifier is given, the part of it that its node reaches. 1 to 4, 10
-/// to 14, 54 or 60.
-fn judged_game(alloc: Global, text: &[u8], from: Option<u32>) -> Result<Game, Refusal>
-    ensures game { IfOk result (IsJudgedGame text.now from) }
-    ensures refused { IfErr result (or_memory (IsJudgedGameRefusal text.now from)) }
+/// The game that a text stands for, or where an identifier is given, the part of it that its node reaches. The text is
+/// let go. 1 to 4, 10 to 14, 54 or 60.
+fn judged_game(alloc: Global, text: Vec<u8>, from: Option<u32>) -> Result<Game, Refusal>
+    ensures game { IfOk result (IsJudgedGame text.items from) }
+    ensures refused { IfErr result (or_memory (IsJudgedGameRefusal text.items from)) }
 {
     match from {
-        None => read_game(alloc, text),
-        Some(identifier) => judged_part(alloc, text, identifier),
+        None => read_game(alloc, text.as_slice()),
+        Some(identifier) => judged_part(alloc, text.as_slice(), identifier),
     }
 }
 

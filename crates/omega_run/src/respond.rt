@@ -61,7 +61,7 @@ pub(crate) fn respond<R: Input, L, T: Watch<L>>(
             },
         ) => {
             let solution = read_all(alloc, input)?;
-            verify_solution(alloc, game.as_slice(), from, solution, explain)
+            verify_solution(alloc, game.into_vec(), from, solution, explain)
         }
         Kind::File(OfFile::DrawSolution { solution }) => {
             let game = read_all(alloc, input)?;

@@ -18,5 +18,5 @@ returns-clause-answer c =
 pub returns-clause-refused : goal.returns-clause-refused
 returns-clause-refused c =
     IfErr-weaker c.judged.result _ _
-    (λ refusal h. solution-refused c.args.game.now c.args.from c.in_ok-game.game c.args.text.items refusal c.in_ok-game.ensures.game h)
+    (λ refusal h. solution-refused c.args.game.items c.args.from c.in_ok-game.game c.args.text.items refusal c.in_ok-game.ensures.game h)
     c.judged.ensures.refused
