@@ -20,8 +20,8 @@ use std::alloc::Global;
 
 /// Says whether the choices of the solution that a text stands for win, without solving its game, which has a text of
 /// its own, which is let go before the solution is read; where they do not, also why, if that is asked for. Where an
-/// identifier is given, the solution is one of the part that its node reaches. The refusal of the game text, or else 54, or else that of the solution text: 1 to 4, 10
-/// to 14, 54, 53 or 60.
+/// identifier is given, the solution is one of the part that its node reaches. The refusal of the game text, or else
+/// 54, or else that of the solution text: 1 to 4, 10 to 14, 54, 53 or 60.
 pub fn verify_solution(
     alloc: Global,
     game: Vec<u8>,
