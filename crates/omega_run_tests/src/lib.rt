@@ -5,8 +5,6 @@
 #[cfg(test)]
 mod files;
 #[cfg(test)]
-mod host_files;
-#[cfg(test)]
 mod portions;
 #[cfg(test)]
 mod progress;

@@ -98,23 +98,11 @@ pub(crate) fn expect_over(
     let file = OneFile {
         text: asked.file.as_bytes(),
     };
-    expect_with(alloc, asked, &file, input, output, wanted)
-}
-
-/// Runs a command line over these files, this input and this output.
-pub(crate) fn expect_with<F: GameFiles>(
-    alloc: Global,
-    asked: Asked<'_>,
-    files: &F,
-    input: Portions<'_>,
-    output: Filling,
-    wanted: Left<'_>,
-) -> Result<(), Fail> {
     let mut input = FromRead::new(input);
     let mut output = ToWrite::new(output);
     let mut errors = ToWrite::new(Vec::new(alloc));
     let line = line_of(alloc, asked.line);
-    let status = obey(alloc, line, files, &mut input, &mut output, &mut errors);
+    let status = obey(alloc, line, &file, &mut input, &mut output, &mut errors);
     let (failed_reads, failed_writes) = (input.failures(), output.failures());
     let (output, errors) = (output.into_inner(), errors.into_inner());
     let left = Left {
