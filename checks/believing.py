@@ -71,7 +71,7 @@ leads from each promise to its clause.
 - the toolchain that `omega --version` names: its prover, its compiler, its standard library with the words that
   contracts cite (`List`, `Option`, numbers), and the crates `indexmap`, `itoa`, `smallvec` and `thiserror`;
 - the way from the words of the command line to what a subcommand asks for. `line_for` is proved: what a subcommand
-  asks for with the texts of its options, by `crates/omega_line/specs/CommandLine.antt`. That the words have these
+  asks for with the texts of its options, by `crates/omega_command/specs/CommandLine.antt`. That the words have these
   options rests on `clap` and on how `omega_help` describes them to it, and is tested;
 - the texts of help and of faults of the command line, which are tested;
 - `main`, which hands `obey` the machine's streams and files. Of these the toolchain says nothing; which is which is

@@ -11,16 +11,16 @@ use Rattle.omega_text.specs.declared.refusal.text.TextFault.TheVariants.{Syntax}
 
 -- what a grammar sees of a token: a number's value, the bytes of an alias name, an identifier,
 -- a header name or a string, and of the others the kind
-pub data Symbol : Type 0 where
-  number : ℕ → Symbol
-  name : List ℕ → Symbol
-  word : List ℕ → Symbol
-  header : List ℕ → Symbol
-  quoted : List ℕ → Symbol
-  sign : HoaKind → Symbol
+pub data ExpressionSymbol : Type 0 where
+  number : ℕ → ExpressionSymbol
+  name : List ℕ → ExpressionSymbol
+  word : List ℕ → ExpressionSymbol
+  header : List ℕ → ExpressionSymbol
+  quoted : List ℕ → ExpressionSymbol
+  sign : HoaKind → ExpressionSymbol
 
 -- the symbol of a token of this kind, value and text
-abbrev pub seen_as : HoaKind → ℕ → List ℕ → Symbol
+abbrev pub seen_as : HoaKind → ℕ → List ℕ → ExpressionSymbol
 seen_as kind.Int value text = number value
 seen_as kind.AliasName value text = name text
 seen_as kind.Identifier value text = word text
@@ -29,8 +29,8 @@ seen_as kind.String value text = quoted text
 seen_as other value text = sign other
 
 -- the symbol of a token
-abbrev pub symbol_of : Lexeme HoaKind → Symbol
-symbol_of lexeme = seen_as lexeme.kind lexeme.value lexeme.text
+abbrev pub expression_symbol_of : Lexeme HoaKind → ExpressionSymbol
+expression_symbol_of lexeme = seen_as lexeme.kind lexeme.value lexeme.text
 
 -- the kind of a constant's token
 abbrev pub truth_kind : Bool → HoaKind

@@ -2,7 +2,7 @@
 -- the canonical text of a tree is the tokens of one expression as it is written, which means that tree.
 use Rattle.std.specs.Prelude.{◌≡◌, ◌≢◌, ℕ, ◌+◌, ◌≤◌, Bool, false, nat_le, nat_lt, if◌then◌else◌, List, [], ◌∷◌, ◌++◌, Some, codes, drop, length, map, slice_index}
 use Rattle.omega_acc.specs.formula.Meaning.{acc_meant}
-use Rattle.omega_acc.specs.formula.Reading.{IsAccOf, acc_spelled}
+use Rattle.omega_acc.specs.formula.Reading.{IsAccOf, formula_symbols}
 use Rattle.omega_acc.specs.formula.Acceptance.{AccTree}
 use Rattle.omega_acc.specs.formula.Acceptance as acc
 use Rattle.omega_acc.specs.label.Expanding.{Defined, Entry, Meaning, expansion, replaced}
@@ -11,8 +11,8 @@ use Rattle.omega_acc.specs.formula.Raw.{RawAccTree, raw_acc_depth}
 use Rattle.omega_acc.specs.formula.Raw as raw_acc
 use Rattle.omega_acc.specs.label.Raw.{RawLabelTree, raw_depth}
 use Rattle.omega_acc.specs.label.Raw as raw
-use Rattle.omega_acc.specs.label.Reading.{IsOf, spelled}
-use Rattle.omega_acc.specs.Symbols.{Symbol, disjunctive, symbol_of}
+use Rattle.omega_acc.specs.label.Reading.{IsOf, label_symbols}
+use Rattle.omega_acc.specs.Symbols.{ExpressionSymbol, disjunctive, expression_symbol_of}
 use Rattle.omega_acc.specs.Writing.{acc_text, label_text}
 use Rattle.omega_text.specs.Cut.{Cuts}
 use Rattle.omega_text.specs.Lexeme.{Lexeme}
@@ -71,22 +71,22 @@ pub record StandsApart (text : List ℕ) : Type 0 where
   pub closes : slice_index text 0 ≢ 58
 
 -- from one place of a text to another there are tokens, and they are these symbols
-pub record AreThere (source : List ℕ) (from to : ℕ) (symbols : List Symbol) : Type 0 where
+pub record AreThere (source : List ℕ) (from to : ℕ) (symbols : List ExpressionSymbol) : Type 0 where
   pub lexemes : List (Lexeme HoaKind)
   pub cuts : Cuts hoa_format source from lexemes to
-  pub spells : map symbol_of lexemes ≡ symbols
+  pub spells : map expression_symbol_of lexemes ≡ symbols
 
 -- where the canonical text of a label stands, apart from what follows,
 -- there are the tokens of the label as it is written
 abbrev pub LabelTextsAreLabels : Type 0
 LabelTextsAreLabels = (tree : LabelTree) (source behind : List ℕ) (from : ℕ) → NumbersFit tree → StandsApart behind
-    → drop from source ≡ (label_text tree).bytes ++ behind → AreThere source from (from + length (label_text tree).bytes) (spelled (label_written tree))
+    → drop from source ≡ (label_text tree).bytes ++ behind → AreThere source from (from + length (label_text tree).bytes) (label_symbols (label_written tree))
 
 -- where the canonical text of a formula stands, apart from what follows,
 -- there are the tokens of the formula as it is written
 abbrev pub AccTextsAreFormulas : Type 0
 AccTextsAreFormulas = (tree : AccTree) (source behind : List ℕ) (from : ℕ) → SetsFit tree → StandsApart behind
-    → drop from source ≡ (acc_text tree).bytes ++ behind → AreThere source from (from + length (acc_text tree).bytes) (acc_spelled (acc_written tree))
+    → drop from source ≡ (acc_text tree).bytes ++ behind → AreThere source from (from + length (acc_text tree).bytes) (formula_symbols (acc_written tree))
 
 -- a label as it is written is an or-expression that means the label, whatever aliases there are
 pub record MeansItself (entries : List Entry) (tree : LabelTree) : Type 0 where

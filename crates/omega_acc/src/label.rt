@@ -52,7 +52,7 @@ const _: () = prove!(std::mem::size_of::<Label>() <= 24);
 
 impl Model for Label {
     ghost use Rattle.omega_acc.specs.label.Label.{LabelTree};
-    ghost use Rattle.omega_acc.specs.layout.label.Label.{IsLabel, label_code, tree_of};
+    ghost use Rattle.omega_acc.specs.layout.label.Label.{IsLabelInPostfix, label_code, tree_of};
 
     ghost Value = { LabelTree };
 
@@ -60,13 +60,13 @@ impl Model for Label {
 
     ghost view = { λ a. tree_of a.written.nodes };
 
-    ghost invariant = { λ a. IsLabel a.written.nodes };
+    ghost invariant = { λ a. IsLabelInPostfix a.written.nodes };
 }
 
 impl Label {
     ghost use Rattle.omega_acc.specs.label.Label.{label_depth, label_size};
     ghost use Rattle.omega_acc.specs.Limits.{most_depth};
-    ghost use Rattle.omega_acc.specs.layout.label.Label.{IsLabel, postfix, tree_of};
+    ghost use Rattle.omega_acc.specs.layout.label.Label.{IsLabelInPostfix, postfix, tree_of};
 
     /// The count of its atoms and operators.
     pub fn size(&self) -> usize
@@ -77,7 +77,7 @@ impl Label {
 
     /// The label of nodes in postfix order.
     pub(crate) fn of_nodes(alloc: Global, nodes: Vec<LabelNode>) -> Result<Label, Refusal>
-        requires { IsLabel nodes.items }
+        requires { IsLabelInPostfix nodes.items }
         ensures ok { IfOk result (λ label. label ≡ tree_of nodes.items) }
         ensures err { IfErr result IsMemory }
     {
@@ -91,7 +91,7 @@ impl Label {
 
     /// The label of what is written without aliases and parentheses; its depth there is not used.
     pub(crate) fn of_written(written: Compact) -> Label
-        requires { IsLabel written.nodes }
+        requires { IsLabelInPostfix written.nodes }
         ensures { result ≡ tree_of written.nodes }
     {
         Label { written }

@@ -14,7 +14,7 @@ use Rattle.omega_automaton.specs.Meaning.{IsMeaningless, IsStateOf, Means}
 use Rattle.omega_automaton.specs.declared.making.body.Body.{Body}
 use Rattle.omega_automaton.specs.declared.making.definitions.Definitions.{Definitions}
 use Rattle.omega_automaton.specs.declared.making.gathered.Gathered.{Gathered}
-use Rattle.omega_automaton.specs.declared.making.outline.Outline.{Outline}
+use Rattle.omega_automaton.specs.declared.making.outline.HeaderOutline.{HeaderOutline}
 use Rattle.omega_automaton.specs.declared.state.State.{State}
 use Rattle.omega_automaton.specs.layout.Definitions.{AreNoted, IsUnnoted}
 use Rattle.omega_automaton.specs.layout.Draft.{IsDraftOf, IsOutlineOf, IsSoundAcceptance, described}
@@ -30,7 +30,7 @@ and_then-map f g None = refl
 and_then-map f g (Some x) = refl
 
 -- the value that is made of a draft is what is meant
-draft_means : (raw : RawAutomaton) (gathered : Gathered) (definitions : Definitions) (outline : Outline) (acceptance : AccTree) (defined : List State)
+draft_means : (raw : RawAutomaton) (gathered : Gathered) (definitions : Definitions) (outline : HeaderOutline) (acceptance : AccTree) (defined : List State)
     → IsOutlineOf raw outline → IsDraftOf raw gathered definitions → AllZip (IsStateOf definitions.aliases) raw.states defined
     → option_and_then acc_meant gathered.acceptance ≡ Some acceptance
     → Means raw (described gathered outline.state_count outline.set_count acceptance defined)
@@ -52,7 +52,7 @@ draft_means raw gathered definitions outline acceptance defined said is zipped m
 }
 
 -- the same of what is made, if it is
-pub body_means : (raw : RawAutomaton) (gathered : Gathered) (definitions : Definitions) (outline : Outline) (made : Result Body Refusal)
+pub body_means : (raw : RawAutomaton) (gathered : Gathered) (definitions : Definitions) (outline : HeaderOutline) (made : Result Body Refusal)
     → IsOutlineOf raw outline → IsDraftOf raw gathered definitions
     → IfOk made (λ body. option_and_then acc_meant gathered.acceptance ≡ Some body.acceptance) → IfOk made (λ body. AllZip (IsStateOf definitions.aliases) raw.states body.defined)
     → IfOk made (λ body. Means raw (described gathered outline.state_count outline.set_count body.acceptance body.defined))
@@ -60,7 +60,7 @@ body_means raw gathered definitions outline (Ok body) said is meant zipped = dra
 body_means raw gathered definitions outline (Err refusal) said is meant zipped = tt
 
 -- where no fault is left there is a draft
-pub draft_last : (raw : RawAutomaton) (gathered : Gathered) (definitions : Definitions) (states : List RawState) (outline : Outline) → IsOutlineOf raw outline
+pub draft_last : (raw : RawAutomaton) (gathered : Gathered) (definitions : Definitions) (states : List RawState) (outline : HeaderOutline) → IsOutlineOf raw outline
     → HasGathered raw.items gathered → AreNoted (definitions_of raw) definitions → states ≡ raw.states
     → last_fault definitions states outline.late outline.deep ≡ None → IsDraftOf raw gathered definitions
 draft_last raw gathered definitions states outline said all noted same none = record {
@@ -80,7 +80,7 @@ pub draft_accepts : (raw : RawAutomaton) (gathered : Gathered) (definitions : De
 draft_accepts raw gathered definitions is = subst (λ (o : Option RawAccTree). IsSoundAcceptance o) (sym is.gathered.acceptance) (acceptance_sound raw is.faultless)
 
 -- a fault that is left is the fault where no lesser one applies
-pub last-meaningless : (raw : RawAutomaton) (definitions : Definitions) (states : List RawState) (outline : Outline) (refusal : Refusal) → IsOutlineOf raw outline
+pub last-meaningless : (raw : RawAutomaton) (definitions : Definitions) (states : List RawState) (outline : HeaderOutline) (refusal : Refusal) → IsOutlineOf raw outline
     → AreNoted (definitions_of raw) definitions → states ≡ raw.states → IsLastFault definitions states outline.late outline.deep refusal → IsMeaningless raw refusal
 last-meaningless raw definitions states outline (Text fault) said noted same refused = refused
 last-meaningless raw definitions states outline (Game fault) said noted same refused = refused

@@ -6,12 +6,12 @@ use Rattle.std.proofs.lemmas.List.Sums.{sum_by_more}
 use Rattle.omega_acc.specs.label.Expanding.{Meaning}
 use Rattle.omega_automaton.specs.Faults.{is_deep, is_large}
 use Rattle.omega_automaton.specs.declared.judging.findings.Findings.{Findings}
-use Rattle.omega_automaton.specs.layout.Findings.{AreFound, AreJoined, capped, is_faulty}
+use Rattle.omega_automaton.specs.layout.Findings.{AreFound, AreJoinedFindings, capped, is_faulty}
 use Rattle.omega_automaton.proofs.SoundLemmas.{or_first, or_second}
 
 -- of labels and of others
 pub found-joined : (some others : (Option Meaning → Bool) → Bool) (size more : ℕ) (one other both : Findings)
-    → AreFound some size one → AreFound others more other → AreJoined one other both → AreFound (λ test. some test || others test) (size + more) both
+    → AreFound some size one → AreFound others more other → AreJoinedFindings one other both → AreFound (λ test. some test || others test) (size + more) both
 found-joined some others size more one other both first second joined = record {
   undefined = joined.undefined ∙ (ap (λ b. b || other.undefined) first.undefined ∙ ap (λ b. some is_none || b) second.undefined);
   deep = joined.deep ∙ (ap (λ b. b || other.deep) first.deep ∙ ap (λ b. some is_deep || b) second.deep);
@@ -34,7 +34,7 @@ found-said some others size more found same sum is = record {
 -- a step of a loop over what has labels
 pub found-step : {X : Type 0} (tests : (Option Meaning → Bool) → X → Bool) (size : X → ℕ) (xs : List X) (i : ℕ) (x : X) (one other both : Findings)
     → i < length xs → x ≡ get_or xs i x
-    → AreFound (λ test. list_any (tests test) (take i xs)) (sum_by size (take i xs)) one → AreFound (λ test. tests test x) (size x) other → AreJoined one other both
+    → AreFound (λ test. list_any (tests test) (take i xs)) (sum_by size (take i xs)) one → AreFound (λ test. tests test x) (size x) other → AreJoinedFindings one other both
     → AreFound (λ test. list_any (tests test) (take (i + 1) xs)) (sum_by size (take (i + 1) xs)) both
 found-step tests size xs i x one other both within is before here joined =
     let more = sum_by_more size xs i x within in

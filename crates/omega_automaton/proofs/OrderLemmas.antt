@@ -12,7 +12,7 @@ use Rattle.omega_raw.specs.declared.raw_automaton.RawAutomaton.{RawAutomaton}
 use Rattle.omega_raw.specs.declared.raw_item.RawItem.{RawItem}
 use Rattle.omega_raw.specs.declared.raw_state.RawState.{RawState}
 use Rattle.omega_automaton.specs.Automaton.{has_repeat}
-use Rattle.omega_automaton.specs.Faults.{applies, definitions_of, fault_of, has_deep_expression, has_large_expression, has_wrong_alias, passes}
+use Rattle.omega_automaton.specs.Faults.{applies, definitions_of, automaton_fault_of, has_deep_expression, has_large_expression, has_wrong_alias, passes}
 use Rattle.omega_automaton.specs.Items.{Accepted, acceptance_in}
 use Rattle.omega_automaton.specs.declared.making.definitions.Definitions.{Definitions}
 use Rattle.omega_automaton.specs.layout.Definitions.{AreNoted, has_wrong_definition}
@@ -39,7 +39,7 @@ late = StateTwice ∷ MixedLabels ∷ ImplicitCount ∷ AcceptanceAtom ∷ []
 
 -- the fault: an early one, or else that of aliases, or else a late one, or else depth, or else size
 in_order : (raw : RawAutomaton)
-    → fault_of raw ≡ option_or (early_fault raw) (cond (has_wrong_alias raw) (Some Alias) (option_or (late_fault raw)
+    → automaton_fault_of raw ≡ option_or (early_fault raw) (cond (has_wrong_alias raw) (Some Alias) (option_or (late_fault raw)
     (cond (has_deep_expression raw) (Some TooDeep) (cond (has_large_expression raw) (Some Expansion) None))))
 in_order raw =
     find-append (applies raw) early (Alias ∷ late ++ TooDeep ∷ Expansion ∷ [])
@@ -74,7 +74,7 @@ large_is raw definitions all = rw (all.large, all.aliases) refl
 last_is : (raw : RawAutomaton) (definitions : Definitions) (later : Option AutomatonFault) (acceptance : Bool) → early_fault raw ≡ None
     → AreNoted (definitions_of raw) definitions → later ≡ late_fault raw
     → acceptance ≡ list_any (λ (item : RawItem). passes (λ (accepted : Accepted). nat_lt most_depth (raw_acc_depth accepted.formula)) (acceptance_in item)) raw.items
-    → fault_of raw ≡ last_fault definitions raw.states later acceptance
+    → automaton_fault_of raw ≡ last_fault definitions raw.states later acceptance
 last_is raw definitions later acceptance none all after is =
     in_order raw
     ∙ rw (none, alias_wrong raw definitions.aliases all.aliases all.sound, deep_is raw definitions acceptance all is, large_is raw definitions all, after) refl
@@ -83,7 +83,7 @@ last_is raw definitions later acceptance none all after is =
 pub last_as : (raw : RawAutomaton) (definitions : Definitions) (states : List RawState) (later fault : Option AutomatonFault) (acceptance : Bool)
     → early_fault raw ≡ None → AreNoted (definitions_of raw) definitions → states ≡ raw.states → later ≡ late_fault raw
     → acceptance ≡ list_any (λ (item : RawItem). passes (λ (accepted : Accepted). nat_lt most_depth (raw_acc_depth accepted.formula)) (acceptance_in item)) raw.items
-    → fault ≡ last_fault definitions states later acceptance → fault_of raw ≡ fault
+    → fault ≡ last_fault definitions states later acceptance → automaton_fault_of raw ≡ fault
 last_as raw definitions states later fault acceptance none all same after is found =
     last_is raw definitions later acceptance none all after is ∙ (ap (λ x. last_fault definitions x later acceptance) (sym same) ∙ sym found)
 
@@ -102,5 +102,5 @@ definition_wrong raw wrong =
     (labels_pass is_none (definitions_of raw) raw.states) wrong
 
 -- the fault where none of the early ones applies and some definition is wrong
-pub alias_is : (raw : RawAutomaton) → early_fault raw ≡ None → has_wrong_definition (definitions_of raw) ≡ true → fault_of raw ≡ Some Alias
+pub alias_is : (raw : RawAutomaton) → early_fault raw ≡ None → has_wrong_definition (definitions_of raw) ≡ true → automaton_fault_of raw ≡ Some Alias
 alias_is raw none wrong = in_order raw ∙ rw (none, definition_wrong raw wrong) refl

@@ -15,7 +15,7 @@ use Rattle.omega_raw.specs.declared.raw_automaton.RawAutomaton.{RawAutomaton}
 use Rattle.omega_raw.specs.declared.raw_edge.RawEdge.{RawEdge}
 use Rattle.omega_raw.specs.declared.raw_item.RawItem.{RawItem}
 use Rattle.omega_raw.specs.declared.raw_state.RawState.{RawState}
-use Rattle.omega_automaton.specs.Faults.{applies, definitions_of, fault_of, has_deep_expression, has_large_expression, has_wrong_alias, has_wrong_atom, is_deep, is_labelled, is_large, lacks_acceptance, passes}
+use Rattle.omega_automaton.specs.Faults.{applies, definitions_of, automaton_fault_of, has_deep_expression, has_large_expression, has_wrong_alias, has_wrong_atom, is_deep, is_labelled, is_large, lacks_acceptance, passes}
 use Rattle.omega_automaton.specs.Items.{Accepted, acceptance_in, first_said}
 use Rattle.omega_automaton.specs.layout.Draft.{IsSoundAcceptance}
 use Rattle.omega_automaton.specs.layout.Findings.{is_faulty, labels_pass}
@@ -129,7 +129,7 @@ label_large definitions states some one two = by_test (labels_pass is_large defi
     by_test false sound = absurd (false≢true (sym (sound refl) ∙ some))
 
 -- the labels of what has no fault
-pub body_sound : (raw : RawAutomaton) → fault_of raw ≡ None → labels_pass is_faulty (definitions_of raw) raw.states ≡ false
+pub body_sound : (raw : RawAutomaton) → automaton_fault_of raw ≡ None → labels_pass is_faulty (definitions_of raw) raw.states ≡ false
 unfolding has_wrong_alias has_deep_expression has_large_expression
 body_sound raw none =
     labels_sound (definitions_of raw) raw.states
@@ -172,7 +172,7 @@ not_none true h = refl
 not_none false h = absurd (false≢true (sym h))
 
 -- the acceptance of what has no fault
-pub acceptance_sound : (raw : RawAutomaton) → fault_of raw ≡ None → IsSoundAcceptance (option_map (λ (accepted : Accepted). accepted.formula) (first_said acceptance_in raw.items))
+pub acceptance_sound : (raw : RawAutomaton) → automaton_fault_of raw ≡ None → IsSoundAcceptance (option_map (λ (accepted : Accepted). accepted.formula) (first_said acceptance_in raw.items))
 unfolding lacks_acceptance has_wrong_atom has_deep_expression
 acceptance_sound raw none =
     let there = not_none _ (no_fault_passes (applies raw) MissingAcceptance none) in

@@ -69,16 +69,16 @@ greatest_of given [] = 0
 greatest_of given (x ∷ xs) = max (given x) (greatest_of given xs)
 
 -- one more than the greatest of some numbers, 0 where there are none
-abbrev pub bound_of : List ℕ → ℕ
-bound_of numbers = greatest_of (λ number. number + 1) numbers
+abbrev pub count_above : List ℕ → ℕ
+count_above numbers = greatest_of (λ number. number + 1) numbers
 
 -- one more than the greatest state that an item mentions
 abbrev pub item_bound : RawItem → ℕ
-item_bound item = bound_of (unwrap_or (start_in item) [])
+item_bound item = count_above (unwrap_or (start_in item) [])
 
 -- one more than the greatest state that a state of the body mentions
 abbrev pub state_bound : RawState → ℕ
-state_bound state = max (state.number + 1) (greatest_of (λ edge. bound_of edge.targets) state.edges)
+state_bound state = max (state.number + 1) (greatest_of (λ edge. count_above edge.targets) state.edges)
 
 -- one more than the greatest state mentioned, 0 where none is; at most the greatest number of a text
 unfoldable pub mentioned_count : RawAutomaton → ℕ
@@ -249,5 +249,5 @@ faults =
     ∷ MixedLabels ∷ ImplicitCount ∷ AcceptanceAtom ∷ TooDeep ∷ Expansion ∷ []
 
 -- the fault of an automaton text: of those that apply the one with the least number, none where none applies
-abbrev pub fault_of : RawAutomaton → Option AutomatonFault
-fault_of raw = find (applies raw) faults
+abbrev pub automaton_fault_of : RawAutomaton → Option AutomatonFault
+automaton_fault_of raw = find (applies raw) faults

@@ -4,18 +4,18 @@ use Rattle.omega_text.specs.Refusal.{automaton_number}
 use Rattle.omega_text.specs.declared.refusal.automaton.AutomatonFault.{AutomatonFault}
 use Rattle.omega_raw.specs.declared.raw_automaton.RawAutomaton.{RawAutomaton}
 use Rattle.omega_automaton.specs.Automaton.{Description, IsAutomaton}
-use Rattle.omega_automaton.specs.Faults.{applies, fault_of}
+use Rattle.omega_automaton.specs.Faults.{applies, automaton_fault_of}
 use Rattle.omega_automaton.specs.Meaning.{Means}
 
 -- the fault of an automaton that is written applies, and none with a lesser number does
 abbrev pub FaultsAreLeast : Type 0
 FaultsAreLeast =
-    (raw : RawAutomaton) (fault : AutomatonFault) → fault_of raw ≡ Some fault
+    (raw : RawAutomaton) (fault : AutomatonFault) → automaton_fault_of raw ≡ Some fault
     → (applies raw fault ≡ true) × ((other : AutomatonFault) → automaton_number other < automaton_number fault → applies raw other ≡ false)
 
 -- where there is no fault none applies
 abbrev pub NoFaultIsNone : Type 0
-NoFaultIsNone = (raw : RawAutomaton) (fault : AutomatonFault) → fault_of raw ≡ None → applies raw fault ≡ false
+NoFaultIsNone = (raw : RawAutomaton) (fault : AutomatonFault) → automaton_fault_of raw ≡ None → applies raw fault ≡ false
 
 -- an automaton that is written means at most one automaton
 abbrev pub MeaningsAreOne : Type 0
@@ -27,7 +27,7 @@ MeaningsHaveNoFault = (raw : RawAutomaton) (a : Description) (fault : AutomatonF
 
 -- where there is no fault there is a meaning: an automaton that is written has one fault or means one automaton
 abbrev pub MeaningsAreThere : Type 0
-MeaningsAreThere = (raw : RawAutomaton) → fault_of raw ≡ None → (a : Description) × Means raw a
+MeaningsAreThere = (raw : RawAutomaton) → automaton_fault_of raw ≡ None → (a : Description) × Means raw a
 
 -- what an automaton that is written means is an automaton: numbers below their counts, each state defined at most once,
 -- and the limits

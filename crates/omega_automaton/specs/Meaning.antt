@@ -13,7 +13,7 @@ use Rattle.omega_raw.specs.declared.raw_automaton.RawAutomaton.{RawAutomaton}
 use Rattle.omega_raw.specs.declared.raw_edge.RawEdge.{RawEdge}
 use Rattle.omega_raw.specs.declared.raw_state.RawState.{RawState}
 use Rattle.omega_automaton.specs.Automaton.{Description}
-use Rattle.omega_automaton.specs.Faults.{definitions_of, fault_of, names_of, set_count, state_count}
+use Rattle.omega_automaton.specs.Faults.{definitions_of, automaton_fault_of, names_of, set_count, state_count}
 use Rattle.omega_automaton.specs.Items.{acc_name_in, acceptance_in, first_said, name_in, properties_in, start_in, tool_in, unknown_in}
 use Rattle.omega_automaton.specs.declared.edge.Edge.{Edge}
 use Rattle.omega_automaton.specs.declared.state.State.{State}
@@ -50,7 +50,7 @@ pub record IsStateOf (definitions : List Defined) (raw : RawState) (state : Stat
 
 -- an automaton that is written means this one: it has no fault, and each part is as it is written
 pub record Means (raw : RawAutomaton) (a : Description) : Type 0 where
-  pub faultless : fault_of raw ≡ None
+  pub faultless : automaton_fault_of raw ≡ None
   pub tool : a.tool ≡ first_said tool_in raw.items
   pub name : a.name ≡ first_said name_in raw.items
   pub states : a.states ≡ state_count raw
@@ -65,4 +65,4 @@ pub record Means (raw : RawAutomaton) (a : Description) : Type 0 where
 
 -- a refusal by the fault of an automaton that is written, or want of memory
 abbrev pub IsMeaningless : RawAutomaton → Refusal → Type 0
-IsMeaningless raw = or_automaton (λ fault. fault_of raw ≡ Some fault) (or_memory never)
+IsMeaningless raw = or_automaton (λ fault. automaton_fault_of raw ≡ Some fault) (or_memory never)

@@ -21,7 +21,7 @@ use crate::automaton::Automaton;
 use crate::judging::judge_last;
 use crate::making::body::body_of;
 use crate::making::items::gather;
-use crate::making::outline::{Outline, outline_of};
+use crate::making::outline::{HeaderOutline, outline_of};
 pub(crate) use body::Body;
 pub(crate) use definitions::Definitions;
 pub(crate) use gathered::Gathered;
@@ -59,7 +59,7 @@ fn body_with(
     gathered: &mut Gathered,
     definitions: &mut Definitions,
     raw: RawAutomaton,
-    outline: Outline,
+    outline: HeaderOutline,
 ) -> Result<Body, Refusal>
     requires outline { IsOutlineOf raw outline }
     requires gathered { HasGathered [] gathered.old }

@@ -1,7 +1,7 @@
 -- What is told of the items of a stream, where their numbers do not matter.
 use Rattle.std.proofs.Common.{◌≡◌, ℕ, ◌+◌, List, [], ◌∷◌, ◌++◌, Option, refl, ap, ◌∙◌}
 use Rattle.omega_canon.specs.Stream.{canonical_item, canonical_stream}
-use Rattle.omega_feed.specs.Telling.{IsTelling, texts_from}
+use Rattle.omega_stream_reading.specs.Telling.{IsTelling, texts_from}
 use Rattle.omega_hoa.specs.declared.item.Item.{Item}
 use Rattle.omega_io.specs.Reading.{ReadsWhole}
 use Rattle.omega_automaton_answers.specs.Canon.{IsStreamCanonAnswer}

@@ -6,7 +6,7 @@ use Rattle.omega_empty.specs.EmptinessGame.{IsEmptinessGame}
 use Rattle.omega_empty.specs.Refusing.{IsGameRefusal, IsGiven}
 use Rattle.omega_game.specs.Game.{Node}
 use Rattle.omega_hoa.specs.Alone.{IsAutomatonRefusal, IsAutomatonText}
-use Rattle.omega_pg.specs.game.Canonical.{canonical}
+use Rattle.omega_pg.specs.game.Canonical.{canonical_game}
 
 -- what `game` answers: the text stands for an automaton to which none of 13, 40, 41 and 42 applies, and the canonical
 -- text of its emptiness game is written
@@ -16,7 +16,7 @@ pub record IsEmptinessGameAnswer (text output : List ℕ) : Type 0 where
   pub given : IsGiven automaton
   pub game : List Node
   pub game_is : IsEmptinessGame automaton game
-  pub written : output ≡ canonical game
+  pub written : output ≡ canonical_game game
 
 -- the text stands for an automaton, which is refused an emptiness game: 13, 40, 41 or 42
 pub record RefusesEmptinessGame (text : List ℕ) (refusal : Refusal) : Type 0 where

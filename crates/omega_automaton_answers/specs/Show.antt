@@ -4,7 +4,7 @@ use Rattle.omega_acc.specs.Writing.{acc_text}
 use Rattle.omega_automaton.specs.Automaton.{Description, edge_count}
 use Rattle.omega_hoa.specs.declared.item.Item.{Item}
 use Rattle.omega_hoa.specs.declared.item.Item.TheVariants.{Aborted, Automaton}
-use Rattle.omega_feed.specs.Telling.{IsTelling}
+use Rattle.omega_stream_reading.specs.Telling.{IsTelling}
 
 -- a count, and before it what is counted
 abbrev pub count_text : List ℕ → ℕ → List ℕ

@@ -7,7 +7,7 @@ ghost use Rattle.omega_canon.specs.Stream.{canonical_item};
 ghost use Rattle.omega_automaton_answers.specs.Canon.{IsStreamCanonAnswer};
 
 use omega_canon::write_canonical;
-use omega_feed::{Input, Item, ItemText, tell_stream};
+use omega_stream_reading::{Input, Item, ItemText, tell_stream};
 use omega_text::Refusal;
 use std::alloc::Global;
 

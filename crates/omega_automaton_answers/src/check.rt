@@ -5,7 +5,7 @@ ghost use Rattle.omega_io.specs.Failures.{failures_of};
 ghost use Rattle.omega_io.specs.Reading.{ReadsText, ReadsWhole};
 ghost use Rattle.omega_automaton_answers.specs.Check.{IsStreamCheckAnswer};
 
-use omega_feed::{Input, Item, ItemText, tell_stream};
+use omega_stream_reading::{Input, Item, ItemText, tell_stream};
 use omega_text::Refusal;
 use std::alloc::Global;
 

@@ -8,7 +8,7 @@ ghost use Rattle.omega_io.specs.Reading.{ReadsText, ReadsWhole};
 ghost use Rattle.omega_automaton_answers.specs.Show.{IsStreamShowAnswer, count_text, item_line, item_text, sizes_text};
 
 use omega_acc::{Acc, write_acc};
-use omega_feed::{Automaton, Input, Item, ItemText, tell_stream};
+use omega_stream_reading::{Automaton, Input, Item, ItemText, tell_stream};
 use omega_text::{Refusal, write_number};
 use std::alloc::Global;
 
@@ -20,13 +20,13 @@ pub fn show_stream<R: Input>(alloc: Global, input: &mut R) -> Result<Vec<u8>, Re
     ensures refused { IfErr result (or_memory (or_io (λ refusal. ReadsText (R.remaining input.old) (R.remaining input.new) (λ text. IsStreamRefusal text refusal)))) }
     ensures counted { R.failed input.new ≡ R.failed input.old + failures_of result }
 {
-    tell_stream::<Line, R>(alloc, input)
+    tell_stream::<LineOfItem, R>(alloc, input)
 }
 
 /// What is told of an item: a line.
-struct Line;
+struct LineOfItem;
 
-impl ItemText for Line {
+impl ItemText for LineOfItem {
     ghost text = { item_line };
 
     fn append(number: usize, item: &Item, out: &mut Vec<u8>) -> Result<(), Refusal> {

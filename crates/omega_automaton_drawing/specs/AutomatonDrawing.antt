@@ -8,7 +8,7 @@ use Rattle.omega_automaton.specs.Automaton.{BodyEdge, Description, edges_of}
 use Rattle.omega_automaton.specs.declared.edge.Edge.{Edge}
 use Rattle.omega_automaton.specs.declared.state.State.{State}
 use Rattle.omega_automaton_drawing.specs.Expressions.{named_text}
-use Rattle.omega_dot.specs.Labels.{line_end, name_line}
+use Rattle.omega_dot.specs.Labels.{line_end, name_label_line}
 use Rattle.omega_dot.specs.Numbered.{numbered}
 use Rattle.omega_automaton_drawing.specs.Roles.{role_of}
 use Rattle.omega_automaton_drawing.specs.declared.role.Role.{Role}
@@ -18,17 +18,17 @@ use Rattle.omega_automaton_drawing.specs.declared.role.Role.TheVariants.{Cycle, 
 -- and its acceptance formula
 abbrev pub front : Description → List ℕ
 front a =
-    codes "digraph automaton {\n  rankdir=LR;\n  labelloc=t;\n  label=\"" ++ (name_line a.name ++ ((acc_text a.acceptance).bytes
+    codes "digraph automaton {\n  rankdir=LR;\n  labelloc=t;\n  label=\"" ++ (name_label_line a.name ++ ((acc_text a.acceptance).bytes
     ++ codes "\\n\";\n"))
 
 -- numbers with a space before each
-abbrev pub numbers_behind : List ℕ → List ℕ
-numbers_behind numbers = flat_map (λ number. codes " " ++ decimal number) numbers
+abbrev pub spaced_numbers : List ℕ → List ℕ
+spaced_numbers numbers = flat_map (λ number. codes " " ++ decimal number) numbers
 
 -- the line of some sets, in braces with a space between each two; nothing for no sets
 abbrev pub marks_line : List ℕ → List ℕ
 marks_line [] = []
-marks_line (first ∷ others) = codes "{" ++ (decimal first ++ (numbers_behind others ++ codes "}\\n"))
+marks_line (first ∷ others) = codes "{" ++ (decimal first ++ (spaced_numbers others ++ codes "}\\n"))
 
 -- the end of the line of a point, which is not seen where its initial choice lists a single state
 abbrev pub point_end : Bool → List ℕ
@@ -56,9 +56,9 @@ abbrev pub state_front : ℕ → List ℕ
 state_front number = codes "  " ++ (decimal number ++ (codes " [label=\"" ++ (decimal number ++ line_end)))
 
 -- a state that is defined: a line each of its label for its number, its name, its own label and its sets
-abbrev pub state_line : List (List ℕ) → State → List ℕ
-state_line names state =
-    state_front state.number ++ (name_line state.name ++ (state_label_line names state.label ++ (marks_line state.marks ++ codes "\"];\n")))
+abbrev pub drawn_state : List (List ℕ) → State → List ℕ
+drawn_state names state =
+    state_front state.number ++ (name_label_line state.name ++ (state_label_line names state.label ++ (marks_line state.marks ++ codes "\"];\n")))
 
 -- the line of an edge's label, if it has one
 abbrev pub edge_label_line : List (List ℕ) → Option LabelTree → List ℕ
@@ -113,15 +113,15 @@ abbrev pub body_edge : Description → (ℕ → Role) → ℕ → BodyEdge → L
 body_edge a role number edge = edge_text a.propositions number (role number) edge.source.number edge.edge
 
 -- the drawing of an automaton whose edges have these roles by number
-abbrev pub drawing : Description → (ℕ → Role) → List ℕ
-drawing a role =
-    front a ++ (numbered start_text 0 a.starts ++ (flat_map (state_line a.propositions) a.defined
+abbrev pub automaton_drawing : Description → (ℕ → Role) → List ℕ
+automaton_drawing a role =
+    front a ++ (numbered start_text 0 a.starts ++ (flat_map (drawn_state a.propositions) a.defined
     ++ (numbered (body_edge a role) 0 (edges_of a) ++ codes "}\n")))
 
 -- the drawing of an automaton
 abbrev pub drawing_of_automaton : Description → List ℕ
-drawing_of_automaton a = drawing a (λ number. Plain)
+drawing_of_automaton a = automaton_drawing a (λ number. Plain)
 
 -- the drawing of an automaton with a lasso, whose stem and cycle are lists of numbers of edges
 abbrev pub drawing_of_lasso : Description → List ℕ → List ℕ → List ℕ
-drawing_of_lasso a stem cycle = drawing a (role_of stem cycle)
+drawing_of_lasso a stem cycle = automaton_drawing a (role_of stem cycle)

@@ -3,7 +3,7 @@
 ghost use Rattle.std.specs.Prelude.{◌≡◌, ◌++◌, IfSome, IsOkUnless, OnOk, decimal};
 ghost use Rattle.std.specs.List.{flat_map};
 ghost use Rattle.omega_automaton.specs.Automaton.{IsLabel, IsState};
-ghost use Rattle.omega_automaton_drawing.specs.AutomatonDrawing.{front, marks_line, numbers_behind, point_end, start_arrow, start_point, start_text, state_front, state_label_line, state_line};
+ghost use Rattle.omega_automaton_drawing.specs.AutomatonDrawing.{front, marks_line, spaced_numbers, point_end, start_arrow, start_point, start_text, state_front, state_label_line, drawn_state};
 ghost use Rattle.omega_dot.specs.Numbered.{numbered};
 
 use crate::naming::write_named;
@@ -85,7 +85,7 @@ fn write_start_arrow(number: usize, state: u32, out: &mut Vec<u8>) -> Result<(),
 
 /// Appends the states that are defined.
 pub(crate) fn write_states(automaton: &Automaton, out: &mut Vec<u8>) -> Result<(), Refusal>
-    ensures ok { OnOk result (out.new.items ≡ out.old.items ++ flat_map (state_line automaton.now.propositions) automaton.now.defined) }
+    ensures ok { OnOk result (out.new.items ≡ out.old.items ++ flat_map (drawn_state automaton.now.propositions) automaton.now.defined) }
     ensures memory { IsOkUnless result Refusal.Memory }
 {
     automaton.keeps_limits();
@@ -98,7 +98,7 @@ pub(crate) fn write_states(automaton: &Automaton, out: &mut Vec<u8>) -> Result<(
 /// Appends a state.
 fn write_state(automaton: &Automaton, state: &State, out: &mut Vec<u8>) -> Result<(), Refusal>
     requires { IsState automaton.now state.now }
-    ensures ok { OnOk result (out.new.items ≡ out.old.items ++ state_line automaton.now.propositions state.now) }
+    ensures ok { OnOk result (out.new.items ≡ out.old.items ++ drawn_state automaton.now.propositions state.now) }
     ensures memory { IsOkUnless result Refusal.Memory }
 {
     write_state_number(state.number, out)?;
@@ -157,7 +157,7 @@ pub(crate) fn write_marks(marks: &[u32], out: &mut Vec<u8>) -> Result<(), Refusa
 
 /// Appends numbers with a space before each.
 fn write_numbers_behind(numbers: &[u32], out: &mut Vec<u8>) -> Result<(), Refusal>
-    ensures ok { OnOk result (out.new.items ≡ out.old.items ++ numbers_behind numbers.now) }
+    ensures ok { OnOk result (out.new.items ≡ out.old.items ++ spaced_numbers numbers.now) }
     ensures memory { IsOkUnless result Refusal.Memory }
 {
     for number in numbers {

@@ -6,10 +6,10 @@ use Rattle.omega_game.specs.Bound.{bound_of}
 use Rattle.omega_game.specs.Game.{Node, IsGame, priorities}
 use Rattle.omega_lift.specs.Laws.{RunsAreBounded}
 use Rattle.omega_lift.specs.Measure.{Measure, zero_measure}
-use Rattle.omega_lift.specs.Run.{IsDue, IsRun, zero_table}
+use Rattle.omega_lift.specs.Run.{IsDue, IsLiftingRun, zero_table}
 use Rattle.omega_solve.specs.Headline.{DealsOut, Headline, Runs}
 use Rattle.omega_solve.specs.Schedule.{all_pending}
-use Rattle.omega_solve.specs.Solver.{State, start_of}
+use Rattle.omega_solve.specs.Solver.{SolverState, start_of}
 use Rattle.omega_budget.specs.Laws.{HeadlineByPlace}
 use Rattle.omega_budget.specs.Reordering.{IsReordering, flags_by_place, measures_by_place, state_by_place}
 use Rattle.omega_budget.specs.Within.{GoesOnAfter}
@@ -48,7 +48,7 @@ module _ (nodes other : List Node) (ranks places : List ℕ) (reordering : IsReo
       }) (zeros_here nodes other ranks places reordering closed player) all_pending_here
 
   -- a call of `run` on the other game is one on the game itself
-  call_here : (old new : State) (budget : ℕ) → old.nodes ≡ other → length old.table.measures ≡ length other → Runs old budget new
+  call_here : (old new : SolverState) (budget : ℕ) → old.nodes ≡ other → length old.table.measures ≡ length other → Runs old budget new
       → Runs (state_by_place nodes ranks old) budget (state_by_place nodes ranks new)
   call_here old new budget here long ran = record {
     same_nodes = refl;
@@ -71,8 +71,8 @@ module _ (nodes other : List Node) (ranks places : List ℕ) (reordering : IsReo
     );
   }
     where
-      run_there : IsRun other old.player old.table.measures ran.lifted.places new.table.measures
-      run_there = subst (λ (n : List Node). IsRun n old.player old.table.measures ran.lifted.places new.table.measures) here ran.lifted.lifted
+      run_there : IsLiftingRun other old.player old.table.measures ran.lifted.places new.table.measures
+      run_there = subst (λ (n : List Node). IsLiftingRun n old.player old.table.measures ran.lifted.places new.table.measures) here ran.lifted.lifted
 
       there : new.nodes ≡ other
       there = ran.same_nodes ∙ here
@@ -81,7 +81,7 @@ module _ (nodes other : List Node) (ranks places : List ℕ) (reordering : IsReo
       new_long = run_long other old.player old.table.measures new.table.measures ran.lifted.places run_there ∙ long
 
   -- and so are many
-  deals_here : (old new : State) (budgets : List ℕ) → old.nodes ≡ other → length old.table.measures ≡ length other → DealsOut old budgets new
+  deals_here : (old new : SolverState) (budgets : List ℕ) → old.nodes ≡ other → length old.table.measures ≡ length other → DealsOut old budgets new
       → DealsOut (state_by_place nodes ranks old) budgets (state_by_place nodes ranks new)
   deals_here old new [] here long same = ap (state_by_place nodes ranks) same
   deals_here old new (budget ∷ budgets) here long (next, ran, dealt) = (
@@ -95,7 +95,7 @@ module _ (nodes other : List Node) (ranks places : List ℕ) (reordering : IsReo
 pub by_place : Headline → HeadlineByPlace
 by_place headline nodes other ranks places player budgets solver game reordering dealt =
     headline nodes player budgets (state_by_place nodes ranks solver) game
-    (subst (λ (s : State). DealsOut s budgets (state_by_place nodes ranks solver)) (start_here nodes other ranks places reordering closed player)
+    (subst (λ (s : SolverState). DealsOut s budgets (state_by_place nodes ranks solver)) (start_here nodes other ranks places reordering closed player)
     (deals_here nodes other ranks places reordering closed (start_of other player) solver budgets refl start_long dealt))
   where
     closed : IsClosed nodes
@@ -108,7 +108,7 @@ by_place headline nodes other ranks places player budgets solver game reordering
 
 -- a lifting run with an entry more
 pub run_more : (nodes : List Node) (player : Player) (old new : List Measure) (vs : List ℕ) (v : ℕ) (due : IsDue nodes player new v)
-    → IsRun nodes player old vs new → (table : List Measure) × IsRun nodes player old (vs ++ v ∷ []) table
+    → IsLiftingRun nodes player old vs new → (table : List Measure) × IsLiftingRun nodes player old (vs ++ v ∷ []) table
 run_more nodes player old new [] v due same =
     let here : IsDue nodes player old v = subst (λ (t : List Measure). IsDue nodes player t v) (sym same) due in
     (_, (here.0, edge_from nodes v here.1.value.successor here.1.value.listed, here.1, refl))

@@ -10,8 +10,8 @@ use Rattle.omega_lift.specs.Allowance.{IsAllowanceOf, measure_at}
 use Rattle.omega_lift.specs.Answer.{AreChoices, IsFirstLeast, won_in}
 use Rattle.omega_lift.specs.Measure.{Measure}
 use Rattle.omega_solve.specs.Headline.{DealsOut, Headline, IsExact}
-use Rattle.omega_solve.specs.Solver.{State, IsFinished, IsReached, start_of}
-use Rattle.omega_budget.specs.Laws.{Follows}
+use Rattle.omega_solve.specs.Solver.{SolverState, IsFinished, IsReached, start_of}
+use Rattle.omega_budget.specs.Laws.{HasSameLifts}
 use Rattle.omega_budget.specs.Reordering.{IsReordering, choices_by_place, flags_by_place, measures_by_place, state_by_place}
 use Rattle.omega_budget.proofs.Games.{IsClosed, back_closed, back_reordering, edge_from, place_of_rank, rank_below, rank_of_place}
 use Rattle.omega_budget.proofs.Lifting.{allowance_here, allowance_there, follows, measure_here}
@@ -119,7 +119,7 @@ choices_by_place_here ranks places read_ranks read_places found choices is same_
     is ∙ ap (λ (rs : List ℕ). choices_by_place rs read_places choices) same_ranks ∙ ap (λ (ps : List ℕ). choices_by_place ranks ps choices) same_places
 
 -- a solver that is done gives an exact answer
-pub exact_here : Headline → (nodes : List Node) (ranks places : List ℕ) (state : State) (choices : List (Option ℕ)) → IsGame nodes
+pub exact_here : Headline → (nodes : List Node) (ranks places : List ℕ) (state : SolverState) (choices : List (Option ℕ)) → IsGame nodes
     → IsReordering nodes state.nodes ranks places → IsReached state → IsFinished state → state.done ≡ true
     → AreChoices state.nodes state.player state.table.measures choices
     → IsExact nodes state.player (won_in (measures_by_place ranks state.table.measures)) (choices_by_place ranks places choices)
@@ -127,10 +127,10 @@ exact_here headline nodes ranks places state choices game reordering reached fin
     (headline nodes state.player (state.lifts ∷ []) here game dealt).exact done _
     (choices_here nodes state.nodes ranks places reordering (λ v w lt edge. game.closed v w edge) state.player state.table.measures choices chosen)
   where
-    here : State
+    here : SolverState
     here = state_by_place nodes ranks state
 
-    there : Follows state (state_by_place nodes ranks state)
+    there : HasSameLifts state (state_by_place nodes ranks state)
     there = follows nodes ranks places state game reordering reached
 
     dealt : DealsOut (start_of nodes state.player) (state.lifts ∷ []) (state_by_place nodes ranks state)

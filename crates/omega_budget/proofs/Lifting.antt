@@ -6,9 +6,9 @@ use Rattle.omega_game.specs.declared.player.Player.{Player}
 use Rattle.omega_game.specs.Game.{Node, IsGame, owner_at, priorities, priority_at}
 use Rattle.omega_lift.specs.Allowance.{IsAllowance, IsAllowanceOf, IsLiftValue, measure_at}
 use Rattle.omega_lift.specs.Measure.{IsAbove, Measure, zero_measure}
-use Rattle.omega_lift.specs.Run.{IsDue, IsRun, IsStable, Lifts, zero_table}
-use Rattle.omega_solve.specs.Solver.{State, IsReached}
-use Rattle.omega_budget.specs.Laws.{Follows}
+use Rattle.omega_lift.specs.Run.{IsDue, IsLiftingRun, IsStable, Lifts, zero_table}
+use Rattle.omega_solve.specs.Solver.{SolverState, IsReached}
+use Rattle.omega_budget.specs.Laws.{HasSameLifts}
 use Rattle.omega_budget.specs.Reordering.{IsReordering, measures_by_place, state_by_place}
 use Rattle.omega_budget.proofs.Games.{IsClosed, alike, back_closed, back_reordering, edge_from, edge_here, edge_there, place_below, place_of_rank, rank_below, rank_of_place}
 use Rattle.omega_budget.proofs.Priorities.{alike_back, allowance_alike, zeros_alike}
@@ -102,14 +102,14 @@ module _ (nodes other : List Node) (ranks places : List ℕ) (reordering : IsReo
           small = omega (arith, below, length-map ranks (measure_at (set table r x)), reordering.ranked)
 
   -- a lifting run of the other game is one of the game
-  pub run_here : (old new : List Measure) (ranked : List ℕ) → length old ≡ length other → IsRun other player old ranked new
-      → IsRun nodes player (measures_by_place ranks old) (map (λ r. get_or places r 0) ranked) (measures_by_place ranks new)
+  pub run_here : (old new : List Measure) (ranked : List ℕ) → length old ≡ length other → IsLiftingRun other player old ranked new
+      → IsLiftingRun nodes player (measures_by_place ranks old) (map (λ r. get_or places r 0) ranked) (measures_by_place ranks new)
   run_here old new [] long run = ap (measures_by_place ranks) run
   run_here old new (r ∷ ranked) long (x, lt, lifts, run) = (
     x,
     place_below nodes other ranks places reordering r lt,
     lifts_at_place old r x lt lifts,
-    subst (λ (table : List Measure). IsRun nodes player table (map (λ i. get_or places i 0) ranked) (measures_by_place ranks new)) (set_here old r x long lt)
+    subst (λ (table : List Measure). IsLiftingRun nodes player table (map (λ i. get_or places i 0) ranked) (measures_by_place ranks new)) (set_here old r x long lt)
         (run_here (set old r x) new ranked (length-set old r x ∙ long) run),
   )
 
@@ -166,17 +166,17 @@ stable_here nodes other ranks places reordering closed player table long stable 
     (subst (λ (t : List Measure). IsDue other player t (get_or ranks v 0)) (table_back nodes other ranks places reordering closed player table long) there)
 
 -- a lifting run keeps the number of measures
-pub run_long : (nodes : List Node) (player : Player) (old new : List Measure) (ranked : List ℕ) → IsRun nodes player old ranked new → length new ≡ length old
+pub run_long : (nodes : List Node) (player : Player) (old new : List Measure) (ranked : List ℕ) → IsLiftingRun nodes player old ranked new → length new ≡ length old
 run_long nodes player old new [] run = ap length (sym run)
 run_long nodes player old new (r ∷ ranked) (x, lt, lifts, run) = run_long nodes player (set old r x) new ranked run ∙ length-set old r x
 
 -- what a solver of the other game has done, said by place
-pub follows : (nodes : List Node) (ranks places : List ℕ) (state : State) → IsGame nodes → IsReordering nodes state.nodes ranks places → IsReached state
-    → Follows state (state_by_place nodes ranks state)
+pub follows : (nodes : List Node) (ranks places : List ℕ) (state : SolverState) → IsGame nodes → IsReordering nodes state.nodes ranks places → IsReached state
+    → HasSameLifts state (state_by_place nodes ranks state)
 follows nodes ranks places state game reordering reached = record {
   reached = record {
     places = map (λ r. get_or places r 0) reached.places;
-    lifted = subst (λ (table : List Measure). IsRun nodes state.player table (map (λ r. get_or places r 0) reached.places) (measures_by_place ranks state.table.measures))
+    lifted = subst (λ (table : List Measure). IsLiftingRun nodes state.player table (map (λ r. get_or places r 0) reached.places) (measures_by_place ranks state.table.measures))
         (zeros_here nodes state.nodes ranks places reordering closed state.player)
         (run_here nodes state.nodes ranks places reordering closed state.player _ _ reached.places start_long reached.lifted);
     counted = length-map reached.places (λ r. get_or places r 0) ∙ reached.counted;

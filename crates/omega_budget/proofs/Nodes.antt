@@ -12,7 +12,7 @@ use Rattle.omega_game.specs.declared.node_spec.NodeSpec.{NodeSpec}
 use Rattle.omega_game.specs.declared.Refusal.{Refusal}
 use Rattle.omega_game.specs.declared.Refusal.TheVariants.{Memory}
 use Rattle.omega_game.specs.Building.{IsBuildRefusal, IsGameOf, specified, with_last, with_successor}
-use Rattle.omega_game.specs.Game.{Node, IsGame, IsWithinLimits, IsWritable, identifiers, no_node, node_at, owner_at, priority_at, successors_at}
+use Rattle.omega_game.specs.Game.{Node, IsGame, IsWithinLimits, IsWritableNode, identifiers, no_node, node_at, owner_at, priority_at, successors_at}
 use Rattle.omega_game.specs.Laws.{GamesHaveNoFault, SpecificationsHaveOneGame}
 use Rattle.omega_game.proofs.elements.Membership.{map-Contains, map_same}
 use Rattle.omega_game.proofs.parts.PartGames.{memory_alone}
@@ -131,8 +131,8 @@ module _ (nodes : List Node) (ranks places : List ℕ) (game : IsGame nodes) (li
     );
     writable = λ r d lt.
         let below : r < length nodes = omega (arith, lt, long) in
-        let old : IsWritable (node_at nodes (get_or places r 0)) = limits.writable (get_or places r 0) no_node (place_below r below) in
-        subst IsWritable (sym (get_or_default by_rank r d no_node lt ∙ at_rank r below))
+        let old : IsWritableNode (node_at nodes (get_or places r 0)) = limits.writable (get_or places r 0) no_node (place_below r below) in
+        subst IsWritableNode (sym (get_or_default by_rank r d no_node lt ∙ at_rank r below))
         (record { identifier = omega (arith, below, limits.few_nodes); priority = old.priority; name = tt });
   }
     where

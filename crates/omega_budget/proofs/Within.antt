@@ -9,15 +9,15 @@ use Rattle.omega_game.specs.Bound.{bound_of}
 use Rattle.omega_game.specs.Game.{IsGame, Node, priorities}
 use Rattle.omega_lift.specs.Answer.{AreChoices, won_in}
 use Rattle.omega_lift.specs.Measure.{Measure}
-use Rattle.omega_lift.specs.Run.{IsDue, IsRun, IsStable}
+use Rattle.omega_lift.specs.Run.{IsDue, IsLiftingRun, IsStable}
 use Rattle.omega_measure.specs.Table.{IsPrepareRefusal, is_too_wide}
 use Rattle.omega_solve.specs.declared.outcome.Outcome.{Outcome}
 use Rattle.omega_solve.specs.declared.outcome.Outcome.TheVariants.{Done, Spent}
 use Rattle.omega_solve.specs.Headline.{IsExact, Runs}
-use Rattle.omega_solve.specs.Solver.{HasLiftDue, IsFinished, IsReached, State, lift_bound, start_of}
+use Rattle.omega_solve.specs.Solver.{HasLiftDue, IsFinished, IsReached, SolverState, lift_bound, start_of}
 use Rattle.omega_budget.specs.declared.found.Found.{Found}
 use Rattle.omega_budget.specs.declared.watching.Progress.{Progress}
-use Rattle.omega_budget.specs.Laws.{Follows, ReorderingsKeepBounds, ReorderingsKeepStates}
+use Rattle.omega_budget.specs.Laws.{HasSameLifts, ReorderingsKeepBounds, ReorderingsKeepStates}
 use Rattle.omega_budget.specs.Reordering.{IsReordering, state_by_place}
 use Rattle.omega_budget.specs.Watching.{AreReports, ComesBefore, ComesBehind, IsSpent, IsTold, TellsFound, TellsRun, TellsSolving, most_of, refusal_in}
 use Rattle.omega_budget.specs.Within.{EndsSo, EndsWithin, GoesOnAfter, IsBudgetRefusal, IsFound, IsSolvingFault, IsSolvingRefusal, LiftsTo}
@@ -25,15 +25,15 @@ use Rattle.omega_budget.specs.steps.Lifting.{HasLifted, StopsSo}
 use Rattle.omega_budget.proofs.Games.{edge_from}
 
 -- the lifts of a solver lead to its table
-lifts_to : (state : State) → IsReached state → LiftsTo state.nodes state.player state.lifts state.table.measures
+lifts_to : (state : SolverState) → IsReached state → LiftsTo state.nodes state.player state.lifts state.table.measures
 lifts_to state reached = record { places = reached.places; run = reached.lifted; counted = reached.counted }
 
-goes_on_after : (state : State) → IsReached state → HasLiftDue state → GoesOnAfter state.nodes state.player state.lifts
+goes_on_after : (state : SolverState) → IsReached state → HasLiftDue state → GoesOnAfter state.nodes state.player state.lifts
 goes_on_after state reached due =
     record { table = state.table.measures; lifted = lifts_to state reached; place = due.0; due = due.1 }
 
 -- how a run stops that brings the lifts to the budget
-stops_so : (mid new : State) (outcome : Outcome) (made more budget : ℕ) → mid.lifts ≡ made → Runs mid more new
+stops_so : (mid new : SolverState) (outcome : Outcome) (made more budget : ℕ) → mid.lifts ≡ made → Runs mid more new
     → (new.done ≡ true) ↔ (outcome ≡ Done) → (outcome ≡ Spent → made + more ≡ budget) → StopsSo outcome budget new
 stops_so mid new Done made more budget counted ran told used = (told.1 refl, ran.done (told.1 refl))
 stops_so mid new Spent made more budget counted ran told used = elim (cases_Bool new.done) [
@@ -42,13 +42,13 @@ stops_so mid new Spent made more budget counted ran told used = elim (cases_Bool
 ]
 
 -- a new solver lifted within the budget, where a run of it goes on from so many lifts
-pub run_lifted : (nodes : List Node) (player : Player) (made more budget : ℕ) (start mid new : State) (outcome : Outcome)
+pub run_lifted : (nodes : List Node) (player : Player) (made more budget : ℕ) (start mid new : SolverState) (outcome : Outcome)
     → start ≡ start_of nodes player → mid.nodes ≡ start.nodes → mid.player ≡ start.player → mid.lifts ≡ made
     → Runs mid more new → IsReached new → new.lifts ≤ lift_bound new → (new.done ≡ true) ↔ (outcome ≡ Done)
     → made + more ≤ budget → (outcome ≡ Spent → made + more ≡ budget) → HasLifted nodes player budget outcome new
 run_lifted nodes player made more budget start mid new outcome fresh kept_nodes kept_player counted ran reached bounded told within used =
-    let same_nodes : new.nodes ≡ nodes = ran.same_nodes ∙ kept_nodes ∙ ap (λ (s : State). s.nodes) fresh in
-    let same_player : new.player ≡ player = ran.same_player ∙ kept_player ∙ ap (λ (s : State). s.player) fresh in
+    let same_nodes : new.nodes ≡ nodes = ran.same_nodes ∙ kept_nodes ∙ ap (λ (s : SolverState). s.nodes) fresh in
+    let same_player : new.player ≡ player = ran.same_player ∙ kept_player ∙ ap (λ (s : SolverState). s.player) fresh in
     record {
       same_nodes = same_nodes;
       same_player = same_player;
@@ -60,7 +60,7 @@ run_lifted nodes player made more budget start mid new outcome fresh kept_nodes 
     }
 
 -- a solver that used up the budget shows that a run of exactly its entries leaves a lift due
-pub used_up : (nodes : List Node) (player : Player) (budget : ℕ) (state : State) → HasLifted nodes player budget Spent state
+pub used_up : (nodes : List Node) (player : Player) (budget : ℕ) (state : SolverState) → HasLifted nodes player budget Spent state
     → GoesOnAfter nodes player budget
 used_up nodes player budget state lifted =
     subst (λ (n : List Node). GoesOnAfter n player budget) lifted.same_nodes
@@ -68,14 +68,14 @@ used_up nodes player budget state lifted =
     (subst (λ (lifts : ℕ). GoesOnAfter state.nodes state.player lifts) lifted.stopped.0 (goes_on_after state lifted.reached lifted.stopped.1)))
 
 -- a run that goes on where a lift is due, and ends where none is, makes lifts
-lifts_on : (old new : State) (budget : ℕ) → Runs old budget new → HasLiftDue old → IsFinished new → old.lifts < new.lifts
+lifts_on : (old new : SolverState) (budget : ℕ) → Runs old budget new → HasLiftDue old → IsFinished new → old.lifts < new.lifts
 lifts_on old new budget ran due finished = go ran.lifted.places refl
   where
     go : (places : List ℕ) → ran.lifted.places ≡ places → old.lifts < new.lifts
     go (v ∷ vs) is = omega (arith, ran.lifted.counted, ap (λ (us : List ℕ). length us) is)
     go [] is =
         let same : old.table.measures ≡ new.table.measures =
-        subst (λ (us : List ℕ). IsRun old.nodes old.player old.table.measures us new.table.measures) is ran.lifted.lifted in
+        subst (λ (us : List ℕ). IsLiftingRun old.nodes old.player old.table.measures us new.table.measures) is ran.lifted.lifted in
         let there : IsDue new.nodes new.player new.table.measures due.0 =
         subst (λ (n : List Node). IsDue n new.player new.table.measures due.0) (sym ran.same_nodes)
         (subst (λ (p : Player). IsDue old.nodes p new.table.measures due.0) (sym ran.same_player)
@@ -83,7 +83,7 @@ lifts_on old new budget ran due finished = go ran.lifted.places refl
         absurd (finished due.0 (edge_from new.nodes due.0 there.1.value.successor there.1.value.listed) there)
 
 -- the reports so far are those of a run that ends in the slice behind them
-pub reports_so : (mid new : State) (outcome : Outcome) (times every more : ℕ) → mid.lifts ≡ times * every → (0 < times → HasLiftDue mid)
+pub reports_so : (mid new : SolverState) (outcome : Outcome) (times every more : ℕ) → mid.lifts ≡ times * every → (0 < times → HasLiftDue mid)
     → Runs mid more new → (new.done ≡ true) ↔ (outcome ≡ Done) → more ≤ every → (outcome ≡ Spent → more < every)
     → AreReports outcome every new.lifts times
 reports_so mid new Done times every more counted going ran told few less = (
@@ -96,21 +96,21 @@ reports_so mid new Spent times every more counted going ran told few less = elim
 ]
 
 -- a slice that is spent leaves a lift due
-pub still_due : (old new : State) (budget : ℕ) (outcome : Outcome) → Runs old budget new → (new.done ≡ true) ↔ (outcome ≡ Done) → outcome ≡ Spent → HasLiftDue new
+pub still_due : (old new : SolverState) (budget : ℕ) (outcome : Outcome) → Runs old budget new → (new.done ≡ true) ↔ (outcome ≡ Done) → outcome ≡ Spent → HasLiftDue new
 still_due old new budget outcome ran told spent = elim (cases_Bool new.done) [
   | inl done ↦ (let e : outcome ≡ Done = told.0 done in cc)
   | inr goes_on ↦ (ran.spent goes_on).1
 ]
 
 -- how a run of the other game stops, a run of the game itself stops
-stops_by_place : (state other : State) (outcome : Outcome) (budget : ℕ) → Follows state other → other.done ≡ state.done → other.lifts ≡ state.lifts
+stops_by_place : (state other : SolverState) (outcome : Outcome) (budget : ℕ) → HasSameLifts state other → other.done ≡ state.done → other.lifts ≡ state.lifts
     → StopsSo outcome budget state → StopsSo outcome budget other
 stops_by_place state other Done budget follows same_done same_lifts ended = (same_done ∙ ended.0, follows.finished ended.1)
 stops_by_place state other Spent budget follows same_done same_lifts ended = (same_lifts ∙ ended.0, follows.due ended.1)
 
 -- what a solver of the other game has done, a solver of the game itself has done
 pub lifted_by_place : ReorderingsKeepStates → ReorderingsKeepBounds → (nodes other : List Node) (ranks places : List ℕ) (player : Player) (budget : ℕ) (outcome : Outcome)
-    (state : State) → IsGame nodes → IsReordering nodes other ranks places → HasLifted other player budget outcome state
+    (state : SolverState) → IsGame nodes → IsReordering nodes other ranks places → HasLifted other player budget outcome state
     → HasLifted nodes player budget outcome (state_by_place nodes ranks state)
 lifted_by_place states bounds nodes other ranks places player budget outcome state game reordering lifted =
     let here : IsReordering nodes state.nodes ranks places = subst (λ (n : List Node). IsReordering nodes n ranks places) (sym lifted.same_nodes) reordering in
@@ -125,19 +125,19 @@ lifted_by_place states bounds nodes other ranks places player budget outcome sta
     }
 
 -- where a solver came to that lifted within the budget, said of the game and the player
-lifts_for : (nodes : List Node) (player : Player) (budget : ℕ) (outcome : Outcome) (state : State) → HasLifted nodes player budget outcome state
+lifts_for : (nodes : List Node) (player : Player) (budget : ℕ) (outcome : Outcome) (state : SolverState) → HasLifted nodes player budget outcome state
     → LiftsTo nodes player state.lifts state.table.measures
 lifts_for nodes player budget outcome state lifted =
     subst (λ (n : List Node). LiftsTo n player state.lifts state.table.measures) lifted.same_nodes
     (subst (λ (p : Player). LiftsTo state.nodes p state.lifts state.table.measures) lifted.same_player (lifts_to state lifted.reached))
 
-stable_for : (nodes : List Node) (player : Player) (budget : ℕ) (state : State) → HasLifted nodes player budget Done state
+stable_for : (nodes : List Node) (player : Player) (budget : ℕ) (state : SolverState) → HasLifted nodes player budget Done state
     → IsStable nodes player state.table.measures
 stable_for nodes player budget state lifted =
     subst (λ (n : List Node). IsStable n player state.table.measures) lifted.same_nodes
     (subst (λ (p : Player). IsStable state.nodes p state.table.measures) lifted.same_player lifted.stopped.1)
 
-ends_within : (nodes : List Node) (player : Player) (budget : ℕ) (state : State) → HasLifted nodes player budget Done state
+ends_within : (nodes : List Node) (player : Player) (budget : ℕ) (state : SolverState) → HasLifted nodes player budget Done state
     → EndsWithin nodes player budget state.lifts
 ends_within nodes player budget state lifted = record {
   within = lifted.within;
@@ -150,13 +150,13 @@ ends_within nodes player budget state lifted = record {
 }
 
 -- how a solver that lifted within the budget ended
-pub ended_so : (nodes : List Node) (player : Player) (budget : ℕ) (outcome : Outcome) (state : State) → HasLifted nodes player budget outcome state
+pub ended_so : (nodes : List Node) (player : Player) (budget : ℕ) (outcome : Outcome) (state : SolverState) → HasLifted nodes player budget outcome state
     → EndsSo outcome nodes player budget state.lifts
 ended_so nodes player budget Done state lifted = ends_within nodes player budget state lifted
 ended_so nodes player budget Spent state lifted = (lifted.stopped.0, used_up nodes player budget state lifted)
 
 -- what an exact answer that is read in the table says of a solver that is done was found within the budget
-found_within : (nodes : List Node) (player : Player) (budget : ℕ) (state : State) (found : Found) → HasLifted nodes player budget Done state
+found_within : (nodes : List Node) (player : Player) (budget : ℕ) (state : SolverState) (found : Found) → HasLifted nodes player budget Done state
     → IsExact nodes state.player found.won.items found.choice.items → found.won.items ≡ won_in state.table.measures
     → AreChoices nodes state.player state.table.measures found.choice.items → found.lifts ≡ state.lifts
     → IsFound nodes player budget found
@@ -177,7 +177,7 @@ found_within nodes player budget state found lifted exact below_top chosen el =
     }
 
 -- whatever answer a solver that is done gives was found within the budget
-pub answer_within : (nodes : List Node) (player : Player) (budget : ℕ) (state : State) (result : Result Found Refusal) → HasLifted nodes player budget Done state
+pub answer_within : (nodes : List Node) (player : Player) (budget : ℕ) (state : SolverState) (result : Result Found Refusal) → HasLifted nodes player budget Done state
     → IfOk result (λ found. found.lifts ≡ state.lifts) → IfOk result (λ found. IsExact nodes state.player found.won.items found.choice.items)
     → IfOk result (λ found. found.won.items ≡ won_in state.table.measures)
     → IfOk result (λ found. AreChoices nodes state.player state.table.measures found.choice.items)
@@ -187,7 +187,7 @@ answer_within nodes player budget state (Ok found) lifted counted exact below_to
 answer_within nodes player budget state (Err refusal) lifted counted exact below_top chosen = tt
 
 -- what was told of a run of the other game was told of a run of the game itself
-pub told_by_place : {L : Type 0} (tells : Progress → L → L → Type 0) (every most : ℕ) (nodes : List Node) (player : Player) (budget : ℕ) (outcome : Outcome) (state : State)
+pub told_by_place : {L : Type 0} (tells : Progress → L → L → Type 0) (every most : ℕ) (nodes : List Node) (player : Player) (budget : ℕ) (outcome : Outcome) (state : SolverState)
     (refusal : Option Refusal) (before after : L) → HasLifted nodes player budget outcome state → (outcome ≡ Spent) ↔ IsSpent refusal
     → most ≡ most_of nodes player budget → IsTold tells player every most outcome state.lifts before after
     → TellsRun tells every nodes player budget state.lifts refusal before after

@@ -4,7 +4,7 @@ use Rattle.omega_game.specs.declared.player.Player.{Player}
 use Rattle.omega_game.specs.Bound.{bound_of}
 use Rattle.omega_game.specs.Game.{Node, IsGame, priorities}
 use Rattle.omega_solve.specs.Headline.{DealsOut, IsBoundedAndExact}
-use Rattle.omega_solve.specs.Solver.{State, HasLiftDue, IsFinished, IsReached, start_of}
+use Rattle.omega_solve.specs.Solver.{SolverState, HasLiftDue, IsFinished, IsReached, start_of}
 use Rattle.omega_budget.specs.Reordering.{IsReordering, state_by_place}
 use Rattle.omega_budget.specs.Within.{GoesOnAfter}
 
@@ -13,7 +13,7 @@ use Rattle.omega_budget.specs.Within.{GoesOnAfter}
 -- of at most as many lifts as its bound; budgets that together reach the bound suffice; and its answer is exact
 abbrev pub HeadlineByPlace : Type 0
 HeadlineByPlace =
-    (nodes other : List Node) (ranks places : List ℕ) (player : Player) (budgets : List ℕ) (solver : State)
+    (nodes other : List Node) (ranks places : List ℕ) (player : Player) (budgets : List ℕ) (solver : SolverState)
     → IsGame nodes → IsReordering nodes other ranks places → DealsOut (start_of other player) budgets solver
     → IsBoundedAndExact nodes player budgets (state_by_place nodes ranks solver)
 
@@ -23,7 +23,7 @@ SpentBudgetsAreBelowTheBound =
     (nodes : List Node) (player : Player) (budget : ℕ) → IsGame nodes → GoesOnAfter nodes player budget → budget < bound_of player (priorities nodes)
 
 -- the same lifts were made: a lifting run leads to this table too, and where no lift is due, or one is, so it is here
-pub record Follows (state other : State) : Type 0 where
+pub record HasSameLifts (state other : SolverState) : Type 0 where
   pub reached : IsReached other
   pub finished : IsFinished state → IsFinished other
   pub due : HasLiftDue state → HasLiftDue other
@@ -31,8 +31,8 @@ pub record Follows (state other : State) : Type 0 where
 -- what a solver of the other game has done is a lifting run of the game itself
 abbrev pub ReorderingsKeepStates : Type 0
 ReorderingsKeepStates =
-    (nodes : List Node) (ranks places : List ℕ) (state : State)
-    → IsGame nodes → IsReordering nodes state.nodes ranks places → IsReached state → Follows state (state_by_place nodes ranks state)
+    (nodes : List Node) (ranks places : List ℕ) (state : SolverState)
+    → IsGame nodes → IsReordering nodes state.nodes ranks places → IsReached state → HasSameLifts state (state_by_place nodes ranks state)
 
 -- the other game has the same bound
 abbrev pub ReorderingsKeepBounds : Type 0

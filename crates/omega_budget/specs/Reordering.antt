@@ -4,7 +4,7 @@ use Rattle.omega_game.specs.Game.{Node, node_at, priorities}
 use Rattle.omega_lift.specs.Allowance.{measure_at}
 use Rattle.omega_lift.specs.Measure.{Measure}
 use Rattle.omega_order.specs.Ranking.{AreInverse}
-use Rattle.omega_solve.specs.Solver.{State}
+use Rattle.omega_solve.specs.Solver.{SolverState}
 
 -- the same node where each place has a rank: its priority, its owner, and its successors in the order listed
 pub record IsMoved (ranks : List ℕ) (node other : Node) : Type 0 where
@@ -33,7 +33,7 @@ abbrev pub choices_by_place : List ℕ → List ℕ → List (Option ℕ) → Li
 choices_by_place ranks places choices = map (λ r. option_map (slice_index places) (slice_index_or choices r None)) ranks
 
 -- a solver of the other game, said of the game with these nodes
-abbrev pub state_by_place : List Node → List ℕ → State → State
+abbrev pub state_by_place : List Node → List ℕ → SolverState → SolverState
 state_by_place nodes ranks state = record {
   nodes = nodes;
   player = state.player;

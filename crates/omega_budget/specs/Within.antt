@@ -9,7 +9,7 @@ use Rattle.omega_game.specs.Bound.{bound_of}
 use Rattle.omega_game.specs.Game.{Node, priorities}
 use Rattle.omega_lift.specs.Answer.{AreChoices, won_in}
 use Rattle.omega_lift.specs.Measure.{Measure}
-use Rattle.omega_lift.specs.Run.{IsDue, IsRun, IsStable, zero_table}
+use Rattle.omega_lift.specs.Run.{IsDue, IsLiftingRun, IsStable, zero_table}
 use Rattle.omega_measure.specs.Table.{is_too_wide}
 use Rattle.omega_solve.specs.Headline.{IsExact}
 use Rattle.omega_solve.specs.declared.outcome.Outcome.{Outcome}
@@ -19,7 +19,7 @@ use Rattle.omega_budget.specs.declared.found.Found.{Found}
 -- a lifting run of exactly so many entries leads from the all-zero table to this one
 pub record LiftsTo (nodes : List Node) (player : Player) (lifts : ℕ) (table : List Measure) : Type 0 where
   pub places : List ℕ
-  pub run : IsRun nodes player (zero_table player (priorities nodes)) places table
+  pub run : IsLiftingRun nodes player (zero_table player (priorities nodes)) places table
   pub counted : length places ≡ lifts
 
 -- a lifting run of exactly so many entries from the all-zero table leaves no lift due

@@ -5,5 +5,5 @@ use Rattle.omega_canon.specs.BodyText.{body_text}
 use Rattle.omega_canon.specs.HeaderText.{header_text}
 
 -- the header and the body
-abbrev pub canonical : Description → List ℕ
-canonical a = header_text a ++ body_text a.defined
+abbrev pub canonical_automaton : Description → List ℕ
+canonical_automaton a = header_text a ++ body_text a.defined

@@ -11,17 +11,17 @@ use Rattle.omega_automaton.specs.declared.header.Header.{Header}
 use Rattle.omega_automaton.specs.declared.tool.Tool.{Tool}
 use Rattle.omega_raw.specs.declared.header_value.HeaderValue.{HeaderValue}
 use Rattle.omega_raw.specs.declared.header_value.HeaderValue.TheVariants as value
-use Rattle.omega_canon.specs.Parts.{conjunction, quoted, spaced, string_part, strings, words}
+use Rattle.omega_canon.specs.Parts.{conjunction, quoted_string, spaced, string_part, strings, words}
 
 -- `tool:` with its strings, if there is one
 abbrev pub tool_line : Option Tool → List ℕ
 tool_line None = []
-tool_line (Some tool) = codes "tool:" ++ (spaced (quoted tool.name) ++ (string_part tool.version ++ codes "\n"))
+tool_line (Some tool) = codes "tool:" ++ (spaced (quoted_string tool.name) ++ (string_part tool.version ++ codes "\n"))
 
 -- `name:` with its string, if there is one
 abbrev pub name_line : Option (List ℕ) → List ℕ
 name_line None = []
-name_line (Some bytes) = codes "name:" ++ (spaced (quoted bytes) ++ codes "\n")
+name_line (Some bytes) = codes "name:" ++ (spaced (quoted_string bytes) ++ codes "\n")
 
 -- `States:` and the count
 abbrev pub states_line : ℕ → List ℕ
@@ -59,7 +59,7 @@ properties_line (first ∷ others) = codes "properties:" ++ (words (first ∷ ot
 abbrev pub value_part : HeaderValue → List ℕ
 value_part (value.Boolean truth) = spaced (truth_text truth)
 value_part (value.Number number) = spaced (decimal number)
-value_part (value.Text bytes) = spaced (quoted bytes)
+value_part (value.Text bytes) = spaced (quoted_string bytes)
 value_part (value.Word bytes) = spaced bytes
 
 -- a header that the format leaves open, with its values

@@ -11,10 +11,10 @@ use Rattle.omega_hoa.specs.Segment.{IsRawOf}
 use Rattle.omega_hoa.specs.Stream.{IsStreamText}
 use Rattle.omega_hoa.specs.declared.item.Item.{Item}
 use Rattle.omega_hoa.specs.declared.item.Item.TheVariants.{Automaton}
-use Rattle.omega_canon.specs.Canonical.{canonical}
+use Rattle.omega_canon.specs.Canonical.{canonical_automaton}
 use Rattle.omega_canon.specs.Stream.{automata_in, canonical_stream}
-use Rattle.omega_canon.specs.Writable.{IsWritable}
-use Rattle.omega_canon.specs.Written.{written}
+use Rattle.omega_canon.specs.Writable.{IsWritableAutomaton}
+use Rattle.omega_canon.specs.Written.{written_automaton}
 
 -- the text can be cut into tokens, and they are those of an automaton that is written so
 pub record IsRawText (source : List ℕ) (raw : RawAutomaton) : Type 0 where
@@ -29,15 +29,15 @@ WasRead a = ((source : List ℕ) × IsAutomatonText source a)
 
 -- an automaton that was read can be written
 abbrev pub ReadAutomataAreWritable : Type 0
-ReadAutomataAreWritable = (a : Description) → WasRead a → IsWritable a
+ReadAutomataAreWritable = (a : Description) → WasRead a → IsWritableAutomaton a
 
 -- the canonical text of an automaton that can be written is that of the automaton as it is written
 abbrev pub CanonicalTextsAreSpelled : Type 0
-CanonicalTextsAreSpelled = (a : Description) → IsWritable a → IsRawText (canonical a) (written a)
+CanonicalTextsAreSpelled = (a : Description) → IsWritableAutomaton a → IsRawText (canonical_automaton a) (written_automaton a)
 
 -- the canonical text of an automaton that was read is, within the limit of texts, the text of that automaton
 abbrev pub CanonicalTextsAreRead : Type 0
-CanonicalTextsAreRead = (a : Description) → WasRead a → length (canonical a) ≤ most_text → IsAutomatonText (canonical a) a
+CanonicalTextsAreRead = (a : Description) → WasRead a → length (canonical_automaton a) ≤ most_text → IsAutomatonText (canonical_automaton a) a
 
 -- the canonical text of a stream is, within the limit of texts, that of a stream with the same automata
 abbrev pub CanonicalStreamsAreRead : Type 0

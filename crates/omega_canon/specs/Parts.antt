@@ -6,8 +6,8 @@ use Rattle.omega_acc.specs.label.Label.{LabelTree}
 use Rattle.omega_acc.specs.Writing.{label_text}
 
 -- bytes between quotes
-abbrev pub quoted : List ℕ → List ℕ
-quoted bytes = codes "\"" ++ (bytes ++ codes "\"")
+abbrev pub quoted_string : List ℕ → List ℕ
+quoted_string bytes = codes "\"" ++ (bytes ++ codes "\"")
 
 -- a space and a part
 abbrev pub spaced : List ℕ → List ℕ
@@ -15,7 +15,7 @@ spaced part = codes " " ++ part
 
 -- strings, a space before each
 abbrev pub strings : List (List ℕ) → List ℕ
-strings texts = flat_map (λ bytes. spaced (quoted bytes)) texts
+strings texts = flat_map (λ bytes. spaced (quoted_string bytes)) texts
 
 -- identifiers, a space before each
 abbrev pub words : List (List ℕ) → List ℕ
@@ -47,4 +47,4 @@ label_part (Some label) = codes "[" ++ ((label_text label).bytes ++ codes "] ")
 -- a space and a string, if there is one
 abbrev pub string_part : Option (List ℕ) → List ℕ
 string_part None = []
-string_part (Some bytes) = spaced (quoted bytes)
+string_part (Some bytes) = spaced (quoted_string bytes)

@@ -4,11 +4,11 @@ use Rattle.std.specs.Prelude.{ℕ, List, [], ◌∷◌}
 use Rattle.std.specs.List.{flat_map}
 use Rattle.omega_hoa.specs.declared.item.Item.{Item}
 use Rattle.omega_hoa.specs.declared.item.Item.TheVariants.{Aborted, Automaton}
-use Rattle.omega_canon.specs.Canonical.{canonical}
+use Rattle.omega_canon.specs.Canonical.{canonical_automaton}
 
 -- the canonical text of an automaton, and nothing of a segment that is aborted
 abbrev pub canonical_item : Item → List ℕ
-canonical_item (Automaton a) = canonical a
+canonical_item (Automaton a) = canonical_automaton a
 canonical_item Aborted = []
 
 -- those of all items

@@ -11,7 +11,7 @@ use Rattle.omega_acc.specs.declared.formula.name.AccName.{AccName}
 use Rattle.omega_acc.specs.declared.formula.name.Parameter.{Parameter}
 use Rattle.omega_acc.specs.declared.formula.name.Parameter.TheVariants as parameter
 use Rattle.omega_raw.specs.Grammar.{header_named}
-use Rattle.omega_raw.specs.declared.header.name.Header.TheVariants as named
+use Rattle.omega_raw.specs.declared.header.name.HeaderKind.TheVariants as named
 use Rattle.omega_raw.specs.declared.header_value.HeaderValue.{HeaderValue}
 use Rattle.omega_raw.specs.declared.header_value.HeaderValue.TheVariants as value
 use Rattle.omega_automaton.specs.Automaton.{Description}
@@ -21,8 +21,8 @@ use Rattle.omega_automaton.specs.declared.state.State.{State}
 use Rattle.omega_automaton.specs.declared.tool.Tool.{Tool}
 
 -- a number that a text can have
-abbrev pub Fits : ℕ → Type 0
-Fits number = number ≤ most_number
+abbrev pub IsWritableNumber : ℕ → Type 0
+IsWritableNumber number = number ≤ most_number
 
 -- an identifier
 abbrev pub IsIdentifier : List ℕ → Type 0
@@ -31,7 +31,7 @@ IsIdentifier bytes = IsForm kind.Identifier bytes
 -- states joined by `&`: at least one
 pub record AreJoined (states : List ℕ) : Type 0 where
   pub listed : 0 < length states
-  pub fit : AllByRecursion Fits states
+  pub fit : AllByRecursion IsWritableNumber states
 
 -- a tool
 pub record IsWritableTool (tool : Tool) : Type 0 where
@@ -41,7 +41,7 @@ pub record IsWritableTool (tool : Tool) : Type 0 where
 -- a parameter of the name of an acceptance
 abbrev pub IsWritableParameter : Parameter → Type 0
 IsWritableParameter (parameter.Boolean truth) = Unit {0}
-IsWritableParameter (parameter.Number number) = Fits number
+IsWritableParameter (parameter.Number number) = IsWritableNumber number
 IsWritableParameter (parameter.Word bytes) = IsIdentifier bytes
 
 -- the name of an acceptance
@@ -52,7 +52,7 @@ pub record IsWritableName (name : AccName) : Type 0 where
 -- a value of a header that the format leaves open
 abbrev pub IsWritableValue : HeaderValue → Type 0
 IsWritableValue (value.Boolean truth) = Unit {0}
-IsWritableValue (value.Number number) = Fits number
+IsWritableValue (value.Number number) = IsWritableNumber number
 IsWritableValue (value.Text bytes) = IsQuotable bytes
 IsWritableValue (value.Word bytes) = IsIdentifier bytes
 
@@ -66,26 +66,26 @@ pub record IsWritableHeader (header : Header) : Type 0 where
 pub record IsWritableEdge (edge : Edge) : Type 0 where
   pub label : IfSome edge.label NumbersFit
   pub targets : AreJoined edge.targets
-  pub marks : AllByRecursion Fits edge.marks
+  pub marks : AllByRecursion IsWritableNumber edge.marks
 
 -- a state and its edges
 pub record IsWritableState (state : State) : Type 0 where
   pub label : IfSome state.label NumbersFit
-  pub number : Fits state.number
+  pub number : IsWritableNumber state.number
   pub name : IfSome state.name IsQuotable
-  pub marks : AllByRecursion Fits state.marks
+  pub marks : AllByRecursion IsWritableNumber state.marks
   pub edges : AllByRecursion IsWritableEdge state.edges
 
 -- an automaton
-pub record IsWritable (a : Description) : Type 0 where
+pub record IsWritableAutomaton (a : Description) : Type 0 where
   pub tool : IfSome a.tool IsWritableTool
   pub name : IfSome a.name IsQuotable
-  pub states : Fits a.states
+  pub states : IsWritableNumber a.states
   pub starts : AllByRecursion AreJoined a.starts
-  pub count : Fits (length a.propositions)
+  pub count : IsWritableNumber (length a.propositions)
   pub propositions : AllByRecursion IsQuotable a.propositions
   pub acc_name : IfSome a.acc_name IsWritableName
-  pub sets : Fits a.sets
+  pub sets : IsWritableNumber a.sets
   pub acceptance : SetsFit a.acceptance
   pub properties : AllByRecursion IsIdentifier a.properties
   pub unknown : AllByRecursion IsWritableHeader a.unknown

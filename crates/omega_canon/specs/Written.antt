@@ -69,5 +69,5 @@ state_written state = record {
 }
 
 -- the automaton
-abbrev pub written : Description → RawAutomaton
-written a = record { version = codes "v1"; items = items_written a; states = map state_written a.defined }
+abbrev pub written_automaton : Description → RawAutomaton
+written_automaton a = record { version = codes "v1"; items = items_written a; states = map state_written a.defined }

@@ -1,5 +1,5 @@
 ghost use Rattle.std.specs.Prelude.{◌≡◌, ◌++◌, IfOk, IsOkUnless, OnOk};
-ghost use Rattle.omega_canon.specs.Canonical.{canonical as text_of};
+ghost use Rattle.omega_canon.specs.Canonical.{canonical_automaton as text_of};
 
 use crate::body::write_body;
 use crate::header::write_header;

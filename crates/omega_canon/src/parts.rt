@@ -2,14 +2,14 @@
 
 ghost use Rattle.std.specs.Prelude.{◌≡◌, [], ◌∷◌, ◌++◌, IsOkUnless, OnOk, option_map};
 ghost use Rattle.std.specs.Option.{option_copied};
-ghost use Rattle.omega_canon.specs.Parts.{conjunction, label_part, marks_part, numbers_behind, numbers_joined, quoted, spaced, string_part, strings, words};
+ghost use Rattle.omega_canon.specs.Parts.{conjunction, label_part, marks_part, numbers_behind, numbers_joined, quoted_string, spaced, string_part, strings, words};
 
 use omega_acc::{Label, write_label};
 use omega_text::{ByteString, Refusal, write_number};
 
 /// Appends a space and bytes between quotes.
 pub(crate) fn write_string(bytes: &[u8], out: &mut Vec<u8>) -> Result<(), Refusal>
-    ensures ok { OnOk result (out.new.items ≡ out.old.items ++ spaced (quoted bytes.now)) }
+    ensures ok { OnOk result (out.new.items ≡ out.old.items ++ spaced (quoted_string bytes.now)) }
     ensures memory { IsOkUnless result Refusal.Memory }
 {
     out.extend_from_slice(b" \"")?;

@@ -1,10 +1,19 @@
-//! The command line: what its words ask the program for.
+//! What a command line asks for: a subcommand with the texts of its options, or what is wrong with them.
 #![tactic(auto)]
 
-mod found;
-mod words;
+mod asking;
+mod command;
+mod limits;
+mod line;
+mod mistake;
+mod number;
+mod options;
+mod values;
 
-pub use omega_line::{
-    Command, Format, Line, Mistake, OptionName, Options, Player, Reason, Refusal, Seq, line_for,
-};
-pub use words::read_words;
+pub use asking::line_for;
+pub use command::{Command, Format};
+pub use limits::{MOST_BUDGET, budget_limit_is_stated};
+pub use line::Line;
+pub use mistake::{Mistake, Reason};
+pub use omega_game::{Player, Refusal, Seq};
+pub use options::{OptionName, Options};

@@ -22,6 +22,6 @@ abbrev pub line_end : List ℕ
 line_end = codes "\\n"
 
 -- the line of a name, if there is one
-abbrev pub name_line : Option (List ℕ) → List ℕ
-name_line None = []
-name_line (Some name) = escaped name ++ line_end
+abbrev pub name_label_line : Option (List ℕ) → List ℕ
+name_label_line None = []
+name_label_line (Some name) = escaped name ++ line_end

@@ -1,7 +1,7 @@
 //! Lines of labels, and names in them.
 
 ghost use Rattle.std.specs.Prelude.{◌≡◌, ◌++◌, IsOkUnless, OnOk, option_map};
-ghost use Rattle.omega_dot.specs.Labels.{escaped, escaped_byte, name_line};
+ghost use Rattle.omega_dot.specs.Labels.{escaped, escaped_byte, name_label_line};
 
 use omega_text::Refusal;
 
@@ -39,7 +39,7 @@ fn write_escaped_byte(byte: u8, out: &mut Vec<u8>) -> Result<(), Refusal>
 
 /// Appends the line of a name, if there is one.
 pub fn write_name_line(name: Option<&[u8]>, out: &mut Vec<u8>) -> Result<(), Refusal>
-    ensures ok { OnOk result (out.new.items ≡ out.old.items ++ name_line (option_map (λ name. name.now) name.entry)) }
+    ensures ok { OnOk result (out.new.items ≡ out.old.items ++ name_label_line (option_map (λ name. name.now) name.entry)) }
     ensures memory { IsOkUnless result Refusal.Memory }
 {
     if let Some(name) = name {

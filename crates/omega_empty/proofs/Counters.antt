@@ -4,7 +4,7 @@ use Rattle.std.proofs.Common.{◌≡◌, ◌≢◌, ◌↔◌, ℕ, ◌+◌, ◌
 use Rattle.std.specs.Prelude.{IsTrue}
 use Rattle.std.proofs.lemmas.Bool.{cases_Bool, cases_lt, cases_eq, both_ways, eq-eqb, ne_eqb, or_parts, true_from_ne_false}
 use Rattle.omega_acc.specs.formula.Acceptance.{AccTree, accepts, holds, occurs}
-use Rattle.omega_acc.specs.formula.Kind.{buchi_formula, greatest, parity_formula, priority_of}
+use Rattle.omega_acc.specs.formula.Kind.{buchi_formula, greatest_number, parity_formula, priority_of}
 use Rattle.omega_acc.specs.formula.KindLaws.{BuchiIsEverySet, ParityIsPriority}
 use Rattle.omega_acc.specs.declared.formula.kind.AccKind.{AccKind}
 use Rattle.omega_acc.specs.declared.formula.kind.AccKind.TheVariants.{Parity, GenBuchi}
@@ -60,10 +60,10 @@ counter_behind_below kind counter (marks ∷ rest) below =
 -- where no marks hold a set, a counter up to it does not pass it, and one above it goes round at most once
 data Waits (sets set counter : ℕ) (forever : List (List ℕ)) : Type 0 where
   below : counter ≤ set → counter_behind (GenBuchi sets) counter forever ≤ set
-      → greatest (priorities_from (GenBuchi sets) counter forever) ≤ 1 → Waits sets set counter forever
+      → greatest_number (priorities_from (GenBuchi sets) counter forever) ≤ 1 → Waits sets set counter forever
   passed : set < counter → counter_behind (GenBuchi sets) counter forever ≤ set → Waits sets set counter forever
   above : set < counter → counter ≤ counter_behind (GenBuchi sets) counter forever
-      → greatest (priorities_from (GenBuchi sets) counter forever) ≤ 1 → Waits sets set counter forever
+      → greatest_number (priorities_from (GenBuchi sets) counter forever) ≤ 1 → Waits sets set counter forever
 
 waits : (sets set counter : ℕ) (forever : List (List ℕ)) → set < sets → counter < sets → occurs forever false set ≡ false
     → Waits sets set counter forever
@@ -107,33 +107,33 @@ waits sets set counter (marks ∷ rest) set_below counter_below lacked =
 
 -- the counter goes round, or it goes on, or it is as before and its set is not held
 data Goes (sets counter : ℕ) (forever : List (List ℕ)) : Type 0 where
-  round : greatest (priorities_from (GenBuchi sets) counter forever) ≡ 2 → Goes sets counter forever
+  round : greatest_number (priorities_from (GenBuchi sets) counter forever) ≡ 2 → Goes sets counter forever
   on : counter < counter_behind (GenBuchi sets) counter forever → Goes sets counter forever
   rests : occurs forever false counter ≡ false → Goes sets counter forever
 
 -- no priority is above 2
-priorities_low : (sets counter : ℕ) (forever : List (List ℕ)) → greatest (priorities_from (GenBuchi sets) counter forever) ≤ 2
+priorities_low : (sets counter : ℕ) (forever : List (List ℕ)) → greatest_number (priorities_from (GenBuchi sets) counter forever) ≤ 2
 priorities_low sets counter [] = omega arith
 priorities_low sets counter (marks ∷ rest) = go (turn sets counter marks) (priorities_low sets (counter_after (GenBuchi sets) counter marks) rest)
   where
-    go : Turn sets counter marks → greatest (priorities_from (GenBuchi sets) (counter_after (GenBuchi sets) counter marks) rest) ≤ 2
-        → greatest (priorities_from (GenBuchi sets) counter (marks ∷ rest)) ≤ 2
+    go : Turn sets counter marks → greatest_number (priorities_from (GenBuchi sets) (counter_after (GenBuchi sets) counter marks) rest) ≤ 2
+        → greatest_number (priorities_from (GenBuchi sets) counter (marks ∷ rest)) ≤ 2
     go (round held last after priority) low = omega arith
     go (on held before after priority) low = omega arith
     go (stays lacks after priority) low = omega arith
 
 -- each priority is at least 1
-priorities_high : (sets counter : ℕ) (forever : List (List ℕ)) → 0 < length forever → 1 ≤ greatest (priorities_from (GenBuchi sets) counter forever)
+priorities_high : (sets counter : ℕ) (forever : List (List ℕ)) → 0 < length forever → 1 ≤ greatest_number (priorities_from (GenBuchi sets) counter forever)
 priorities_high sets counter [] longer = absurd (omega arith)
 priorities_high sets counter (marks ∷ rest) longer = go (turn sets counter marks)
   where
-    go : Turn sets counter marks → 1 ≤ greatest (priorities_from (GenBuchi sets) counter (marks ∷ rest))
+    go : Turn sets counter marks → 1 ≤ greatest_number (priorities_from (GenBuchi sets) counter (marks ∷ rest))
     go (round held last after priority) = omega arith
     go (on held before after priority) = omega arith
     go (stays lacks after priority) = omega arith
 
 -- unless the counter goes round, it does not fall
-rising : (sets counter : ℕ) (forever : List (List ℕ)) → (greatest (priorities_from (GenBuchi sets) counter forever) ≡ 2)
+rising : (sets counter : ℕ) (forever : List (List ℕ)) → (greatest_number (priorities_from (GenBuchi sets) counter forever) ≡ 2)
     ⊎ (counter ≤ counter_behind (GenBuchi sets) counter forever)
 rising sets counter [] = inr (omega arith)
 rising sets counter (marks ∷ rest) =
@@ -141,10 +141,10 @@ rising sets counter (marks ∷ rest) =
     (priorities_low sets (counter_after (GenBuchi sets) counter marks) rest)
   where
     go : Turn sets counter marks
-        → (greatest (priorities_from (GenBuchi sets) (counter_after (GenBuchi sets) counter marks) rest) ≡ 2)
+        → (greatest_number (priorities_from (GenBuchi sets) (counter_after (GenBuchi sets) counter marks) rest) ≡ 2)
         ⊎ (counter_after (GenBuchi sets) counter marks ≤ counter_behind (GenBuchi sets) (counter_after (GenBuchi sets) counter marks) rest)
-        → greatest (priorities_from (GenBuchi sets) (counter_after (GenBuchi sets) counter marks) rest) ≤ 2
-        → (greatest (priorities_from (GenBuchi sets) counter (marks ∷ rest)) ≡ 2) ⊎ (counter ≤ counter_behind (GenBuchi sets) counter (marks ∷ rest))
+        → greatest_number (priorities_from (GenBuchi sets) (counter_after (GenBuchi sets) counter marks) rest) ≤ 2
+        → (greatest_number (priorities_from (GenBuchi sets) counter (marks ∷ rest)) ≡ 2) ⊎ (counter ≤ counter_behind (GenBuchi sets) counter (marks ∷ rest))
     go (round held last after priority) later low = inl (omega arith)
     go (on held before after priority) (inl went) low = inl (omega arith)
     go (on held before after priority) (inr rose) low = inr (omega arith)
@@ -158,8 +158,8 @@ goes sets counter (marks ∷ rest) =
     (priorities_low sets (counter_after (GenBuchi sets) counter marks) rest) (rising sets (counter_after (GenBuchi sets) counter marks) rest)
   where
     go : Turn sets counter marks → Goes sets (counter_after (GenBuchi sets) counter marks) rest
-        → greatest (priorities_from (GenBuchi sets) (counter_after (GenBuchi sets) counter marks) rest) ≤ 2
-        → (greatest (priorities_from (GenBuchi sets) (counter_after (GenBuchi sets) counter marks) rest) ≡ 2)
+        → greatest_number (priorities_from (GenBuchi sets) (counter_after (GenBuchi sets) counter marks) rest) ≤ 2
+        → (greatest_number (priorities_from (GenBuchi sets) (counter_after (GenBuchi sets) counter marks) rest) ≡ 2)
         ⊎ (counter_after (GenBuchi sets) counter marks ≤ counter_behind (GenBuchi sets) (counter_after (GenBuchi sets) counter marks) rest)
         → Goes sets counter (marks ∷ rest)
     go (round held last after priority) later low rises = round (omega arith)
@@ -171,28 +171,28 @@ goes sets counter (marks ∷ rest) =
 
 -- marks that bring the counter back: if the greatest priority is even, each set occurs
 every_set_occurs : (sets counter : ℕ) (forever : List (List ℕ)) → 0 < length forever → counter < sets
-    → counter_behind (GenBuchi sets) counter forever ≡ counter → greatest (priorities_from (GenBuchi sets) counter forever) % 2 ≡ 0
+    → counter_behind (GenBuchi sets) counter forever ≡ counter → greatest_number (priorities_from (GenBuchi sets) counter forever) % 2 ≡ 0
     → (set : ℕ) → set < sets → occurs forever false set ≡ true
 every_set_occurs sets counter forever longer counter_below back even set set_below =
     true_from_ne_false (occurs forever false set)
     (λ lacked. go (waits sets set counter forever set_below counter_below lacked) (priorities_high sets counter forever longer))
   where
-    low : greatest (priorities_from (GenBuchi sets) counter forever) ≤ 1 → 1 ≤ greatest (priorities_from (GenBuchi sets) counter forever) → ⊥
+    low : greatest_number (priorities_from (GenBuchi sets) counter forever) ≤ 1 → 1 ≤ greatest_number (priorities_from (GenBuchi sets) counter forever) → ⊥
     low most least =
-        let one : greatest (priorities_from (GenBuchi sets) counter forever) ≡ 1 = omega arith in
+        let one : greatest_number (priorities_from (GenBuchi sets) counter forever) ≡ 1 = omega arith in
         let odd : 1 % 2 ≡ 0 = ap (λ n. n % 2) (sym one) ∙ even in cc
 
-    go : Waits sets set counter forever → 1 ≤ greatest (priorities_from (GenBuchi sets) counter forever) → ⊥
+    go : Waits sets set counter forever → 1 ≤ greatest_number (priorities_from (GenBuchi sets) counter forever) → ⊥
     go (below least end most) high = low most high
     go (passed less end) high = omega arith
     go (above less end most) high = low most high
 
 -- and if each set occurs, the greatest priority is 2
 goes_round : (sets counter : ℕ) (forever : List (List ℕ)) → counter_behind (GenBuchi sets) counter forever ≡ counter
-    → occurs forever false counter ≡ true → greatest (priorities_from (GenBuchi sets) counter forever) % 2 ≡ 0
+    → occurs forever false counter ≡ true → greatest_number (priorities_from (GenBuchi sets) counter forever) % 2 ≡ 0
 goes_round sets counter forever back held = go (goes sets counter forever)
   where
-    go : Goes sets counter forever → greatest (priorities_from (GenBuchi sets) counter forever) % 2 ≡ 0
+    go : Goes sets counter forever → greatest_number (priorities_from (GenBuchi sets) counter forever) % 2 ≡ 0
     go (round went) = ap (λ n. n % 2) went
     go (on rose) = absurd (omega arith)
     go (rests lacked) = absurd (both_ways (occurs forever false counter) lacked held)
@@ -216,11 +216,11 @@ AreWithin (GenBuchi sets) forever = Unit {0}
 -- marks that bring the counter back are accepted exactly if the greatest of their priorities is even
 pub closed_accepts : ParityIsPriority → BuchiIsEverySet → (kind : AccKind) (counter : ℕ) (forever : List (List ℕ))
     → 0 < length forever → AreWithin kind forever → counter < counters kind → counter_behind kind counter forever ≡ counter
-    → IsTrue (accepts forever (formula_of kind)) ↔ (greatest (priorities_from kind counter forever) % 2 ≡ 0)
+    → IsTrue (accepts forever (formula_of kind)) ↔ (greatest_number (priorities_from kind counter forever) % 2 ≡ 0)
 closed_accepts parity buchi (Parity kind) counter forever longer within counter_below back =
     let law = parity kind forever longer within in
     let same = parity_priorities kind counter forever in
-    (λ accepted. ap (λ list. greatest list % 2) same ∙ law.0 accepted, λ even. law.1 (ap (λ list. greatest list % 2) (sym same) ∙ even))
+    (λ accepted. ap (λ list. greatest_number list % 2) same ∙ law.0 accepted, λ even. law.1 (ap (λ list. greatest_number list % 2) (sym same) ∙ even))
 closed_accepts parity buchi (GenBuchi sets) counter forever longer within counter_below back =
     let law = buchi sets forever in (
       λ accepted. goes_round sets counter forever back (law.0 accepted counter counter_below),

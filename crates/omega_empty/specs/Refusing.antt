@@ -32,35 +32,35 @@ abbrev pub IsTooLarge : Description → Type 0
 IsTooLarge a = (count : ℕ) × NeedsCounters a count × (most_nodes < count * span a + 1)
 
 -- the identifiers are no more than a game may have nodes
-abbrev pub Fits : Description → Type 0
-Fits a = (count : ℕ) × NeedsCounters a count × (count * span a + 1 ≤ most_nodes)
+abbrev pub IsSmallEnough : Description → Type 0
+IsSmallEnough a = (count : ℕ) × NeedsCounters a count × (count * span a + 1 ≤ most_nodes)
 
 -- the label of a state or of an edge
-abbrev pub IsLabelOf : Description → LabelTree → Type 0
-IsLabelOf a label =
+abbrev pub IsLabelIn : Description → LabelTree → Type 0
+IsLabelIn a label =
     ((state : State) × Contains a.defined state × (state.label ≡ Some label))
     ⊎ ((edge : BodyEdge) × Contains (edges_of a) edge × (edge.edge.label ≡ Some label))
 
 -- some label mentions more propositions than the limit
 abbrev pub HasWideLabel : Description → Type 0
-HasWideLabel a = (label : LabelTree) × IsLabelOf a label × (most_mentioned < length (mentioned label))
+HasWideLabel a = (label : LabelTree) × IsLabelIn a label × (most_mentioned < length (mentioned label))
 
 -- each label mentions no more propositions than the limit
 abbrev pub HasNarrowLabels : Description → Type 0
-HasNarrowLabels a = (label : LabelTree) → IsLabelOf a label → length (mentioned label) ≤ most_mentioned
+HasNarrowLabels a = (label : LabelTree) → IsLabelIn a label → length (mentioned label) ≤ most_mentioned
 
 -- none of 13, 40, 41 and 42 applies
 pub record IsGiven (a : Description) : Type 0 where
-  pub fits : Fits a
+  pub fits : IsSmallEnough a
   pub decided : IsDecided a
   pub plain : has_branch a ≡ false
   pub narrow : HasNarrowLabels a
 
 -- 40, 41 or 42: it applies, and no fault of a lesser number does
 abbrev pub IsTaskFault : Description → TaskFault → Type 0
-IsTaskFault a NotParity = Fits a × IsUndecided a
-IsTaskFault a UniversalBranch = Fits a × IsDecided a × (has_branch a ≡ true)
-IsTaskFault a TooManyPropositions = Fits a × IsDecided a × (has_branch a ≡ false) × HasWideLabel a
+IsTaskFault a NotParity = IsSmallEnough a × IsUndecided a
+IsTaskFault a UniversalBranch = IsSmallEnough a × IsDecided a × (has_branch a ≡ true)
+IsTaskFault a TooManyPropositions = IsSmallEnough a × IsDecided a × (has_branch a ≡ false) × HasWideLabel a
 IsTaskFault a TooWide = ⊥
 IsTaskFault a Budget = ⊥
 IsTaskFault a BadSolution = ⊥

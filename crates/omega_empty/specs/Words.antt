@@ -30,7 +30,7 @@ Allows a number None held = IsValuation (length a.propositions) (index_in a.defi
 Allows a number (Some label) held = IsTrue (truth held label)
 
 -- the edge of a number can be taken where exactly these propositions hold
-pub record IsTaken (a : Description) (number : ℕ) (held : ℕ → Bool) : Type 0 where
+pub record CanBeTaken (a : Description) (number : ℕ) (held : ℕ → Bool) : Type 0 where
   pub edge : BodyEdge
   pub numbered : edge_at a number ≡ Some edge
   pub allowed : Allows a number (label_of edge) held
@@ -41,7 +41,7 @@ pub record IsAccepted (a : Description) (word : ℕ → ℕ → Bool) : Type 0 w
   pub states : ℕ → ℕ
   pub edges : ℕ → ℕ
   pub accepting : IsAcceptingRun a states edges
-  pub taken : (i : ℕ) → IsTaken a (edges i) (word i)
+  pub taken : (i : ℕ) → CanBeTaken a (edges i) (word i)
 
 -- an automaton that accepts a word has an accepting lasso: so one without accepts none
 abbrev pub AcceptedWordsHaveLassos : Type 0

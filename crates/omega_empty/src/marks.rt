@@ -4,7 +4,7 @@ ghost use Rattle.omega_acc.specs.formula.Kind.{priority_of};
 ghost use Rattle.omega_acc.specs.Limits.{most_depth};
 ghost use Rattle.omega_text.specs.Limits.{most_number};
 ghost use Rattle.omega_empty.specs.Counters.{counter_after, counters, priority_at_counter};
-ghost use Rattle.omega_empty.specs.layout.Marks.{AreMarksOf, IsSmall};
+ghost use Rattle.omega_empty.specs.layout.Marks.{AreMarksBelow, IsSmall};
 
 use omega_acc::{AccKind, ParityKind, priority};
 use omega_automaton::{EdgeRef, State};
@@ -13,8 +13,8 @@ use omega_automaton::{EdgeRef, State};
 pub(crate) fn edge_priority(kind: AccKind, counter: u32, state: &State, edge: &EdgeRef<'_>) -> u32
     requires counter { counter < counters kind }
     requires small { IsSmall kind }
-    requires own { AreMarksOf kind state.now.marks }
-    requires marks { AreMarksOf kind edge.now.marks }
+    requires own { AreMarksBelow kind state.now.marks }
+    requires marks { AreMarksBelow kind edge.now.marks }
     ensures value { result ≡ priority_at_counter kind counter (state.now.marks ++ edge.now.marks) }
     ensures writable { result ≤ most_number }
 {

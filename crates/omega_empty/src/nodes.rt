@@ -7,7 +7,7 @@ ghost use Rattle.omega_empty.specs.Counters.{counter_after, counters};
 ghost use Rattle.omega_empty.specs.EmptinessGame.{edge_id, edge_node, edge_nodes, is_usable, nodes_at, state_id, state_node};
 ghost use Rattle.omega_empty.specs.layout.Nodes.{begun, linked};
 ghost use Rattle.omega_empty.specs.layout.Ranges.{usable_in};
-ghost use Rattle.omega_empty.specs.layout.Marks.{AreMarksOf};
+ghost use Rattle.omega_empty.specs.layout.Marks.{AreMarksBelow};
 ghost use Rattle.omega_empty.specs.layout.Ready.{IsPlainEdge, IsPlainState, IsReady};
 
 use crate::edge_ranges::EdgeRange;
@@ -172,7 +172,7 @@ fn add_if_usable(
 ) -> Result<(), Refusal>
     requires ready { IsReady judged.now.automaton.now judged.now.kind judged.now.usable.items judged.now.ranges.items }
     requires counter { counter < counters judged.now.kind }
-    requires own { AreMarksOf judged.now.kind state.now.marks }
+    requires own { AreMarksBelow judged.now.kind state.now.marks }
     requires plain { IsPlainEdge judged.now.automaton.now judged.now.kind edge.now }
     requires number { number < edge_count judged.now.automaton.now }
     ensures ok { OnOk result (builder.new ≡ builder.old ++ edge_nodes judged.now.kind judged.now.automaton.now judged.now.usable.items counter number (record { source = state.now; edge = edge.now } ∷ [])) }
@@ -195,7 +195,7 @@ fn add_edge(
 ) -> Result<(), Refusal>
     requires ready { IsReady judged.now.automaton.now judged.now.kind judged.now.usable.items judged.now.ranges.items }
     requires counter { counter < counters judged.now.kind }
-    requires own { AreMarksOf judged.now.kind state.now.marks }
+    requires own { AreMarksBelow judged.now.kind state.now.marks }
     requires plain { IsPlainEdge judged.now.automaton.now judged.now.kind edge.now }
     requires number { number < edge_count judged.now.automaton.now }
     ensures ok { OnOk result (builder.new ≡ builder.old ++ edge_node judged.now.kind judged.now.automaton.now counter number (record { source = state.now; edge = edge.now }) ∷ []) }

@@ -62,12 +62,12 @@ fault_with small specs =
     None
 
 -- the fault of specifications behind no header
-abbrev pub fault_of : List NodeSpec → Option GameFault
-fault_of specs = fault_with false specs
+abbrev pub game_fault_of : List NodeSpec → Option GameFault
+game_fault_of specs = fault_with false specs
 
 -- the refusal of a call that builds a game: the fault of the specifications, or memory
 abbrev pub IsBuildRefusal : List NodeSpec → Refusal → Type 0
-IsBuildRefusal specs = or_game (λ fault. fault_of specs ≡ Some fault) (or_memory never)
+IsBuildRefusal specs = or_game (λ fault. game_fault_of specs ≡ Some fault) (or_memory never)
 
 -- the specifications with the last of them changed
 abbrev pub with_last : (NodeSpec → NodeSpec) → List NodeSpec → List NodeSpec

@@ -52,8 +52,8 @@ abbrev pub priorities : List Node → List ℕ
 priorities nodes = map (λ node. node.priority) nodes
 
 -- how many successors are listed, repeats counted
-abbrev pub edge_count : List Node → ℕ
-edge_count nodes = sum_by (λ node. length node.successors) nodes
+abbrev pub successor_count : List Node → ℕ
+successor_count nodes = sum_by (λ node. length node.successors) nodes
 
 -- w is a listed successor of v
 abbrev pub HasEdge : List Node → ℕ → ℕ → Type 0
@@ -72,7 +72,7 @@ abbrev pub IsNameByte : ℕ → Type 0
 IsNameByte b = (32 ≤ b) × (b ≤ 126) × (b ≢ 34)
 
 -- a node whose numbers and name a game text can hold
-pub record IsWritable (node : Node) : Type 0 where
+pub record IsWritableNode (node : Node) : Type 0 where
   pub identifier : node.identifier ≤ most_number
   pub priority : node.priority ≤ most_number
   pub name : IfSome node.name (All IsNameByte)
@@ -80,8 +80,8 @@ pub record IsWritable (node : Node) : Type 0 where
 -- the limits that each game keeps
 pub record IsWithinLimits (nodes : List Node) : Type 0 where
   pub few_nodes : length nodes ≤ most_nodes
-  pub few_edges : edge_count nodes ≤ most_successors
-  pub writable : All IsWritable nodes
+  pub few_edges : successor_count nodes ≤ most_successors
+  pub writable : All IsWritableNode nodes
 
 -- how often w is listed as a successor of v
 abbrev pub listed_times : List Node → ℕ → ℕ → ℕ

@@ -4,7 +4,7 @@ use Rattle.omega_game.specs.declared.node_spec.NodeSpec.{NodeSpec}
 use Rattle.omega_game.specs.Game.{Node, IsGame, IsWithinLimits}
 use Rattle.omega_game.specs.Winning.{Chooses, choice_at}
 use Rattle.omega_game.specs.Part.{IsPart, IsPartAt, KeepsNodes}
-use Rattle.omega_game.specs.Building.{IsWellFormed, IsGameOf, fault_of}
+use Rattle.omega_game.specs.Building.{IsWellFormed, IsGameOf, game_fault_of}
 
 -- what is chosen at a place is the choice there
 abbrev pub ChoicesAreEntries : Type 0
@@ -29,15 +29,15 @@ SpecificationsHaveOneGame =
 -- well-formed specifications without a fault have a game
 abbrev pub GamesExist : Type 0
 GamesExist =
-    (specs : List NodeSpec) → 0 < length specs → All IsWellFormed specs → fault_of specs ≡ None
+    (specs : List NodeSpec) → 0 < length specs → All IsWellFormed specs → game_fault_of specs ≡ None
     → (nodes : List Node) × IsGameOf specs nodes
 
 -- specifications of a game within the limits have no fault
 abbrev pub GamesHaveNoFault : Type 0
 GamesHaveNoFault =
-    (specs : List NodeSpec) (nodes : List Node) → IsGameOf specs nodes → IsWithinLimits nodes → fault_of specs ≡ None
+    (specs : List NodeSpec) (nodes : List Node) → IsGameOf specs nodes → IsWithinLimits nodes → game_fault_of specs ≡ None
 
 -- the game of well-formed specifications without a fault keeps the limits
 abbrev pub GamesKeepLimits : Type 0
 GamesKeepLimits =
-    (specs : List NodeSpec) (nodes : List Node) → IsGameOf specs nodes → All IsWellFormed specs → fault_of specs ≡ None → IsWithinLimits nodes
+    (specs : List NodeSpec) (nodes : List Node) → IsGameOf specs nodes → All IsWellFormed specs → game_fault_of specs ≡ None → IsWithinLimits nodes

@@ -45,7 +45,7 @@ impl Model for GameBuilder {
 impl GameBuilder {
     ghost use Rattle.omega_game.specs.Game.{IsNameByte};
     ghost use Rattle.omega_text.specs.Limits.{most_number};
-    ghost use Rattle.omega_game.specs.Building.{IsBuildRefusal, IsGameOf, IsWellFormed, fault_of, with_last, with_name, with_successor};
+    ghost use Rattle.omega_game.specs.Building.{IsBuildRefusal, IsGameOf, IsWellFormed, game_fault_of, with_last, with_name, with_successor};
     ghost use Rattle.omega_game.specs.layout.Collected.{ids_of};
 
     /// No specification, which takes no memory.
@@ -250,7 +250,7 @@ impl GameBuilder {
     pub fn finish(self) -> Result<Game, Refusal>
         requires { 0 < length self }
         ensures game { IfOk result (λ game. IsGameOf self game) }
-        ensures faultless { OnOk result (fault_of self ≡ None) }
+        ensures faultless { OnOk result (game_fault_of self ≡ None) }
         ensures refused { IfErr result (IsBuildRefusal self) }
     {
         if self.has_rising_ids() {
@@ -268,7 +268,7 @@ impl GameBuilder {
         requires some { 0 < length self }
         requires rising { IsStrictlyIncreasing (ids_of self) }
         ensures game { IfOk result (λ game. IsGameOf self game) }
-        ensures faultless { OnOk result (fault_of self ≡ None) }
+        ensures faultless { OnOk result (game_fault_of self ≡ None) }
         ensures refused { IfErr result (IsBuildRefusal self) }
     {
         let alloc = *self.ids.allocator();

@@ -41,8 +41,8 @@ impl Model for Game {
 }
 
 impl Game {
-    ghost use Rattle.omega_game.specs.Building.{IsBuildRefusal, IsGameOf, IsWellFormed, fault_of};
-    ghost use Rattle.omega_game.specs.Game.{IsGame, IsWithinLimits, edge_count, identifiers, node_at, owner_at, predecessors_of, priorities, priority_at, successors_at};
+    ghost use Rattle.omega_game.specs.Building.{IsBuildRefusal, IsGameOf, IsWellFormed, game_fault_of};
+    ghost use Rattle.omega_game.specs.Game.{IsGame, IsWithinLimits, successor_count, identifiers, node_at, owner_at, predecessors_of, priorities, priority_at, successors_at};
     ghost use Rattle.omega_game.specs.Bound.{priority_counts};
     ghost use Rattle.omega_game.specs.layout.Columns.{columns_of, nodes_of, AreEven};
 
@@ -53,7 +53,7 @@ impl Game {
         requires listed { 0 < vec_len specs }
         requires well_formed { All IsWellFormed specs.items }
         ensures game { IfOk result (λ game. IsGameOf specs.items game) }
-        ensures faultless { OnOk result (fault_of specs.items ≡ None) }
+        ensures faultless { OnOk result (game_fault_of specs.items ≡ None) }
         ensures refused { IfErr result (IsBuildRefusal specs.items) }
     {
         let builder = GameBuilder::of(alloc, &specs)?;
@@ -107,7 +107,7 @@ impl Game {
 
     /// The number of listed successors, repeats counted.
     pub fn edges(&self) -> usize
-        ensures { result ≡ edge_count self.now }
+        ensures { result ≡ successor_count self.now }
     {
         self.successors.total()
     }

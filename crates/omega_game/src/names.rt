@@ -1,12 +1,12 @@
 ghost use Rattle.std.specs.Prelude.{◌≡◌, ℕ, ◌<◌, ◌≤◌, [], length, option_map, slice_index, slice_index_or, IfOk, OnOk};
-ghost use Rattle.omega_game.specs.layout.Columns.{name_of};
+ghost use Rattle.omega_game.specs.layout.Columns.{name_in_column};
 
 use crate::lists::Lists;
 use std::alloc::{AllocError, Global};
 
 /// The name at a place, without its quotes. The quoted names may end early: the nodes past them have none.
 pub(crate) fn name_at(quoted: &Lists<u8>, place: usize) -> Option<&[u8]>
-    ensures { option_map (λ name. name.now) result ≡ name_of (slice_index_or quoted.now place []) }
+    ensures { option_map (λ name. name.now) result ≡ name_in_column (slice_index_or quoted.now place []) }
 {
     if place < quoted.len() {
         behind_quote(quoted.list(place))
@@ -17,7 +17,7 @@ pub(crate) fn name_at(quoted: &Lists<u8>, place: usize) -> Option<&[u8]>
 
 /// What stands behind an opening quote; none where there is no quote.
 fn behind_quote(quoted: &[u8]) -> Option<&[u8]>
-    ensures { option_map (λ name. name.now) result ≡ name_of quoted.now }
+    ensures { option_map (λ name. name.now) result ≡ name_in_column quoted.now }
 {
     match quoted {
         [] => None,

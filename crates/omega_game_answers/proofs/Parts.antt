@@ -6,7 +6,7 @@ use Rattle.std.proofs.lemmas.List.{drop-drop, get_or-map, length-map}
 use Rattle.std.proofs.lemmas.List.Elements.{All-map, Contains-get_or}
 use Rattle.std.proofs.lemmas.List.Kept.{AllPairs-from_increasing}
 use Rattle.std.proofs.lemmas.List.Sums.{sum_by-cons, sum_by-drop_more, sum_by-take-drop}
-use Rattle.omega_game.specs.Game.{IsGame, IsWithinLimits, IsWritable, Node, edge_count, identifiers, no_node, node_at}
+use Rattle.omega_game.specs.Game.{IsGame, IsWithinLimits, IsWritableNode, Node, successor_count, identifiers, no_node, node_at}
 use Rattle.omega_game.specs.Laws.{PartsKeepNodes}
 use Rattle.omega_game.specs.Part.{IsPart, IsPartAt, new_place, restricted}
 use Rattle.omega_game_answers.specs.Part.{HasIdentifier, IsPartFrom}
@@ -135,7 +135,7 @@ few-kept b count (x ∷ xs) rising within h =
 
 -- the kept nodes list no more successors than the nodes from the first of them on
 few-edges : (nodes : List Node) (kept : List ℕ) (b : ℕ) (places : List ℕ) → IsStrictlyIncreasing places → IsWithin b (length nodes) places
-    → edge_count (map (kept_node nodes kept) places) ≤ edge_count (drop b nodes)
+    → successor_count (map (kept_node nodes kept) places) ≤ successor_count (drop b nodes)
 few-edges nodes kept b [] rising within = omega arith
 few-edges nodes kept b (x ∷ xs) rising within =
     let head = within-head b (length nodes) x xs within in
@@ -157,7 +157,7 @@ part-limits nodes v kept part keeps game limits reached =
     rw reached.kept_nodes (record {
       few_nodes = omega (arith, nodes_kept, length-map kept (kept_node nodes kept), limits.few_nodes);
       few_edges = omega (arith, edges_kept, limits.few_edges);
-      writable = All-map IsWritable (kept_node nodes kept) kept (λ k d h.
+      writable = All-map IsWritableNode (kept_node nodes kept) kept (λ k d h.
           let node : slice_index_or kept k d < length nodes = keep.inside _ (Contains-get_or kept k d h) in
           let writable = limits.writable (slice_index_or kept k d) no_node node in
           record { identifier = writable.identifier; priority = writable.priority; name = writable.name });

@@ -1,7 +1,7 @@
 -- What `canon` answers for a game text, whole or from a node on.
 use Rattle.std.specs.Prelude.{◌≡◌, List, ℕ}
 use Rattle.omega_game.specs.Game.{Node}
-use Rattle.omega_pg.specs.game.Canonical.{canonical}
+use Rattle.omega_pg.specs.game.Canonical.{canonical_game}
 use Rattle.omega_pg.specs.game.Text.{IsGameText}
 use Rattle.omega_game_answers.specs.Part.{IsPartText}
 
@@ -9,10 +9,10 @@ use Rattle.omega_game_answers.specs.Part.{IsPartText}
 pub record IsCanonAnswer (text output : List ℕ) : Type 0 where
   pub game : List Node
   pub read : IsGameText text game
-  pub written : output ≡ canonical game
+  pub written : output ≡ canonical_game game
 
 -- what `canon --from` answers: the canonical text of the part that the node with the identifier reaches is written
 pub record IsCanonPartAnswer (text : List ℕ) (identifier : ℕ) (output : List ℕ) : Type 0 where
   pub part : List Node
   pub read : IsPartText text identifier part
-  pub written : output ≡ canonical part
+  pub written : output ≡ canonical_game part

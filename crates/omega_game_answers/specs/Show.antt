@@ -3,7 +3,7 @@ use Rattle.std.specs.Prelude.{◌≡◌, ◌++◌, ◌^◌, List, ℕ, codes, de
 use Rattle.omega_game.specs.declared.player.Player.{Player}
 use Rattle.omega_game.specs.declared.player.Player.TheVariants.{One, Zero}
 use Rattle.omega_game.specs.Bound.{bound_of}
-use Rattle.omega_game.specs.Game.{Node, edge_count, priorities, greatest_identifier}
+use Rattle.omega_game.specs.Game.{Node, successor_count, priorities, greatest_identifier}
 use Rattle.omega_pg.specs.game.Text.{IsGameText}
 use Rattle.omega_game_answers.specs.PlayerText.{player_text}
 
@@ -19,7 +19,7 @@ bound_line player nodes =
 -- the line of the game: its nodes, its listed successors, and its greatest identifier
 abbrev pub size_line : List Node → List ℕ
 size_line nodes =
-    codes "game nodes " ++ decimal (length nodes) ++ codes " edges " ++ decimal (edge_count nodes)
+    codes "game nodes " ++ decimal (length nodes) ++ codes " edges " ++ decimal (successor_count nodes)
     ++ codes " greatest " ++ decimal (greatest_identifier nodes) ++ codes "\n"
 
 -- what is written of a game

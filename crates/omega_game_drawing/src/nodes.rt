@@ -3,7 +3,7 @@
 ghost use Rattle.std.specs.Prelude.{◌≡◌, ◌<◌, ◌++◌, All, IsOkUnless, OnOk, codes, decimal, length};
 ghost use Rattle.std.specs.List.{flat_map};
 ghost use Rattle.omega_game.specs.Game.{node_at};
-ghost use Rattle.omega_game_drawing.specs.GameDrawing.{colour_of, edge_end, edge_line, fill_part, is_chosen, node_label, node_line, node_text, shape_of};
+ghost use Rattle.omega_game_drawing.specs.GameDrawing.{colour_of, edge_end, drawn_edge, fill_part, is_chosen, node_label, drawn_node, node_text, shape_of};
 
 use omega_dot::write_name_line;
 use omega_game::{Game, Player, Refusal};
@@ -33,7 +33,7 @@ fn write_line(
     out: &mut Vec<u8>,
 ) -> Result<(), Refusal>
     requires { place < length game.now }
-    ensures ok { OnOk result (out.new.items ≡ out.old.items ++ node_line winner (node_at game.now place)) }
+    ensures ok { OnOk result (out.new.items ≡ out.old.items ++ drawn_node winner (node_at game.now place)) }
     ensures memory { IsOkUnless result Refusal.Memory }
 {
     out.extend_from_slice(b"  ")?;
@@ -106,7 +106,7 @@ fn write_edges(
     out: &mut Vec<u8>,
 ) -> Result<(), Refusal>
     requires { place < length game.now }
-    ensures ok { OnOk result (out.new.items ≡ out.old.items ++ flat_map (edge_line game.now choice (node_at game.now place)) (node_at game.now place).successors) }
+    ensures ok { OnOk result (out.new.items ≡ out.old.items ++ flat_map (drawn_edge game.now choice (node_at game.now place)) (node_at game.now place).successors) }
     ensures memory { IsOkUnless result Refusal.Memory }
 {
     game.keeps_limits();
@@ -126,7 +126,7 @@ fn write_edge(
 ) -> Result<(), Refusal>
     requires place { place < length game.now }
     requires successor { successor < length game.now }
-    ensures ok { OnOk result (out.new.items ≡ out.old.items ++ edge_line game.now choice (node_at game.now place) successor) }
+    ensures ok { OnOk result (out.new.items ≡ out.old.items ++ drawn_edge game.now choice (node_at game.now place) successor) }
     ensures memory { IsOkUnless result Refusal.Memory }
 {
     out.extend_from_slice(b"  ")?;

@@ -4,14 +4,14 @@ use Rattle.std.proofs.Math.Nat.{sub_self}
 use Rattle.std.proofs.Math.Seq.{take-append-add}
 use Rattle.std.proofs.lemmas.List.{drop-drop, drop-take, drop_all, drop_at, take_at, take-append-drop, length-take}
 use Rattle.omega_text.specs.Cut.{Cuts, IsCut}
-use Rattle.omega_text.specs.Format.{Format, GoesOneWay}
+use Rattle.omega_text.specs.Format.{TextFormat, GoesOneWay}
 use Rattle.omega_text.specs.Lexeme.{Lexeme}
 use Rattle.omega_text.specs.declared.hoa.kind.HoaKind.{HoaKind}
 use Rattle.omega_text.specs.hoa.Cut.{Follows, IsGap, IsLongest}
 use Rattle.omega_text.specs.hoa.Cut.IsGap.{nothing}
 use Rattle.omega_text.specs.hoa.Format.{hoa_format}
 
-module _ {Kind : Type 0} (format : Format Kind) where
+module _ {Kind : Type 0} (format : TextFormat Kind) where
   -- a cut of tokens one behind the other is that of the first, and of the others from where it ends
   pub cuts_split : (source : List ℕ) (from to : ℕ) (front back : List (Lexeme Kind)) → Cuts format source from (front ++ back) to
       → (middle : ℕ) × Cuts format source from front middle × Cuts format source middle back to
@@ -38,7 +38,7 @@ module _ {Kind : Type 0} (format : Format Kind) where
   cuts_end source from one other [] here there = sym here ∙ there
   cuts_end source from one other (lexeme ∷ lexemes) here there = cuts_end source lexeme.span.end one other lexemes here.1 there.1
 
-module _ {Kind : Type 0} (format : Format Kind) (exact : GoesOneWay format) where
+module _ {Kind : Type 0} (format : TextFormat Kind) (exact : GoesOneWay format) where
   -- a cut ends where it begins or behind it, within the text
   pub cuts_forward : (source : List ℕ) (from to : ℕ) (lexemes : List (Lexeme Kind)) → from ≤ length source → Cuts format source from lexemes to
       → (from ≤ to) × (to ≤ length source)

@@ -5,7 +5,7 @@ use Rattle.omega_text.specs.Cut.{Cuts, IsCut}
 use Rattle.omega_text.specs.Lexeme.{Lexeme}
 use Rattle.omega_text.specs.hoa.Format.{hoa_format}
 use Rattle.omega_text.specs.hoa.Laws.{is_closed}
-use Rattle.omega_text.specs.hoa.Pieces.{FaultsBehind, IsFinished, lexeme_in, lexemes_in, settled_lexemes}
+use Rattle.omega_text.specs.hoa.Pieces.{FaultsBehind, IsCutUpToFault, lexeme_in, lexemes_in, settled_lexemes}
 use Rattle.omega_text.specs.declared.hoa.kind.HoaKind.{HoaKind}
 use Rattle.omega_text.specs.declared.hoa.kind.HoaKind.TheVariants.{Abort, End, HeaderName}
 use Rattle.omega_text.specs.declared.hoa.placed.PlacedToken.{PlacedToken}
@@ -22,7 +22,7 @@ use Rattle.omega_hoa.proofs.Dividing.{open_push}
 use Rattle.omega_hoa.proofs.Settling.{fault_behind}
 
 -- the tokens of a text up to its fault or its end
-finished_cuts : (fault : Option TextFault) (seen : List ℕ) (lexemes : List (Lexeme HoaKind)) → IsFinished fault seen lexemes → (end : ℕ) × Cuts hoa_format seen 0 lexemes end
+finished_cuts : (fault : Option TextFault) (seen : List ℕ) (lexemes : List (Lexeme HoaKind)) → IsCutUpToFault fault seen lexemes → (end : ℕ) × Cuts hoa_format seen 0 lexemes end
 finished_cuts None seen lexemes cut = (cut.end, cut.cuts)
 finished_cuts (Some fault) seen lexemes faults = (faults.end, faults.cuts)
 
@@ -85,7 +85,7 @@ module _ (settled : Settled) (last : IsLast settled) (seen : List ℕ) (lexemes 
   pub fault_outside_end : (fault : TextFault) → settled.first ≡ None → settled.fault ≡ Some fault → IsAtEnd settled false seen lexemes items begins → IsStreamFault seen items (Text fault)
   fault_outside_end fault first is at_end = faults_behind seen lexemes items begins false fault at_end.divided
       (subst (λ ls. FaultsBehind seen ls fault) (none_settled first)
-      (subst (λ some. IsFinished some seen (lexemes ++ settled_lexemes seen settled)) is at_end.finished))
+      (subst (λ some. IsCutUpToFault some seen (lexemes ++ settled_lexemes seen settled)) is at_end.finished))
 
   -- nothing is
   pub whole_end : settled.first ≡ None → settled.fault ≡ None → IsAtEnd settled false seen lexemes items begins → IsWholeStream seen items
@@ -94,7 +94,7 @@ module _ (settled : Settled) (last : IsLast settled) (seen : List ℕ) (lexemes 
       record {
         lexemes = lexemes;
         cut = subst (λ ls. IsCut hoa_format seen ls) (none_settled first)
-            (subst (λ some. IsFinished some seen (lexemes ++ settled_lexemes seen settled)) is at_end.finished);
+            (subst (λ some. IsCutUpToFault some seen (lexemes ++ settled_lexemes seen settled)) is at_end.finished);
         stream = subst (λ ls. IsStream ls items) (sym (divided.split ∙ ap (λ rest. divided.front ++ rest) divided.behind ∙ append-nil divided.front)) divided.before;
       }
 
@@ -121,13 +121,13 @@ module _ (settled : Settled) (last : IsLast settled) (seen : List ℕ) (lexemes 
   -- a fault inside a segment
   pub fault_inside_end : (fault : TextFault) → settled.fault ≡ Some fault → IsAtEnd settled true seen lexemes items begins → IsStreamFault seen items (Text fault)
   fault_inside_end fault is at_end = faults_behind seen (lexemes ++ settled_lexemes seen settled) items begins true fault (divided_end at_end.divided)
-      (subst (λ some. IsFinished some seen (lexemes ++ settled_lexemes seen settled)) is at_end.finished)
+      (subst (λ some. IsCutUpToFault some seen (lexemes ++ settled_lexemes seen settled)) is at_end.finished)
 
   -- a segment without end
   pub cut_short : (count : ℕ) → count ≡ length seen → settled.fault ≡ None → IsAtEnd settled true seen lexemes items begins → IsStreamFault seen items (Text (Syntax count))
   cut_short count all is at_end =
       let ls = lexemes ++ settled_lexemes seen settled in
-      let cut : IsCut hoa_format seen ls = subst (λ some. IsFinished some seen ls) is at_end.finished in
+      let cut : IsCut hoa_format seen ls = subst (λ some. IsCutUpToFault some seen ls) is at_end.finished in
       let divided = divided_end at_end.divided in
       record {
         front = divided.front;

@@ -22,7 +22,7 @@ use Rattle.omega_hoa.specs.Stream.{IsStreamFault, IsStreamText}
 use Rattle.omega_hoa.specs.dividing.Fed.{HasReadTaken, IsFedSome, IsRefusedSome}
 use Rattle.omega_hoa.specs.dividing.Next.{IsProgress}
 use Rattle.omega_hoa.specs.declared.item.Item.{Item}
-use Rattle.omega_hoa.specs.declared.progress.Progress.{Progress}
+use Rattle.omega_hoa.specs.declared.progress.ReadProgress.{ReadProgress}
 use Rattle.omega_hoa.proofs.Cutting.{cuts_end, cuts_forward, cuts_split, same_cuts, same_further}
 use Rattle.omega_hoa.proofs.Results.{nothing_more}
 use Rattle.omega_text.proofs.formats.Cutting.{cuts_join}
@@ -237,7 +237,7 @@ module _ (bytes : List ℕ) (tokenizer : HoaTokenizer) (empty : bytes ≡ []) (r
   }
 
 -- once all bytes were read
-module _ (exact : GoesOneWay hoa_format) (all : List ℕ) (first : ℕ) (after : Progress) (prior : List ℕ) (items : List Item) (bytes : List ℕ) (refused : Option Refusal)
+module _ (exact : GoesOneWay hoa_format) (all : List ℕ) (first : ℕ) (after : ReadProgress) (prior : List ℕ) (items : List Item) (bytes : List ℕ) (refused : Option Refusal)
     (progress : IsProgress all first (length all) after prior items) (is : bytes ≡ drop (after.division.begins - first) all) where
   whole : prior ++ take (length all) all ≡ prior ++ all
   whole = ap (λ rest. prior ++ rest) (take_all (length all) all (omega arith))
@@ -278,7 +278,7 @@ module _ (exact : GoesOneWay hoa_format) (all : List ℕ) (first : ℕ) (after :
   }
 
 -- the whole segments end within the bytes
-pub begins_within : GoesOneWay hoa_format → (all : List ℕ) (first : ℕ) (after : Progress) (prior : List ℕ) (items : List Item) → IsProgress all first (length all) after prior items
+pub begins_within : GoesOneWay hoa_format → (all : List ℕ) (first : ℕ) (after : ReadProgress) (prior : List ℕ) (items : List Item) → IsProgress all first (length all) after prior items
     → after.division.begins - first ≤ length all
 begins_within exact all first after prior items progress =
     let within = divided_within exact (prior ++ take (length all) all) progress.lexemes items after.division.begins after.division.inside progress.divided in

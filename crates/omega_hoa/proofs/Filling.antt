@@ -10,8 +10,8 @@ use Rattle.omega_text.specs.hoa.Format.{hoa_format}
 use Rattle.omega_text.specs.hoa.Forms.{IsForm}
 use Rattle.omega_text.specs.hoa.Forms as forms
 use Rattle.omega_acc.specs.Symbols.{EndsThere}
-use Rattle.omega_raw.specs.Grammar.{ReadsAutomaton, spelled}
-use Rattle.omega_raw.specs.Symbols.{Begins, Shows, Spells, Symbol, formula, header, label, without_last}
+use Rattle.omega_raw.specs.Grammar.{ReadsAutomaton, automaton_symbols}
+use Rattle.omega_raw.specs.Symbols.{ReadsSymbol, Shows, ReadsSymbols, AutomatonSymbol, formula, header, label, without_last}
 use Rattle.omega_raw.specs.declared.raw_automaton.RawAutomaton.{RawAutomaton}
 use Rattle.omega_hoa.specs.Laws.{FillsSegment}
 use Rattle.omega_hoa.specs.Stream.{Opens}
@@ -23,8 +23,8 @@ ends_first [] rest ends = tt
 ends_first (lexeme ∷ front) rest ends = ends
 
 -- a symbol's tokens are its tokens before fewer others too
-begun_before : (symbol : Symbol) (tokens middle back rest : List (Lexeme HoaKind)) → middle ≡ back ++ rest → Begins symbol tokens middle
-    → (front : List (Lexeme HoaKind)) × (tokens ≡ front ++ middle) × Begins symbol (front ++ back) back
+begun_before : (symbol : AutomatonSymbol) (tokens middle back rest : List (Lexeme HoaKind)) → middle ≡ back ++ rest → ReadsSymbol symbol tokens middle
+    → (front : List (Lexeme HoaKind)) × (tokens ≡ front ++ middle) × ReadsSymbol symbol (front ++ back) back
 begun_before (label it) tokens middle back rest is begins = (
   begins.front,
   begins.split,
@@ -39,8 +39,8 @@ begun_before symbol tokens middle back rest is begins =
     (begins.lexeme ∷ [], begins.next, record { lexeme = begins.lexeme; next = refl; shows = begins.shows })
 
 -- symbols that tokens begin with are spelled by the first of them alone
-spelled_alone : (symbols : List Symbol) (tokens rest : List (Lexeme HoaKind)) → Spells tokens symbols rest
-    → (front : List (Lexeme HoaKind)) × (tokens ≡ front ++ rest) × Spells front symbols []
+spelled_alone : (symbols : List AutomatonSymbol) (tokens rest : List (Lexeme HoaKind)) → ReadsSymbols tokens symbols rest
+    → (front : List (Lexeme HoaKind)) × (tokens ≡ front ++ rest) × ReadsSymbols front symbols []
 spelled_alone [] tokens rest spells = ([], spells, refl)
 spelled_alone (symbol ∷ symbols) tokens rest spells =
     let back = spelled_alone symbols spells.middle rest spells.back in
@@ -63,7 +63,7 @@ opening lexeme of shows =
 pub segment_filled : (tokens rest : List (Lexeme HoaKind)) (raw : RawAutomaton) → AllByRecursion (IsTokenOf hoa_format) tokens
     → ReadsAutomaton tokens raw rest → FillsSegment tokens raw rest
 segment_filled tokens rest raw all reads =
-    let alone = spelled_alone (spelled raw) tokens rest reads.spells in
+    let alone = spelled_alone (automaton_symbols raw) tokens rest reads.spells in
     let first = alone.2.front in
     let end = written_ends raw alone.2.middle [] alone.2.back in
     let is : IsTokenOf hoa_format first.lexeme =

@@ -13,7 +13,7 @@ use Rattle.omega_text.specs.declared.refusal.Refusal.TheVariants.{Automaton as A
 use Rattle.omega_text.specs.declared.refusal.text.TextFault.{TextFault}
 use Rattle.omega_text.specs.declared.refusal.text.TextFault.TheVariants.{Lex, Number, Syntax, TooLong}
 use Rattle.omega_automaton.specs.Automaton.{Description}
-use Rattle.omega_automaton.specs.Faults.{fault_of}
+use Rattle.omega_automaton.specs.Faults.{automaton_fault_of}
 use Rattle.omega_automaton.specs.Laws.{MeaningsAreThere}
 use Rattle.omega_hoa.specs.Alone.{AreRefused, IsAutomatonRefusal, IsAutomatonText}
 use Rattle.omega_hoa.specs.Segment.{IsAutomatonOf, IsSegmentFault}
@@ -72,7 +72,7 @@ module _ (first : Lexeme HoaKind) (rest : List (Lexeme HoaKind)) (opens : Opens 
 module _ (there : MeaningsAreThere) (lexemes : List (Lexeme HoaKind)) where
   judged : ((automaton : Description) → IsAutomatonOf lexemes automaton → ⊥) → ((refusal : Refusal) → IsSegmentFault lexemes refusal → ⊥) → ⊥
   judged no_automaton no_fault = no_fault (Text (Syntax 0)) (λ raw written.
-      (elim (fault_of raw) as (λ said. fault_of raw ≡ said → ⊥) [
+      (elim (automaton_fault_of raw) as (λ said. automaton_fault_of raw ≡ said → ⊥) [
         | None ↦ λ none. let means = there raw none in no_automaton means.0 (record { raw = raw; written = written; means = means.1 })
         | Some fault ↦ λ has. no_fault (AutomatonRefusal fault) (record { raw = raw; written = written; has = has })
       ]) refl)

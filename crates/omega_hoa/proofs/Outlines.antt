@@ -5,8 +5,8 @@ use Rattle.omega_text.specs.declared.hoa.kind.HoaKind.{HoaKind}
 use Rattle.omega_text.specs.declared.hoa.kind.HoaKind.TheVariants.{End, Abort}
 use Rattle.omega_hoa.specs.Stream.{IsOpen}
 use Rattle.omega_hoa.specs.outlines.Outline.{BeginsAborted, BeginsStray, IsFollowed, IsOutline, IsWhole}
-use Rattle.omega_hoa.specs.declared.outline.Outline.{Outline}
-use Rattle.omega_hoa.specs.declared.outline.Outline.TheVariants.{Empty, Stray, Open, Aborted, Whole, Followed}
+use Rattle.omega_hoa.specs.declared.outline.TextOutline.{TextOutline}
+use Rattle.omega_hoa.specs.declared.outline.TextOutline.TheVariants.{Empty, Stray, Open, Aborted, Whole, Followed}
 
 -- a stray token stays the first
 stray_push : (lexemes : List (Lexeme HoaKind)) (last : Lexeme HoaKind) (at : ℕ) → BeginsStray lexemes at → BeginsStray (lexemes ++ last ∷ []) at
@@ -46,7 +46,7 @@ pub followed : (lexemes : List (Lexeme HoaKind)) (last : Lexeme HoaKind) (end : 
 followed lexemes last end whole = record { front = lexemes; next = last; rest = []; split = refl; whole = whole; there = refl }
 
 -- an outline that no token changes
-pub outline_stays : (outline : Outline) (lexemes : List (Lexeme HoaKind)) (last : Lexeme HoaKind) → (outline ≡ Empty → ⊥) → (outline ≡ Open → ⊥) → ((end : ℕ) → outline ≡ Whole end → ⊥)
+pub outline_stays : (outline : TextOutline) (lexemes : List (Lexeme HoaKind)) (last : Lexeme HoaKind) → (outline ≡ Empty → ⊥) → (outline ≡ Open → ⊥) → ((end : ℕ) → outline ≡ Whole end → ⊥)
     → IsOutline lexemes outline → IsOutline (lexemes ++ last ∷ []) outline
 outline_stays Empty lexemes last empty begun whole is = absurd (empty refl)
 outline_stays (Stray at) lexemes last empty begun whole is = stray_push lexemes last at is

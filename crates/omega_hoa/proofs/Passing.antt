@@ -13,7 +13,7 @@ use Rattle.omega_hoa.specs.Stream.{IsOpen, NoneEnds, is_end}
 use Rattle.omega_hoa.specs.dividing.Next.{IsProgress, IsProgressSome}
 use Rattle.omega_hoa.specs.declared.division.Division.{Division}
 use Rattle.omega_hoa.specs.declared.item.Item.{Item}
-use Rattle.omega_hoa.specs.declared.progress.Progress.{Progress}
+use Rattle.omega_hoa.specs.declared.progress.ReadProgress.{ReadProgress}
 use Rattle.omega_hoa.proofs.Settling.{divided_on}
 
 -- what is not untrue is true
@@ -62,14 +62,14 @@ read_up_to prior bytes from to forward =
     ∙ ap (λ bs. prior ++ bs) (sym (take-add from (to - from) bytes) ∙ ap (λ n. take n bytes) all)
 
 -- places can be counted up to the end of the bytes
-pub room_inside : (bytes : List ℕ) (first place : ℕ) (progress : Progress) → place ≤ length bytes → IsProgressSome bytes first place progress → HasRoom (length bytes - place) progress.tokenizer
+pub room_inside : (bytes : List ℕ) (first place : ℕ) (progress : ReadProgress) → place ≤ length bytes → IsProgressSome bytes first place progress → HasRoom (length bytes - place) progress.tokenizer
 room_inside bytes first place progress within some =
     let so_far = some.2 in
     let seen = some.0 ++ take place bytes in
     (seen, so_far.lexemes, so_far.read, omega (arith, length-append some.0 (take place bytes), length-take-le place bytes within, so_far.there, so_far.short))
 
 -- the bytes that were passed were read
-pub passed_on : (bytes : List ℕ) (first from to : ℕ) (progress : Progress) (tokenizer : HoaTokenizer) (prior : List ℕ) (items : List Item) → from ≤ to → progress.division.inside ≡ true
+pub passed_on : (bytes : List ℕ) (first from to : ℕ) (progress : ReadProgress) (tokenizer : HoaTokenizer) (prior : List ℕ) (items : List Item) → from ≤ to → progress.division.inside ≡ true
     → (so_far : IsProgress bytes first from progress prior items) → HasPassed (prior ++ take from bytes) so_far.lexemes (take (to - from) (drop from bytes)) tokenizer
     → tokenizer.fault ≡ progress.tokenizer.fault
     → IsProgress bytes first to (record { tokenizer = tokenizer; division = progress.division }) prior items

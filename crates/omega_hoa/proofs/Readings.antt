@@ -10,7 +10,7 @@ use Rattle.omega_text.specs.declared.refusal.automaton.AutomatonFault.{Automaton
 use Rattle.omega_raw.specs.Laws.{RawsAreOne}
 use Rattle.omega_raw.specs.declared.raw_automaton.RawAutomaton.{RawAutomaton}
 use Rattle.omega_automaton.specs.Automaton.{Description}
-use Rattle.omega_automaton.specs.Faults.{fault_of}
+use Rattle.omega_automaton.specs.Faults.{automaton_fault_of}
 use Rattle.omega_automaton.specs.Laws.{MeaningsAreOne}
 use Rattle.omega_automaton.specs.Meaning.{Means}
 use Rattle.omega_hoa.specs.Laws.{AreOfSegment}
@@ -30,7 +30,7 @@ module _ (raws_one : RawsAreOne) (lexemes : List (Lexeme HoaKind)) where
   -- one fault
   meaning_fault_one : (one other : AutomatonFault) → HasMeaningFault lexemes one → HasMeaningFault lexemes other → one ≡ other
   meaning_fault_one one other here there =
-      let same : Some one ≡ Some other = sym here.has ∙ ap fault_of (raw_one here.raw there.raw here.written there.written) ∙ there.has in
+      let same : Some one ≡ Some other = sym here.has ∙ ap automaton_fault_of (raw_one here.raw there.raw here.written there.written) ∙ there.has in
       cc
 
   pub fault_one : (one other : Refusal) → IsSegmentFault lexemes one → IsSegmentFault lexemes other → (one ≡ other) ⊎ (IsSegment End lexemes → AreOfSegment lexemes one other)
@@ -57,7 +57,7 @@ module _ (raws_one : RawsAreOne) (lexemes : List (Lexeme HoaKind)) where
   pub automaton_has_no_fault : (automaton : Description) (refusal : Refusal) → IsAutomatonOf lexemes automaton → IsSegmentFault lexemes refusal → ⊥
   automaton_has_no_fault automaton (Text (Syntax at)) is fault = fault is.raw is.written
   automaton_has_no_fault automaton (AutomatonRefusal said) is fault =
-      let same : None ≡ Some said = sym is.means.faultless ∙ ap fault_of (raw_one is.raw fault.raw is.written fault.written) ∙ fault.has in
+      let same : None ≡ Some said = sym is.means.faultless ∙ ap automaton_fault_of (raw_one is.raw fault.raw is.written fault.written) ∙ fault.has in
       cc
   automaton_has_no_fault automaton (Text (Lex at)) is fault = fault
   automaton_has_no_fault automaton (Text (Number at)) is fault = fault

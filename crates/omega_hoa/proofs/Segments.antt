@@ -8,7 +8,7 @@ use Rattle.omega_text.specs.declared.refusal.Refusal.TheVariants.{Automaton as A
 use Rattle.omega_text.specs.declared.refusal.text.TextFault.{TextFault}
 use Rattle.omega_text.specs.declared.refusal.text.TextFault.TheVariants.{Syntax}
 use Rattle.omega_acc.specs.Symbols.{IsUnread}
-use Rattle.omega_raw.specs.Grammar.{ReadsAutomaton, ReadsNone}
+use Rattle.omega_raw.specs.Grammar.{ReadsAutomaton, ReadsNoAutomaton}
 use Rattle.omega_raw.specs.declared.raw_automaton.RawAutomaton.{RawAutomaton}
 use Rattle.omega_automaton.specs.Meaning.{IsMeaningless}
 use Rattle.omega_hoa.specs.Segment.{IsNoRaw, IsRawOf, IsSegmentFault}
@@ -21,9 +21,9 @@ all_read tokens lexemes rest raw mark same reads segment = nothing_left lexemes 
 
 -- where none is read the tokens are no automaton's
 pub none_read : (tokens lexemes : List (Lexeme HoaKind)) (refusal : Refusal) (fault : TextFault) (at : ℕ) → tokens ≡ lexemes → refusal ≡ Text fault → fault ≡ Syntax at
-    → IsUnread (ReadsNone tokens) refusal → IsNoRaw lexemes
+    → IsUnread (ReadsNoAutomaton tokens) refusal → IsNoRaw lexemes
 none_read tokens lexemes refusal fault at same is syntax unread =
-    let none : ReadsNone tokens = subst (IsUnread (ReadsNone tokens)) (is ∙ ap (λ said. Text said) syntax) unread in
+    let none : ReadsNoAutomaton tokens = subst (IsUnread (ReadsNoAutomaton tokens)) (is ∙ ap (λ said. Text said) syntax) unread in
     λ raw written. none raw [] (subst (λ ls. ReadsAutomaton ls raw []) (sym same) written)
 
 -- a segment that is not read has a fault

@@ -3,7 +3,7 @@ use Rattle.std.proofs.Common.{◌≡◌, ℕ, ◌+◌, ◌-◌, ◌≤◌, ◌<�
 use Rattle.std.proofs.lemmas.List.{drop_at, length-take-le, take-append-drop, take_more}
 use Rattle.omega_text.specs.Cut.{Cuts}
 use Rattle.omega_text.specs.Lexeme.{Lexeme}
-use Rattle.omega_text.specs.hoa.Fault.{Faults}
+use Rattle.omega_text.specs.hoa.Fault.{HasFaultFrom}
 use Rattle.omega_text.specs.hoa.Format.{hoa_format}
 use Rattle.omega_text.specs.hoa.Pieces.{IsSettled, SettlesFault, lexemes_in, settled_lexemes}
 use Rattle.omega_text.specs.hoa.scanning.Reading.{HasRead}
@@ -17,28 +17,28 @@ use Rattle.omega_text.specs.declared.refusal.text.TextFault.{TextFault}
 use Rattle.omega_text.specs.declared.refusal.text.TextFault.TheVariants.{Lex, Number, Syntax, TooLong}
 use Rattle.omega_hoa.specs.Feeding.{IsDivided, IsRefusedThen, IsRest}
 use Rattle.omega_hoa.specs.Stream.{IsFaultInside, IsFaultOutside, IsRefusedBehind, IsStreamFault}
-use Rattle.omega_hoa.specs.dividing.Next.{IsNext, IsNextSettled, IsNothing, IsProgress, IsRefusedNow, IsWindow}
+use Rattle.omega_hoa.specs.dividing.Next.{IsNextDivision, IsNextSettled, IsNothing, IsProgress, IsRefusedNow, IsWindow}
 use Rattle.omega_hoa.specs.declared.division.Division.{Division}
 use Rattle.omega_hoa.specs.declared.item.Item.{Item}
-use Rattle.omega_hoa.specs.declared.progress.Progress.{Progress}
+use Rattle.omega_hoa.specs.declared.progress.ReadProgress.{ReadProgress}
 use Rattle.omega_hoa.proofs.Cutting.{cuts_split}
 
 -- a fault of tokens refuses a text outside segments
-fault_outside : (source : List ℕ) (from : ℕ) (fault : TextFault) → Faults source from fault → IsFaultOutside source from fault
+fault_outside : (source : List ℕ) (from : ℕ) (fault : TextFault) → HasFaultFrom source from fault → IsFaultOutside source from fault
 fault_outside source from (Lex at) faults = faults
 fault_outside source from (Number at) faults = faults
 fault_outside source from (Syntax at) faults = absurd faults.fault_there
 fault_outside source from TooLong faults = absurd faults.fault_there
 
 -- and inside one
-fault_inside : (source : List ℕ) (from : ℕ) (fault : TextFault) → Faults source from fault → IsFaultInside source from fault
+fault_inside : (source : List ℕ) (from : ℕ) (fault : TextFault) → HasFaultFrom source from fault → IsFaultInside source from fault
 fault_inside source from (Lex at) faults = faults
 fault_inside source from (Number at) faults = faults
 fault_inside source from (Syntax at) faults = absurd faults.fault_there
 fault_inside source from TooLong faults = absurd faults.fault_there
 
 -- and wherever it stands
-pub fault_behind : (source : List ℕ) (rest : List (Lexeme HoaKind)) (from : ℕ) (inside : Bool) (fault : TextFault) → IsRest inside rest → Faults source from fault → IsRefusedBehind source rest from (Text fault)
+pub fault_behind : (source : List ℕ) (rest : List (Lexeme HoaKind)) (from : ℕ) (inside : Bool) (fault : TextFault) → IsRest inside rest → HasFaultFrom source from fault → IsRefusedBehind source rest from (Text fault)
 fault_behind source rest from true fault behind faults = inr (inl (behind, fault_inside source from fault faults))
 fault_behind source rest from false fault behind faults = inl (behind, fault_outside source from fault faults)
 
@@ -87,7 +87,7 @@ module _ (bytes : List ℕ) (first : ℕ) (division : Division) (settled : Settl
       (cut.0, subst (λ ls. Cuts hoa_format (seen ++ more) 0 ls cut.0) (sym apart) cut.1)
 
   -- the first is the next
-  pub first_next : IsNext bytes first division settled.first seen lexemes items
+  pub first_next : IsNextDivision bytes first division settled.first seen lexemes items
   first_next = record {
     divided = next.divided;
     cuts = λ more. let cut = all_cut more in
@@ -99,7 +99,7 @@ module _ (bytes : List ℕ) (first : ℕ) (division : Division) (settled : Settl
 
   -- then the second is
   pub second_next : (after : Division) (all : List Item) → IsDivided seen (lexemes ++ lexemes_in seen settled.first) all after.begins after.inside → division.begins ≤ after.begins
-      → IsNext bytes first after settled.second seen (lexemes ++ lexemes_in seen settled.first) all
+      → IsNextDivision bytes first after settled.second seen (lexemes ++ lexemes_in seen settled.first) all
   second_next after all divided forward = record {
     divided = divided;
     cuts = all_cut;
@@ -132,7 +132,7 @@ divided_on seen rest lexemes items begins inside divided = record {
   cuts = λ more. subst (λ source. Cuts hoa_format source 0 divided.front begins) (sym (append_assoc seen rest more)) (divided.cuts (rest ++ more));
 }
 
-module _ (bytes : List ℕ) (first place : ℕ) (progress : Progress) (prior : List ℕ) (items : List Item) (inside : place < length bytes)
+module _ (bytes : List ℕ) (first place : ℕ) (progress : ReadProgress) (prior : List ℕ) (items : List Item) (inside : place < length bytes)
     (so_far : IsProgress bytes first place progress prior items) where
   -- one byte more
   pub one_more : (byte : ℕ) → byte ≡ get_or bytes place 0 → (prior ++ take place bytes) ++ byte ∷ [] ≡ prior ++ take (place + 1) bytes

@@ -18,7 +18,7 @@ use Rattle.omega_hoa.specs.Feeding.{IsDivided, IsRest}
 use Rattle.omega_automaton.specs.Automaton.{Description}
 use Rattle.omega_hoa.specs.Segment.{IsAutomatonOf, IsSegmentFault}
 use Rattle.omega_hoa.specs.Stream.{IsItemOf, IsOpen, IsSegment, IsStreamFault, Opens, is_end}
-use Rattle.omega_hoa.specs.dividing.Next.{IsNext, IsRefusedNow, IsWindow}
+use Rattle.omega_hoa.specs.dividing.Next.{IsNextDivision, IsRefusedNow, IsWindow}
 use Rattle.omega_hoa.specs.declared.division.Division.{Division}
 use Rattle.omega_hoa.specs.declared.item.Item.{Item}
 use Rattle.omega_hoa.specs.declared.item.Item.TheVariants.{Automaton as AutomatonItem, Aborted}
@@ -57,7 +57,7 @@ pub record IsBehind (source : List ℕ) (front rest : List (Lexeme HoaKind)) (be
   pub segment : Cuts hoa_format source begins (rest ++ last ∷ []) last.span.end
 
 module _ (exact : GoesOneWay hoa_format) (bytes : List ℕ) (first : ℕ) (division : Division) (token : PlacedToken) (seen : List ℕ) (lexemes : List (Lexeme HoaKind)) (items : List Item)
-    (next : IsNext bytes first division (Some token) seen lexemes items) where
+    (next : IsNextDivision bytes first division (Some token) seen lexemes items) where
   -- the tokens and the next, parted
   split_next : next.divided.front ++ (next.divided.rest ++ lexeme_in seen token ∷ []) ≡ lexemes ++ lexeme_in seen token ∷ []
   split_next = sym (append_assoc next.divided.front next.divided.rest (lexeme_in seen token ∷ [])) ∙ ap (λ all. all ++ lexeme_in seen token ∷ []) (sym next.divided.split)

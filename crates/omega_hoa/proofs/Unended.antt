@@ -4,18 +4,18 @@ use Rattle.omega_text.specs.Lexeme.{Lexeme}
 use Rattle.omega_text.specs.declared.hoa.kind.HoaKind.{HoaKind}
 use Rattle.omega_text.specs.declared.hoa.kind.HoaKind.TheVariants as kind
 use Rattle.std.specs.List.{AllByRecursion}
-use Rattle.omega_acc.specs.formula.Reading.{acc_spelled}
+use Rattle.omega_acc.specs.formula.Reading.{formula_symbols}
 use Rattle.omega_acc.specs.formula.Raw.{RawAccTree}
 use Rattle.omega_acc.specs.formula.Raw as acc
 use Rattle.omega_acc.specs.label.Raw.{RawLabelTree}
 use Rattle.omega_acc.specs.label.Raw as tree
-use Rattle.omega_acc.specs.label.Reading.{spelled}
+use Rattle.omega_acc.specs.label.Reading.{label_symbols}
 use Rattle.omega_acc.specs.Symbols as seen
-use Rattle.omega_raw.specs.Symbols.{Begins, Symbol, alias, formula, header, label, number, sign, text, word}
+use Rattle.omega_raw.specs.Symbols.{ReadsSymbol, AutomatonSymbol, alias, formula, header, label, number, sign, text, word}
 use Rattle.omega_hoa.specs.Stream.{NoneEnds, is_end}
 
 -- what a grammar sees of a token is no mark that ends a segment
-abbrev IsUnended : seen.Symbol → Type 0
+abbrev IsUnended : seen.ExpressionSymbol → Type 0
 IsUnended (seen.sign kind) = is_end kind ≡ false
 IsUnended symbol = Unit {0}
 
@@ -26,38 +26,38 @@ kind_unended kind.Abort value bytes unended = unended
 kind_unended kind value bytes unended = refl
 
 -- nor do tokens that are seen as such symbols
-tokens_unended : (tokens : List (Lexeme HoaKind)) → AllByRecursion IsUnended (map seen.symbol_of tokens) → NoneEnds tokens
+tokens_unended : (tokens : List (Lexeme HoaKind)) → AllByRecursion IsUnended (map seen.expression_symbol_of tokens) → NoneEnds tokens
 tokens_unended [] all = tt
 tokens_unended (lexeme ∷ tokens) all = (kind_unended lexeme.kind lexeme.value lexeme.text all.0, tokens_unended tokens all.1)
 
 -- both parts of symbols
-joined : (front back : List seen.Symbol) → AllByRecursion IsUnended front → AllByRecursion IsUnended back → AllByRecursion IsUnended (front ++ back)
+joined : (front back : List seen.ExpressionSymbol) → AllByRecursion IsUnended front → AllByRecursion IsUnended back → AllByRecursion IsUnended (front ++ back)
 joined [] back all more = more
 joined (symbol ∷ front) back all more = (all.0, joined front back all.1 more)
 
 -- a label has no such mark
-label_unended : (it : RawLabelTree) → AllByRecursion IsUnended (spelled it)
+label_unended : (it : RawLabelTree) → AllByRecursion IsUnended (label_symbols it)
 label_unended (tree.constant true) = (refl, tt)
 label_unended (tree.constant false) = (refl, tt)
 label_unended (tree.proposition value) = (tt, tt)
 label_unended (tree.alias bytes) = (tt, tt)
 label_unended (tree.negation part) = (refl, label_unended part)
-label_unended (tree.conjunction left right) = joined (spelled left) (seen.sign kind.And ∷ spelled right) (label_unended left) (refl, label_unended right)
-label_unended (tree.disjunction left right) = joined (spelled left) (seen.sign kind.Or ∷ spelled right) (label_unended left) (refl, label_unended right)
-label_unended (tree.group part) = (refl, joined (spelled part) (seen.sign kind.CloseParenthesis ∷ []) (label_unended part) (refl, tt))
+label_unended (tree.conjunction left right) = joined (label_symbols left) (seen.sign kind.And ∷ label_symbols right) (label_unended left) (refl, label_unended right)
+label_unended (tree.disjunction left right) = joined (label_symbols left) (seen.sign kind.Or ∷ label_symbols right) (label_unended left) (refl, label_unended right)
+label_unended (tree.group part) = (refl, joined (label_symbols part) (seen.sign kind.CloseParenthesis ∷ []) (label_unended part) (refl, tt))
 
 -- nor has an acceptance formula
-formula_unended : (it : RawAccTree) → AllByRecursion IsUnended (acc_spelled it)
+formula_unended : (it : RawAccTree) → AllByRecursion IsUnended (formula_symbols it)
 formula_unended (acc.constant true) = (refl, tt)
 formula_unended (acc.constant false) = (refl, tt)
 formula_unended (acc.atom name true set) = (tt, (refl, (refl, (tt, (refl, tt)))))
 formula_unended (acc.atom name false set) = (tt, (refl, (tt, (refl, tt))))
-formula_unended (acc.conjunction left right) = joined (acc_spelled left) (seen.sign kind.And ∷ acc_spelled right) (formula_unended left) (refl, formula_unended right)
-formula_unended (acc.disjunction left right) = joined (acc_spelled left) (seen.sign kind.Or ∷ acc_spelled right) (formula_unended left) (refl, formula_unended right)
-formula_unended (acc.group part) = (refl, joined (acc_spelled part) (seen.sign kind.CloseParenthesis ∷ []) (formula_unended part) (refl, tt))
+formula_unended (acc.conjunction left right) = joined (formula_symbols left) (seen.sign kind.And ∷ formula_symbols right) (formula_unended left) (refl, formula_unended right)
+formula_unended (acc.disjunction left right) = joined (formula_symbols left) (seen.sign kind.Or ∷ formula_symbols right) (formula_unended left) (refl, formula_unended right)
+formula_unended (acc.group part) = (refl, joined (formula_symbols part) (seen.sign kind.CloseParenthesis ∷ []) (formula_unended part) (refl, tt))
 
 -- a symbol of the grammar is no such mark
-abbrev pub MarksNone : Symbol → Type 0
+abbrev pub MarksNone : AutomatonSymbol → Type 0
 MarksNone (sign kind) = is_end kind ≡ false
 MarksNone symbol = Unit {0}
 
@@ -69,7 +69,7 @@ one_before : (tokens rest : List (Lexeme HoaKind)) (lexeme : Lexeme HoaKind) (ki
 one_before tokens rest lexeme kind is same none = (lexeme ∷ [], is, (ap is_end same ∙ none, tt))
 
 -- such a symbol's tokens do
-pub stands_before : (symbol : Symbol) (tokens rest : List (Lexeme HoaKind)) → MarksNone symbol → Begins symbol tokens rest → StandsBefore tokens rest
+pub stands_before : (symbol : AutomatonSymbol) (tokens rest : List (Lexeme HoaKind)) → MarksNone symbol → ReadsSymbol symbol tokens rest → StandsBefore tokens rest
 stands_before (number n) tokens rest none begins = one_before tokens rest begins.lexeme kind.Int begins.next begins.shows.0 refl
 stands_before (word bytes) tokens rest none begins = one_before tokens rest begins.lexeme kind.Identifier begins.next begins.shows.0 refl
 stands_before (header bytes) tokens rest none begins = one_before tokens rest begins.lexeme kind.HeaderName begins.next begins.shows.0 refl

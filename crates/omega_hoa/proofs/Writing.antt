@@ -4,8 +4,8 @@ use Rattle.omega_text.specs.Lexeme.{Lexeme}
 use Rattle.omega_text.specs.declared.hoa.kind.HoaKind.{HoaKind}
 use Rattle.omega_text.specs.declared.hoa.kind.HoaKind.TheVariants as kind
 use Rattle.omega_acc.specs.declared.formula.name.Parameter.TheVariants as parameter
-use Rattle.omega_raw.specs.Grammar.{ReadsAutomaton, conj_row, content_row, each, edge_row, int_row, item_row, joined_row, label_row, optional, parameter_row, sig_row, spelled, state_row, string_row, value_row, word_row}
-use Rattle.omega_raw.specs.Symbols.{Spells, Symbol, alias, formula, header, label, number, sign, text, word}
+use Rattle.omega_raw.specs.Grammar.{ReadsAutomaton, conj_row, content_row, each, edge_row, int_row, item_row, joined_row, label_row, optional_row, parameter_row, sig_row, automaton_symbols, state_row, string_row, value_row, word_row}
+use Rattle.omega_raw.specs.Symbols.{ReadsSymbols, AutomatonSymbol, alias, formula, header, label, number, sign, text, word}
 use Rattle.omega_raw.specs.declared.header_value.HeaderValue.TheVariants as value
 use Rattle.omega_raw.specs.declared.raw_automaton.RawAutomaton.{RawAutomaton}
 use Rattle.omega_raw.specs.declared.raw_item.RawItem.TheVariants as item
@@ -22,8 +22,8 @@ pub record EndsBefore (tokens rest : List (Lexeme HoaKind)) : Type 0 where
   pub unended : NoneEnds front
 
 -- whatever the symbols spell ends with `--END--`
-abbrev EndSpelled : List Symbol → Type 0
-EndSpelled symbols = (tokens rest : List (Lexeme HoaKind)) → Spells tokens symbols rest → EndsBefore tokens rest
+abbrev EndSpelled : List AutomatonSymbol → Type 0
+EndSpelled symbols = (tokens rest : List (Lexeme HoaKind)) → ReadsSymbols tokens symbols rest → EndsBefore tokens rest
 
 -- tokens of which none ends a segment, and others such
 none_ends : (front back : List (Lexeme HoaKind)) → NoneEnds front → NoneEnds back → NoneEnds (front ++ back)
@@ -31,10 +31,10 @@ none_ends [] back none more = more
 none_ends (lexeme ∷ front) back none more = (none.0, none_ends front back none.1 more)
 
 -- a symbol in front that is no mark of an end changes nothing
-behind : (symbol : Symbol) (symbols : List Symbol) → MarksNone symbol → EndSpelled symbols → EndSpelled (symbol ∷ symbols)
-behind symbol symbols none spelled tokens rest spells =
+behind : (symbol : AutomatonSymbol) (symbols : List AutomatonSymbol) → MarksNone symbol → EndSpelled symbols → EndSpelled (symbol ∷ symbols)
+behind symbol symbols none automaton_symbols tokens rest spells =
     let first = stands_before symbol tokens spells.middle none spells.front in
-    let then = spelled spells.middle rest spells.back in
+    let then = automaton_symbols spells.middle rest spells.back in
     record {
       front = first.0 ++ then.front;
       last = then.last;
@@ -44,87 +44,87 @@ behind symbol symbols none spelled tokens rest spells =
     }
 
 -- nor does a row
-abbrev KeepsEnd : {X : Type 0} → (X → List Symbol → List Symbol) → Type 0
-KeepsEnd {X} row = (it : X) (others : List Symbol) → EndSpelled others → EndSpelled (row it others)
+abbrev KeepsEnd : {X : Type 0} → (X → List AutomatonSymbol → List AutomatonSymbol) → Type 0
+KeepsEnd {X} row = (it : X) (others : List AutomatonSymbol) → EndSpelled others → EndSpelled (row it others)
 
-each_keeps : {X : Type 0} (row : X → List Symbol → List Symbol) → KeepsEnd row → KeepsEnd (each row)
-each_keeps row keeps [] others spelled = spelled
-each_keeps row keeps (first ∷ more) others spelled = keeps first (each row more others) (each_keeps row keeps more others spelled)
+each_keeps : {X : Type 0} (row : X → List AutomatonSymbol → List AutomatonSymbol) → KeepsEnd row → KeepsEnd (each row)
+each_keeps row keeps [] others automaton_symbols = automaton_symbols
+each_keeps row keeps (first ∷ more) others automaton_symbols = keeps first (each row more others) (each_keeps row keeps more others automaton_symbols)
 
-optional_keeps : {X : Type 0} (row : X → List Symbol → List Symbol) → KeepsEnd row → KeepsEnd (optional row)
-optional_keeps row keeps None others spelled = spelled
-optional_keeps row keeps (Some it) others spelled = keeps it others spelled
+optional_keeps : {X : Type 0} (row : X → List AutomatonSymbol → List AutomatonSymbol) → KeepsEnd row → KeepsEnd (optional_row row)
+optional_keeps row keeps None others automaton_symbols = automaton_symbols
+optional_keeps row keeps (Some it) others automaton_symbols = keeps it others automaton_symbols
 
 int_keeps : KeepsEnd int_row
-int_keeps n others spelled = behind (number n) others tt spelled
+int_keeps n others automaton_symbols = behind (number n) others tt automaton_symbols
 
 string_keeps : KeepsEnd string_row
-string_keeps bytes others spelled = behind (text bytes) others tt spelled
+string_keeps bytes others automaton_symbols = behind (text bytes) others tt automaton_symbols
 
 word_keeps : KeepsEnd word_row
-word_keeps bytes others spelled = behind (word bytes) others tt spelled
+word_keeps bytes others automaton_symbols = behind (word bytes) others tt automaton_symbols
 
 value_keeps : KeepsEnd value_row
-value_keeps (value.Boolean true) others spelled = behind (sign kind.True) others refl spelled
-value_keeps (value.Boolean false) others spelled = behind (sign kind.False) others refl spelled
-value_keeps (value.Number n) others spelled = behind (number n) others tt spelled
-value_keeps (value.Text bytes) others spelled = behind (text bytes) others tt spelled
-value_keeps (value.Word bytes) others spelled = behind (word bytes) others tt spelled
+value_keeps (value.Boolean true) others automaton_symbols = behind (sign kind.True) others refl automaton_symbols
+value_keeps (value.Boolean false) others automaton_symbols = behind (sign kind.False) others refl automaton_symbols
+value_keeps (value.Number n) others automaton_symbols = behind (number n) others tt automaton_symbols
+value_keeps (value.Text bytes) others automaton_symbols = behind (text bytes) others tt automaton_symbols
+value_keeps (value.Word bytes) others automaton_symbols = behind (word bytes) others tt automaton_symbols
 
 parameter_keeps : KeepsEnd parameter_row
-parameter_keeps (parameter.Boolean true) others spelled = behind (sign kind.True) others refl spelled
-parameter_keeps (parameter.Boolean false) others spelled = behind (sign kind.False) others refl spelled
-parameter_keeps (parameter.Number n) others spelled = behind (number n) others tt spelled
-parameter_keeps (parameter.Word bytes) others spelled = behind (word bytes) others tt spelled
+parameter_keeps (parameter.Boolean true) others automaton_symbols = behind (sign kind.True) others refl automaton_symbols
+parameter_keeps (parameter.Boolean false) others automaton_symbols = behind (sign kind.False) others refl automaton_symbols
+parameter_keeps (parameter.Number n) others automaton_symbols = behind (number n) others tt automaton_symbols
+parameter_keeps (parameter.Word bytes) others automaton_symbols = behind (word bytes) others tt automaton_symbols
 
 joined_keeps : KeepsEnd joined_row
-joined_keeps n others spelled = behind (sign kind.And) (number n ∷ others) refl (behind (number n) others tt spelled)
+joined_keeps n others automaton_symbols = behind (sign kind.And) (number n ∷ others) refl (behind (number n) others tt automaton_symbols)
 
 conj_keeps : KeepsEnd conj_row
-conj_keeps [] others spelled = spelled
-conj_keeps (first ∷ more) others spelled = behind (number first) (each joined_row more others) tt (each_keeps joined_row joined_keeps more others spelled)
+conj_keeps [] others automaton_symbols = automaton_symbols
+conj_keeps (first ∷ more) others automaton_symbols = behind (number first) (each joined_row more others) tt (each_keeps joined_row joined_keeps more others automaton_symbols)
 
 label_keeps : KeepsEnd label_row
-label_keeps tree others spelled =
+label_keeps tree others automaton_symbols =
     behind (sign kind.OpenBracket) (label tree ∷ sign kind.CloseBracket ∷ others) refl
-    (behind (label tree) (sign kind.CloseBracket ∷ others) tt (behind (sign kind.CloseBracket) others refl spelled))
+    (behind (label tree) (sign kind.CloseBracket ∷ others) tt (behind (sign kind.CloseBracket) others refl automaton_symbols))
 
 sig_keeps : KeepsEnd sig_row
-sig_keeps marks others spelled =
+sig_keeps marks others automaton_symbols =
     behind (sign kind.OpenBrace) (each int_row marks (sign kind.CloseBrace ∷ others)) refl
-    (each_keeps int_row int_keeps marks (sign kind.CloseBrace ∷ others) (behind (sign kind.CloseBrace) others refl spelled))
+    (each_keeps int_row int_keeps marks (sign kind.CloseBrace ∷ others) (behind (sign kind.CloseBrace) others refl automaton_symbols))
 
 content_keeps : KeepsEnd content_row
-content_keeps (item.States count) others spelled = behind (number count) others tt spelled
-content_keeps (item.Start states) others spelled = conj_keeps states others spelled
-content_keeps (item.Propositions count names) others spelled = behind (number count) (each string_row names others) tt (each_keeps string_row string_keeps names others spelled)
-content_keeps (item.Alias name definition) others spelled = behind (alias name) (label definition ∷ others) tt (behind (label definition) others tt spelled)
-content_keeps (item.Acceptance count tree) others spelled = behind (number count) (formula tree ∷ others) tt (behind (formula tree) others tt spelled)
-content_keeps (item.AccName name) others spelled = behind (word name.name) (each parameter_row name.parameters others) tt (each_keeps parameter_row parameter_keeps name.parameters others spelled)
-content_keeps (item.Tool first second) others spelled = behind (text first) (optional string_row second others) tt (optional_keeps string_row string_keeps second others spelled)
-content_keeps (item.Name bytes) others spelled = behind (text bytes) others tt spelled
-content_keeps (item.Properties words) others spelled = each_keeps word_row word_keeps words others spelled
-content_keeps (item.Unknown name values) others spelled = each_keeps value_row value_keeps values others spelled
+content_keeps (item.States count) others automaton_symbols = behind (number count) others tt automaton_symbols
+content_keeps (item.Start states) others automaton_symbols = conj_keeps states others automaton_symbols
+content_keeps (item.Propositions count names) others automaton_symbols = behind (number count) (each string_row names others) tt (each_keeps string_row string_keeps names others automaton_symbols)
+content_keeps (item.Alias name definition) others automaton_symbols = behind (alias name) (label definition ∷ others) tt (behind (label definition) others tt automaton_symbols)
+content_keeps (item.Acceptance count tree) others automaton_symbols = behind (number count) (formula tree ∷ others) tt (behind (formula tree) others tt automaton_symbols)
+content_keeps (item.AccName name) others automaton_symbols = behind (word name.name) (each parameter_row name.parameters others) tt (each_keeps parameter_row parameter_keeps name.parameters others automaton_symbols)
+content_keeps (item.Tool first second) others automaton_symbols = behind (text first) (optional_row string_row second others) tt (optional_keeps string_row string_keeps second others automaton_symbols)
+content_keeps (item.Name bytes) others automaton_symbols = behind (text bytes) others tt automaton_symbols
+content_keeps (item.Properties words) others automaton_symbols = each_keeps word_row word_keeps words others automaton_symbols
+content_keeps (item.Unknown name values) others automaton_symbols = each_keeps value_row value_keeps values others automaton_symbols
 
 item_keeps : KeepsEnd item_row
-item_keeps it others spelled = behind (header _) (content_row it others) tt (content_keeps it others spelled)
+item_keeps it others automaton_symbols = behind (header _) (content_row it others) tt (content_keeps it others automaton_symbols)
 
 edge_keeps : KeepsEnd edge_row
-edge_keeps edge others spelled =
-    optional_keeps label_row label_keeps edge.label (conj_row edge.targets (optional sig_row edge.marks others))
-    (conj_keeps edge.targets (optional sig_row edge.marks others) (optional_keeps sig_row sig_keeps edge.marks others spelled))
+edge_keeps edge others automaton_symbols =
+    optional_keeps label_row label_keeps edge.label (conj_row edge.targets (optional_row sig_row edge.marks others))
+    (conj_keeps edge.targets (optional_row sig_row edge.marks others) (optional_keeps sig_row sig_keeps edge.marks others automaton_symbols))
 
 state_keeps : KeepsEnd state_row
-state_keeps state others spelled =
+state_keeps state others automaton_symbols =
     let edges = each edge_row state.edges others in
-    let marks = optional sig_row state.marks edges in
-    let name = optional string_row state.name marks in
-    behind (header _) (optional label_row state.label (number state.number ∷ name)) tt
+    let marks = optional_row sig_row state.marks edges in
+    let name = optional_row string_row state.name marks in
+    behind (header _) (optional_row label_row state.label (number state.number ∷ name)) tt
     (optional_keeps label_row label_keeps state.label (number state.number ∷ name)
     (behind (number state.number) name tt
     (optional_keeps string_row string_keeps state.name marks
     (optional_keeps sig_row sig_keeps state.marks edges
-    (each_keeps edge_row edge_keeps state.edges others spelled)))))
+    (each_keeps edge_row edge_keeps state.edges others automaton_symbols)))))
 
 end_alone : EndSpelled (sign kind.End ∷ [])
 end_alone tokens rest spells = record {
@@ -146,7 +146,7 @@ written_ends raw =
     (each_keeps state_row state_keeps raw.states (sign kind.End ∷ []) end_alone)))
 
 -- so does the whole
-whole_ends : (raw : RawAutomaton) → EndSpelled (spelled raw)
+whole_ends : (raw : RawAutomaton) → EndSpelled (automaton_symbols raw)
 whole_ends raw =
     let states = each state_row raw.states (sign kind.End ∷ []) in
     behind (header _) (word raw.version ∷ each item_row raw.items (sign kind.Body ∷ states)) tt (written_ends raw)

@@ -9,9 +9,10 @@ use Rattle.omega_acc.specs.formula.Reading.{ReadsAcc}
 use Rattle.omega_acc.specs.formula.Raw.{RawAccTree}
 use Rattle.omega_acc.specs.label.Raw.{RawLabelTree}
 use Rattle.omega_acc.specs.label.Reading.{Reads}
-use Rattle.omega_acc.specs.Symbols.{EndsThere, seen_as, symbol_of}
-use Rattle.omega_raw.specs.Grammar.{spelled}
-use Rattle.omega_raw.specs.Symbols.{Begins, IsNext, Shows, Spells, Symbol, alias, between_quotes, formula, header, label, number, sign, text, without_last, word}
+use Rattle.omega_acc.specs.Symbols.{EndsThere, seen_as, expression_symbol_of}
+use Rattle.omega_raw.specs.Grammar.{automaton_symbols}
+use Rattle.omega_raw.specs.Symbols.{ReadsSymbol, IsNext, Shows, ReadsSymbols, AutomatonSymbol, alias, formula, header, label, number, sign, text, without_last, word}
+use Rattle.omega_text.specs.Forms.{between_quotes}
 use Rattle.omega_raw.specs.declared.raw_automaton.RawAutomaton.{RawAutomaton}
 use Rattle.omega_automaton.specs.Automaton.{Description}
 use Rattle.omega_hoa.specs.Segment.{IsAutomatonOf, IsNoRaw, IsRawOf, IsSegmentFault}
@@ -58,15 +59,15 @@ parted (one ∷ front) rest (other ∷ others) same =
     record { first = other ∷ parts.first; second = parts.second; split = ap (λ all. other ∷ all) parts.split; like = (same.0, parts.like); then_like = parts.then_like }
 
 -- their symbols are the same
-seen_same : (ones others : List (Lexeme HoaKind)) → AreLike ones others → map symbol_of ones ≡ map symbol_of others
+seen_same : (ones others : List (Lexeme HoaKind)) → AreLike ones others → map expression_symbol_of ones ≡ map expression_symbol_of others
 seen_same [] [] same = refl
 seen_same [] (other ∷ others) same = absurd same
 seen_same (one ∷ ones) [] same = absurd same
 seen_same (one ∷ ones) (other ∷ others) same =
-    ap (λ kind. seen_as kind one.value one.text ∷ map symbol_of ones) same.0.kind
-    ∙ ap (λ value. seen_as other.kind value one.text ∷ map symbol_of ones) same.0.value
-    ∙ ap (λ bytes. seen_as other.kind other.value bytes ∷ map symbol_of ones) same.0.bytes
-    ∙ ap (λ symbols. symbol_of other ∷ symbols) (seen_same ones others same.1)
+    ap (λ kind. seen_as kind one.value one.text ∷ map expression_symbol_of ones) same.0.kind
+    ∙ ap (λ value. seen_as other.kind value one.text ∷ map expression_symbol_of ones) same.0.value
+    ∙ ap (λ bytes. seen_as other.kind other.value bytes ∷ map expression_symbol_of ones) same.0.bytes
+    ∙ ap (λ symbols. expression_symbol_of other ∷ symbols) (seen_same ones others same.1)
 
 -- an expression ends before both or before none
 ends_same : (ones others : List (Lexeme HoaKind)) → AreLike ones others → EndsThere ones → EndsThere others
@@ -76,7 +77,7 @@ ends_same (one ∷ ones) [] same ends = absurd same
 ends_same (one ∷ ones) (other ∷ others) same ends = subst (λ kind. EndsThere (record other { kind = kind } ∷ others)) same.0.kind ends
 
 -- a token shows the symbols that the other shows
-shows_same : (symbol : Symbol) (one other : Lexeme HoaKind) → IsLike one other → Shows symbol one → Shows symbol other
+shows_same : (symbol : AutomatonSymbol) (one other : Lexeme HoaKind) → IsLike one other → Shows symbol one → Shows symbol other
 shows_same (number n) one other like shows = (sym like.kind ∙ shows.0, sym like.value ∙ shows.1)
 shows_same (word bytes) one other like shows = (sym like.kind ∙ shows.0, sym like.bytes ∙ shows.1)
 shows_same (header bytes) one other like shows = (sym like.kind ∙ shows.0, ap without_last (sym like.bytes) ∙ shows.1)
@@ -87,12 +88,12 @@ shows_same (label tree) one other like shows = shows
 shows_same (formula tree) one other like shows = shows
 
 -- the others are the symbol's too, and what is left of them is what is left but for its places
-record BeginsLike (symbol : Symbol) (others middle : List (Lexeme HoaKind)) : Type 0 where
+record BeginsLike (symbol : AutomatonSymbol) (others middle : List (Lexeme HoaKind)) : Type 0 where
   left : List (Lexeme HoaKind)
   like : AreLike middle left
-  begins : Begins symbol others left
+  begins : ReadsSymbol symbol others left
 
-next_same : (symbol : Symbol) (ones others middle : List (Lexeme HoaKind)) → AreLike ones others → IsNext symbol ones middle
+next_same : (symbol : AutomatonSymbol) (ones others middle : List (Lexeme HoaKind)) → AreLike ones others → IsNext symbol ones middle
     → (left : List (Lexeme HoaKind)) × AreLike middle left × IsNext symbol others left
 next_same symbol ones [] middle same next = absurd (subst (λ all. AreLike all []) next.next same)
 next_same symbol ones (other ∷ others) middle same next =
@@ -129,15 +130,15 @@ formula_same tree ones others middle same reads =
       },
     )
 
-begins_same : (symbol : Symbol) (ones others middle : List (Lexeme HoaKind)) → AreLike ones others → Begins symbol ones middle
-    → (left : List (Lexeme HoaKind)) × AreLike middle left × Begins symbol others left
+begins_same : (symbol : AutomatonSymbol) (ones others middle : List (Lexeme HoaKind)) → AreLike ones others → ReadsSymbol symbol ones middle
+    → (left : List (Lexeme HoaKind)) × AreLike middle left × ReadsSymbol symbol others left
 begins_same (label tree) ones others middle same begins = label_same tree ones others middle same begins
 begins_same (formula tree) ones others middle same begins = formula_same tree ones others middle same begins
 begins_same symbol ones others middle same begins = next_same symbol ones others middle same begins
 
 -- the others are those of the symbols too
-spells_same : (symbols : List Symbol) (ones others rest : List (Lexeme HoaKind)) → AreLike ones others → Spells ones symbols rest
-    → (left : List (Lexeme HoaKind)) × AreLike rest left × Spells others symbols left
+spells_same : (symbols : List AutomatonSymbol) (ones others rest : List (Lexeme HoaKind)) → AreLike ones others → ReadsSymbols ones symbols rest
+    → (left : List (Lexeme HoaKind)) × AreLike rest left × ReadsSymbols others symbols left
 spells_same [] ones others rest same spells = (others, subst (λ all. AreLike all others) spells same, refl)
 spells_same (symbol ∷ symbols) ones others rest same spells =
     let first = begins_same symbol ones others spells.middle same spells.front in
@@ -152,11 +153,11 @@ like_nothing (other ∷ left) same = absurd same
 -- they are those of the same automaton as it is written
 pub raw_same : (ones others : List (Lexeme HoaKind)) (raw : RawAutomaton) → AreLike ones others → IsRawOf ones raw → IsRawOf others raw
 raw_same ones others raw same written =
-    let spells = spells_same (spelled raw) ones others [] same written.spells in
+    let spells = spells_same (automaton_symbols raw) ones others [] same written.spells in
     record {
       items = written.items;
       states = written.states;
-      spells = subst (Spells others (spelled raw)) (like_nothing spells.0 spells.1) spells.2;
+      spells = subst (ReadsSymbols others (automaton_symbols raw)) (like_nothing spells.0 spells.1) spells.2;
     }
 
 -- or of none

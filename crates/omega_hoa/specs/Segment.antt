@@ -9,7 +9,7 @@ use Rattle.omega_acc.specs.Symbols.{IsSyntax}
 use Rattle.omega_raw.specs.Grammar.{ReadsAutomaton}
 use Rattle.omega_raw.specs.declared.raw_automaton.RawAutomaton.{RawAutomaton}
 use Rattle.omega_automaton.specs.Automaton.{Description}
-use Rattle.omega_automaton.specs.Faults.{fault_of}
+use Rattle.omega_automaton.specs.Faults.{automaton_fault_of}
 use Rattle.omega_automaton.specs.Meaning.{Means}
 
 -- the tokens, all of them, are those of an automaton as it is written
@@ -30,7 +30,7 @@ pub record IsAutomatonOf (lexemes : List (Lexeme HoaKind)) (automaton : Descript
 pub record HasMeaningFault (lexemes : List (Lexeme HoaKind)) (fault : AutomatonFault) : Type 0 where
   pub raw : RawAutomaton
   pub written : IsRawOf lexemes raw
-  pub has : fault_of raw ≡ Some fault
+  pub has : automaton_fault_of raw ≡ Some fault
 
 -- why the tokens are not an automaton's: 3 where no automaton is written so, else by what it means
 abbrev pub IsSegmentFault : List (Lexeme HoaKind) → Refusal → Type 0

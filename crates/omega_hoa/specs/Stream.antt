@@ -5,7 +5,7 @@ use Rattle.omega_text.specs.Cut.{Cuts, IsCut}
 use Rattle.omega_text.specs.Lexeme.{Lexeme}
 use Rattle.omega_text.specs.Limits.{most_text}
 use Rattle.omega_text.specs.hoa.Cut.{Ends, Follows}
-use Rattle.omega_text.specs.hoa.Fault.{Faults}
+use Rattle.omega_text.specs.hoa.Fault.{HasFaultFrom}
 use Rattle.omega_text.specs.hoa.Format.{hoa_format}
 use Rattle.omega_text.specs.declared.hoa.kind.HoaKind.{HoaKind}
 use Rattle.omega_text.specs.declared.hoa.kind.HoaKind.TheVariants.{HeaderName, End, Abort}
@@ -63,15 +63,15 @@ IsStream lexemes (item ∷ items) = (segment : List (Lexeme HoaKind)) × (rest :
 -- outside segments, a text goes on from a place with a fault of tokens, or with a token other than `HOA:`,
 -- where it is refused 3
 abbrev pub IsFaultOutside : List ℕ → ℕ → TextFault → Type 0
-IsFaultOutside source from (Lex at) = Faults source from (Lex at)
-IsFaultOutside source from (Number at) = Faults source from (Number at)
+IsFaultOutside source from (Lex at) = HasFaultFrom source from (Lex at)
+IsFaultOutside source from (Number at) = HasFaultFrom source from (Number at)
 IsFaultOutside source from (Syntax at) = (lexeme : Lexeme HoaKind) × Follows source from lexeme × (Opens lexeme → ⊥) × (at ≡ lexeme.span.start)
 IsFaultOutside source from TooLong = ⊥
 
 -- inside a segment, it goes on with a fault of tokens, or ends, and is refused 3 at its length
 abbrev pub IsFaultInside : List ℕ → ℕ → TextFault → Type 0
-IsFaultInside source from (Lex at) = Faults source from (Lex at)
-IsFaultInside source from (Number at) = Faults source from (Number at)
+IsFaultInside source from (Lex at) = HasFaultFrom source from (Lex at)
+IsFaultInside source from (Number at) = HasFaultFrom source from (Number at)
 IsFaultInside source from (Syntax at) = Ends source from × (at ≡ length source)
 IsFaultInside source from TooLong = ⊥
 

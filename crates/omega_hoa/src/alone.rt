@@ -6,7 +6,7 @@ ghost use Rattle.omega_text.specs.declared.refusal.text.TextFault.TheVariants.{S
 ghost use Rattle.omega_hoa.specs.Alone.{IsAutomatonRefusal, IsAutomatonText};
 ghost use Rattle.omega_hoa.specs.outlines.Outline.{HasFollowed, HasWhole};
 
-use crate::outline::{Outline, outline_of};
+use crate::outline::{TextOutline, outline_of};
 use crate::segment::{read_segment, read_written};
 use omega_automaton::Automaton;
 use omega_text::{HoaKind, MOST_TEXT, Refusal, TextFault, TokenKind};
@@ -27,12 +27,12 @@ pub fn read_one(alloc: Global, bytes: &[u8]) -> Result<Automaton, Refusal>
     }
     let outline = outline_of(bytes)?;
     match outline {
-        Outline::Whole { end } => read_whole(alloc, bytes, end),
-        Outline::Followed { end, next } => Err(read_followed(alloc, bytes, end, next)),
-        Outline::Empty => Err(syntax_fault(bytes.len())),
-        Outline::Open => Err(syntax_fault(bytes.len())),
-        Outline::Stray { at } => Err(syntax_fault(at)),
-        Outline::Aborted { at } => Err(syntax_fault(at)),
+        TextOutline::Whole { end } => read_whole(alloc, bytes, end),
+        TextOutline::Followed { end, next } => Err(read_followed(alloc, bytes, end, next)),
+        TextOutline::Empty => Err(syntax_fault(bytes.len())),
+        TextOutline::Open => Err(syntax_fault(bytes.len())),
+        TextOutline::Stray { at } => Err(syntax_fault(at)),
+        TextOutline::Aborted { at } => Err(syntax_fault(at)),
     }
 }
 

@@ -5,7 +5,7 @@ ghost use Rattle.omega_text.specs.declared.hoa.kind.HoaKind.{HoaKind};
 ghost use Rattle.omega_text.specs.declared.hoa.kind.HoaKind.TheVariants.{HeaderName};
 ghost use Rattle.omega_hoa.specs.Stream.{IsItemOf, is_end};
 ghost use Rattle.omega_hoa.specs.declared.item.Item.{Item};
-ghost use Rattle.omega_hoa.specs.dividing.Next.{AreRefusedAt, AreTakenAs, Extends, IsNext, IsNextSettledSome, IsNextSome, IsRefusedAt, IsTakenAs};
+ghost use Rattle.omega_hoa.specs.dividing.Next.{AreRefusedAt, AreTakenAs, Extends, IsNextDivision, IsNextSettledSome, IsNextSome, IsRefusedAt, IsTakenAs};
 
 use crate::item::Item;
 use crate::segment::read_segment;
@@ -114,7 +114,7 @@ fn item_at(
     requires next { IsNextSome bytes.now first division (Some token) }
     requires inside { division.inside ≡ true }
     ensures item { IfOk result (λ found. IfSome found (λ item. (seen : List ℕ) (lexemes : List (Lexeme HoaKind)) (items : List Item)
-        → (next : IsNext bytes.now first division (Some token) seen lexemes items) → IsItemOf (next.divided.rest ++ lexeme_in seen token ∷ []) item)) }
+        → (next : IsNextDivision bytes.now first division (Some token) seen lexemes items) → IsItemOf (next.divided.rest ++ lexeme_in seen token ∷ []) item)) }
     ensures none { IfOk result (λ found. IfNone found (is_end token.kind ≡ false)) }
     ensures refused { IfErr result (IsRefusedAt bytes.now first division (Some token)) }
 {

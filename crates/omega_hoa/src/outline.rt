@@ -11,7 +11,7 @@ use omega_text::{HoaKind, TextFault, Token, next_hoa_token};
 
 /// What the tokens of a text are that is to hold one segment, ended by `--END--`, seen from outside.
 #[derive(Clone, Copy, Debug, PartialEq, Eq)]
-pub(crate) enum Outline {
+pub(crate) enum TextOutline {
     /// There is none.
     Empty,
     /// The first, at this place, is another than `HOA:`.
@@ -27,11 +27,11 @@ pub(crate) enum Outline {
 }
 
 /// What the tokens of a text are: 1 or 2 at the least place of a fault. The bytes are looked at once.
-pub(crate) fn outline_of(source: &[u8]) -> Result<Outline, TextFault>
+pub(crate) fn outline_of(source: &[u8]) -> Result<TextOutline, TextFault>
     ensures outline { IfOk result (HasOutline source.now) }
     ensures fault { IfErr result (IsFault hoa_format source.now) }
 {
-    let mut outline = Outline::Empty;
+    let mut outline = TextOutline::Empty;
     let mut at = 0;
     while let Some(token) = next_hoa_token(source, at)? {
         at = token.span.end;
@@ -41,13 +41,13 @@ pub(crate) fn outline_of(source: &[u8]) -> Result<Outline, TextFault>
 }
 
 /// The outline of tokens with one more.
-fn with_token(outline: Outline, token: &Token<'_, HoaKind>) -> Outline
+fn with_token(outline: TextOutline, token: &Token<'_, HoaKind>) -> TextOutline
     ensures { (lexemes : List (Lexeme HoaKind)) → IsOutline lexemes outline → IsOutline (lexemes ++ lexeme_of token.now ∷ []) result }
 {
     match outline {
-        Outline::Empty => begun(token),
-        Outline::Open => gone_on(token),
-        Outline::Whole { end } => Outline::Followed {
+        TextOutline::Empty => begun(token),
+        TextOutline::Open => gone_on(token),
+        TextOutline::Whole { end } => TextOutline::Followed {
             end,
             next: token.span.start,
         },
@@ -56,29 +56,29 @@ fn with_token(outline: Outline, token: &Token<'_, HoaKind>) -> Outline
 }
 
 /// Behind no token.
-fn begun(token: &Token<'_, HoaKind>) -> Outline
+fn begun(token: &Token<'_, HoaKind>) -> TextOutline
     ensures { IsOutline (lexeme_of token.now ∷ []) result }
 {
     if opens(token.kind, token.text) {
-        Outline::Open
+        TextOutline::Open
     } else {
-        Outline::Stray {
+        TextOutline::Stray {
             at: token.span.start,
         }
     }
 }
 
 /// Inside a segment.
-fn gone_on(token: &Token<'_, HoaKind>) -> Outline
+fn gone_on(token: &Token<'_, HoaKind>) -> TextOutline
     ensures { (lexemes : List (Lexeme HoaKind)) → IsOpen lexemes → IsOutline (lexemes ++ lexeme_of token.now ∷ []) result }
 {
     match token.kind {
-        HoaKind::Abort => Outline::Aborted {
+        HoaKind::Abort => TextOutline::Aborted {
             at: token.span.start,
         },
-        HoaKind::End => Outline::Whole {
+        HoaKind::End => TextOutline::Whole {
             end: token.span.end,
         },
-        _ => Outline::Open,
+        _ => TextOutline::Open,
     }
 }

@@ -9,7 +9,7 @@ use std::alloc::Global;
 
 /// How far the bytes of a stream were read.
 #[derive(Clone, Copy, Debug, PartialEq, Eq)]
-pub(crate) struct Progress {
+pub(crate) struct ReadProgress {
     pub(crate) tokenizer: HoaTokenizer,
     pub(crate) division: Division,
 }
@@ -23,9 +23,9 @@ pub(crate) fn read_bytes(
     bytes: &[u8],
     first: usize,
     from: usize,
-    progress: Progress,
+    progress: ReadProgress,
     out: &mut Vec<Item>,
-) -> Result<Progress, Refusal>
+) -> Result<ReadProgress, Refusal>
     requires within { from ≤ length bytes.now }
     requires so_far { IsProgressSome bytes.now first from progress }
     ensures read { IfOk result (IsReadAs bytes.now first from (length bytes.now) progress out.old.items out.new.items) }
@@ -47,7 +47,7 @@ pub(crate) fn read_bytes(
 
 /// Inside a segment, reads the bytes from a place on, up to one that may end it or settles a fault;
 /// and that one's place.
-fn pass_inside(bytes: &[u8], first: usize, from: usize, progress: Progress) -> (Progress, usize)
+fn pass_inside(bytes: &[u8], first: usize, from: usize, progress: ReadProgress) -> (ReadProgress, usize)
     requires within { from ≤ length bytes.now }
     requires so_far { IsProgressSome bytes.now first from progress }
     ensures forward { from ≤ result.1 }
@@ -59,7 +59,7 @@ fn pass_inside(bytes: &[u8], first: usize, from: usize, progress: Progress) -> (
     }
     let mut tokenizer = progress.tokenizer;
     let end = tokenizer.pass(bytes, from);
-    let after = Progress {
+    let after = ReadProgress {
         tokenizer,
         division: progress.division,
     };
@@ -72,9 +72,9 @@ fn read_byte(
     bytes: &[u8],
     first: usize,
     place: usize,
-    progress: Progress,
+    progress: ReadProgress,
     out: &mut Vec<Item>,
-) -> Result<Progress, Refusal>
+) -> Result<ReadProgress, Refusal>
     requires within { place < length bytes.now }
     requires so_far { IsProgressSome bytes.now first place progress }
     ensures read { IfOk result (IsReadAs bytes.now first place (place + 1) progress out.old.items out.new.items) }
@@ -84,13 +84,13 @@ fn read_byte(
     let mut tokenizer = progress.tokenizer;
     let settled = tokenizer.step(bytes[place]);
     if is_nothing(&settled) {
-        return Ok(Progress {
+        return Ok(ReadProgress {
             tokenizer,
             division: progress.division,
         });
     }
     let division = take_all(alloc, bytes, first, progress.division, settled, out)?;
-    Ok(Progress {
+    Ok(ReadProgress {
         tokenizer,
         division,
     })

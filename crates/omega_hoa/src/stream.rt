@@ -9,7 +9,7 @@ ghost use Rattle.omega_hoa.specs.dividing.Next.{IsProgressSome, IsReadAs, IsRefu
 use crate::division::Division;
 use crate::ending::{end_inside, end_outside};
 use crate::item::Item;
-use crate::progress::{Progress, read_bytes};
+use crate::progress::{ReadProgress, read_bytes};
 use omega_text::{HoaKind, HoaTokenizer, MOST_TEXT, Refusal, TextFault, TokenKind};
 use std::alloc::Global;
 use std::marker::Model;
@@ -131,7 +131,7 @@ impl Stream {
             return Err(refusal);
         }
         let alloc = *self.bytes.allocator();
-        let progress = Progress {
+        let progress = ReadProgress {
             tokenizer: self.tokenizer,
             division: Division {
                 begins: self.begins,
@@ -174,9 +174,9 @@ fn read_piece(
     bytes: &[u8],
     first: usize,
     from: usize,
-    progress: Progress,
+    progress: ReadProgress,
     out: &mut Vec<Item>,
-) -> Result<Progress, Refusal>
+) -> Result<ReadProgress, Refusal>
     requires within { from ≤ length bytes.now }
     requires so_far { IsProgressSome bytes.now first from progress }
     ensures read { IfOk result (IsReadAs bytes.now first from (length bytes.now) progress out.old.items out.new.items) }

@@ -8,7 +8,7 @@ use Rattle.omega_game.specs.Bound.{bearers, bound_of, losing_priorities, product
 use Rattle.omega_game.specs.Game.{Node, priorities}
 use Rattle.omega_lift.specs.Measure.{Measure, AreEntries, IsMeasure, rank, zero_measure}
 use Rattle.omega_lift.specs.Allowance.{measure_at}
-use Rattle.omega_lift.specs.Run.{Lifts, IsRun, IsTable, zero_table}
+use Rattle.omega_lift.specs.Run.{Lifts, IsLiftingRun, IsTable, zero_table}
 use Rattle.omega_lift.proofs.Counting.{counted_once}
 use Rattle.omega_lift.proofs.Ranks.{rank_rises, rank_within}
 
@@ -45,7 +45,7 @@ lift_keeps_table nodes player table v x h l = record {
 
 pub run_keeps_table :
     (nodes : List Node) (player : Player) (old new : List Measure) (places : List ℕ)
-    → IsTable player (priorities nodes) old → IsRun nodes player old places new → IsTable player (priorities nodes) new
+    → IsTable player (priorities nodes) old → IsLiftingRun nodes player old places new → IsTable player (priorities nodes) new
 run_keeps_table nodes player old new [] h r = subst (IsTable player (priorities nodes)) r h
 run_keeps_table nodes player old new (v ∷ vs) h r =
     run_keeps_table nodes player (set old v r.0) new vs (lift_keeps_table nodes player old v r.0 h r.2) r.3
@@ -88,7 +88,7 @@ total_rank player bearing table = sum_by (rank player bearing) table
 -- each entry of a run adds at least one to the sum of the ranks
 pub run_adds_rank :
     (nodes : List Node) (player : Player) (old new : List Measure) (places : List ℕ)
-    → IsTable player (priorities nodes) old → IsRun nodes player old places new
+    → IsTable player (priorities nodes) old → IsLiftingRun nodes player old places new
     → total_rank player (priorities nodes) old + length places ≤ total_rank player (priorities nodes) new
 run_adds_rank nodes player old new [] h r = let e = ap (total_rank player (priorities nodes)) r in omega arith
 run_adds_rank nodes player old new (v ∷ vs) h r =
@@ -100,7 +100,7 @@ run_adds_rank nodes player old new (v ∷ vs) h r =
 
 pub run_is_bounded :
     (nodes : List Node) (player : Player) (places : List ℕ) (new : List Measure)
-    → IsRun nodes player (zero_table player (priorities nodes)) places new → length places ≤ bound_of player (priorities nodes)
+    → IsLiftingRun nodes player (zero_table player (priorities nodes)) places new → length places ≤ bound_of player (priorities nodes)
 run_is_bounded nodes player places new r =
     let bearing : List ℕ = priorities nodes in
     let first = zero_is_table player bearing in
@@ -116,7 +116,7 @@ run_is_bounded nodes player places new r =
 -- each time that a place is lifted its rank grows
 pub run_adds_rank_at :
     (nodes : List Node) (player : Player) (old new : List Measure) (places : List ℕ) (v : ℕ)
-    → IsTable player (priorities nodes) old → IsRun nodes player old places new
+    → IsTable player (priorities nodes) old → IsLiftingRun nodes player old places new
     → rank player (priorities nodes) (measure_at old v) + count_by (λ u. u == v) places ≤ rank player (priorities nodes) (measure_at new v)
 run_adds_rank_at nodes player old new [] v h r =
     let e = ap (λ table. rank player (priorities nodes) (measure_at table v)) r in omega arith
@@ -153,7 +153,7 @@ run_adds_rank_at nodes player old new (u ∷ us) v h r =
 
 pub place_is_lifted_boundedly :
     (nodes : List Node) (player : Player) (places : List ℕ) (new : List Measure) (v : ℕ)
-    → IsRun nodes player (zero_table player (priorities nodes)) places new
+    → IsLiftingRun nodes player (zero_table player (priorities nodes)) places new
     → count_by (λ u. u == v) places ≤ product_of player (priorities nodes)
 place_is_lifted_boundedly nodes player places new v r =
     let first = zero_is_table player (priorities nodes) in

@@ -11,7 +11,7 @@ use Rattle.omega_game.specs.Winning.{Chooses, InRegion, IsStrategy, IsWalk, IsCl
 use Rattle.omega_game.specs.Player.{loses}
 use Rattle.omega_lift.specs.Measure.{Measure, IsMeasure, IsAtMost, entries_from, zero_measure}
 use Rattle.omega_lift.specs.Allowance.{IsAllowanceOf, IsLiftValue, measure_at, suffices}
-use Rattle.omega_lift.specs.Run.{Lifts, IsRun, IsTable, zero_table}
+use Rattle.omega_lift.specs.Run.{Lifts, IsLiftingRun, IsTable, zero_table}
 use Rattle.omega_lift.proofs.Counting.{passing, passing_at_most, passing_below, passing_places, same_passing}
 use Rattle.omega_lift.proofs.Order.{compare_total, at_most_trans}
 use Rattle.omega_lift.proofs.Entries.{AreWithin, measure_from_within, zeros_least}
@@ -283,7 +283,7 @@ module _ (nodes : List Node) (player : Player) (choices : List (Option ℕ)) (ga
   -- nor does a run
   run_stays_below :
       (v : ℕ) (old new : List Measure) (places : List ℕ) → IsTable player (priorities nodes) old → Wins nodes player choices v
-      → IsRun nodes player old places new → IsBelowWitness v old → IsBelowWitness v new
+      → IsLiftingRun nodes player old places new → IsBelowWitness v old → IsBelowWitness v new
   run_stays_below v old new [] h wins r below = subst (λ table. IsBelowWitness v table) r below
   run_stays_below v old new (u ∷ us) h wins r below =
       run_stays_below v (set old u r.0) new us (lift_keeps_table nodes player old u r.0 h r.2) wins r.3
@@ -308,7 +308,7 @@ below_top_at_most (Some xs) ys h = refl
 -- no lifting run takes a node of the region to top
 pub region_stays_below_top :
     (nodes : List Node) (player : Player) (places : List ℕ) (table : List Measure) (v : ℕ)
-    → IsGame nodes → IsRun nodes player (zero_table player (priorities nodes)) places table
+    → IsGame nodes → IsLiftingRun nodes player (zero_table player (priorities nodes)) places table
     → InRegion nodes player v → IsSome (measure_at table v)
 region_stays_below_top nodes player places table v game r region =
     below_top_at_most (measure_at table v) (witness nodes player region.choices game region.strategy v)

@@ -9,7 +9,7 @@ use Rattle.omega_game.specs.Winning.{IsStrategy, Wins, InRegion}
 use Rattle.omega_lift.specs.Measure.{Measure, IsMeasure, IsAbove, IsAtMost, compare, compare_from, rank}
 use Rattle.omega_lift.specs.Allowance.{IsAllowance, measure_at, suffices}
 use Rattle.omega_lift.specs.Least.{least_sufficient}
-use Rattle.omega_lift.specs.Run.{IsRun, IsStable, IsTable, zero_table}
+use Rattle.omega_lift.specs.Run.{IsLiftingRun, IsStable, IsTable, zero_table}
 use Rattle.omega_lift.specs.Answer.{AreChoices}
 
 -- measures are in a total order
@@ -84,20 +84,20 @@ ZeroTablesAreTables = (player : Player) (priorities : List ℕ) → IsTable play
 abbrev pub RunsKeepTables : Type 0
 RunsKeepTables =
     (nodes : List Node) (player : Player) (old new : List Measure) (places : List ℕ)
-    → IsTable player (priorities nodes) old → IsRun nodes player old places new → IsTable player (priorities nodes) new
+    → IsTable player (priorities nodes) old → IsLiftingRun nodes player old places new → IsTable player (priorities nodes) new
 
 -- every lifting run from the all-zero table has at most as many entries as the bound
 abbrev pub RunsAreBounded : Type 0
 RunsAreBounded =
     (nodes : List Node) (player : Player) (places : List ℕ) (new : List Measure)
-    → IsRun nodes player (zero_table player (priorities nodes)) places new
+    → IsLiftingRun nodes player (zero_table player (priorities nodes)) places new
     → length places ≤ bound_of player (priorities nodes)
 
 -- and has each place at most as often as the product
 abbrev pub PlacesAreLiftedBoundedly : Type 0
 PlacesAreLiftedBoundedly =
     (nodes : List Node) (player : Player) (places : List ℕ) (new : List Measure) (v : ℕ)
-    → IsRun nodes player (zero_table player (priorities nodes)) places new
+    → IsLiftingRun nodes player (zero_table player (priorities nodes)) places new
     → count_by (λ u. u == v) places ≤ product_of player (priorities nodes)
 
 -- the choices of an answer are a strategy
@@ -125,5 +125,5 @@ WonPlacesAreInRegions =
 abbrev pub RegionsStayBelowTop : Type 0
 RegionsStayBelowTop =
     (nodes : List Node) (player : Player) (places : List ℕ) (table : List Measure) (v : ℕ)
-    → IsGame nodes → IsRun nodes player (zero_table player (priorities nodes)) places table
+    → IsGame nodes → IsLiftingRun nodes player (zero_table player (priorities nodes)) places table
     → InRegion nodes player v → IsSome (measure_at table v)

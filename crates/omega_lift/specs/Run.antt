@@ -19,10 +19,10 @@ abbrev pub IsStable : List Node → Player → List Measure → Type 0
 IsStable nodes player table = (v : ℕ) → v < length nodes → ¬ IsDue nodes player table v
 
 -- a lifting run from one table to another: each place of the list is lifted in the table so far
-abbrev pub IsRun : List Node → Player → List Measure → List ℕ → List Measure → Type 0
-IsRun nodes player old [] new = old ≡ new
-IsRun nodes player old (v ∷ vs) new =
-    (x : Measure) × (v < length nodes) × Lifts nodes player old v x × IsRun nodes player (slice_set old v x) vs new
+abbrev pub IsLiftingRun : List Node → Player → List Measure → List ℕ → List Measure → Type 0
+IsLiftingRun nodes player old [] new = old ≡ new
+IsLiftingRun nodes player old (v ∷ vs) new =
+    (x : Measure) × (v < length nodes) × Lifts nodes player old v x × IsLiftingRun nodes player (slice_set old v x) vs new
 
 -- the table in which every entry of every measure is 0
 abbrev pub zero_table : Player → List ℕ → List Measure

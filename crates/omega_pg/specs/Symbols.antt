@@ -1,26 +1,23 @@
 -- Tokens as grammars see them, and what makes a grammar a syntax of PGSolver's texts.
-use Rattle.std.specs.Prelude.{ℕ, ◌-◌, List, length, map, take, drop}
+use Rattle.std.specs.Prelude.{ℕ, List, map}
 use Rattle.omega_text.specs.Lexeme.{Lexeme}
 use Rattle.omega_text.specs.Syntax.{Syntax}
 use Rattle.omega_text.specs.pg.Format.{pg_format}
 use Rattle.omega_text.specs.declared.pg.kind.PgKind.{PgKind}
 use Rattle.omega_text.specs.declared.pg.kind.PgKind.TheVariants.{Comma, Name, Number, Parity, ParitySol, Semicolon}
+use Rattle.omega_text.specs.Forms.{between_quotes}
 
 -- a token as a grammar sees it: a number with its value, a name with its bytes, a word or a sign
-pub data Symbol : Type 0 where
-  number : ℕ → Symbol
-  parity : Symbol
-  paritysol : Symbol
-  semicolon : Symbol
-  comma : Symbol
-  name : List ℕ → Symbol
-
--- a text without the quote at either end
-abbrev pub between_quotes : List ℕ → List ℕ
-between_quotes text = take (length text - 2) (drop 1 text)
+pub data PgSymbol : Type 0 where
+  number : ℕ → PgSymbol
+  parity : PgSymbol
+  paritysol : PgSymbol
+  semicolon : PgSymbol
+  comma : PgSymbol
+  name : List ℕ → PgSymbol
 
 -- the symbol of a token of this kind, value and text
-abbrev pub symbol : PgKind → ℕ → List ℕ → Symbol
+abbrev pub symbol : PgKind → ℕ → List ℕ → PgSymbol
 symbol Number value text = number value
 symbol Parity value text = parity
 symbol ParitySol value text = paritysol
@@ -29,13 +26,13 @@ symbol Comma value text = comma
 symbol Name value text = name (between_quotes text)
 
 -- the symbol of a token
-abbrev pub symbol_of : Lexeme PgKind → Symbol
-symbol_of lexeme = symbol lexeme.kind lexeme.value lexeme.text
+abbrev pub pg_symbol_of : Lexeme PgKind → PgSymbol
+pg_symbol_of lexeme = symbol lexeme.kind lexeme.value lexeme.text
 
 -- the symbols of tokens
-abbrev pub symbols_of : List (Lexeme PgKind) → List Symbol
-symbols_of lexemes = map symbol_of lexemes
+abbrev pub symbols_of : List (Lexeme PgKind) → List PgSymbol
+symbols_of lexemes = map pg_symbol_of lexemes
 
 -- the syntax of PGSolver's texts that has this grammar
-abbrev pub pg_syntax : {Raw : Type 0} → (List Symbol → Raw → Type 0) → Syntax PgKind Symbol Raw
-pg_syntax Grammar = record { format = pg_format; symbol = symbol_of; spells = Grammar }
+abbrev pub pg_syntax : {Raw : Type 0} → (List PgSymbol → Raw → Type 0) → Syntax PgKind PgSymbol Raw
+pg_syntax Grammar = record { format = pg_format; symbol = pg_symbol_of; spells = Grammar }

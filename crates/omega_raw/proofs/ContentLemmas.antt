@@ -7,12 +7,12 @@ use Rattle.omega_acc.specs.label.Raw.{RawLabelTree}
 use Rattle.omega_acc.specs.declared.formula.name.AccName.{AccName}
 use Rattle.omega_acc.specs.declared.formula.name.Parameter.{Parameter}
 use Rattle.omega_raw.specs.steps.Contents.{FindsContent, FindsNamed, FindsUnknown, GivesContent, GivesNamed, GivesUnknown}
-use Rattle.omega_raw.specs.Grammar.{IsItem, content_row, header_named, item_header, item_name}
+use Rattle.omega_raw.specs.Grammar.{IsRawItem, content_row, header_named, item_header, item_name}
 use Rattle.omega_raw.specs.steps.Parts.{EndsItem}
 use Rattle.omega_raw.specs.steps.Reading.{Found}
-use Rattle.omega_raw.specs.Symbols.{FirstIs, Spells, Symbol, Tokens}
-use Rattle.omega_raw.specs.declared.header.name.Header.{Header}
-use Rattle.omega_raw.specs.declared.header.name.Header.TheVariants as named
+use Rattle.omega_raw.specs.Symbols.{FirstIs, ReadsSymbols, AutomatonSymbol, Tokens}
+use Rattle.omega_raw.specs.declared.header.name.HeaderKind.{HeaderKind}
+use Rattle.omega_raw.specs.declared.header.name.HeaderKind.TheVariants as named
 use Rattle.omega_raw.specs.declared.header_value.HeaderValue.{HeaderValue}
 use Rattle.omega_raw.specs.declared.raw_item.RawItem.{RawItem}
 use Rattle.omega_raw.specs.declared.raw_item.RawItem.TheVariants as item
@@ -69,12 +69,12 @@ of_unknown P holds (item.Unknown name values) is = holds name values
 of_unknown P holds other is = cc
 
 -- an item's name is that of its header
-pub header_named-item_name : (it : RawItem) → IsItem it → header_named (item_name it) ≡ item_header it
+pub header_named-item_name : (it : RawItem) → IsRawItem it → header_named (item_name it) ≡ item_header it
 header_named-item_name (item.Unknown name values) is = is
 header_named-item_name other is = refl
 
 -- the bytes are the name of the header, where it has one
-abbrev pub IsName : Header → List ℕ → Type 0
+abbrev pub IsName : HeaderKind → List ℕ → Type 0
 IsName named.States bytes = bytes ≡ codes "States"
 IsName named.Start bytes = bytes ≡ codes "Start"
 IsName named.Propositions bytes = bytes ≡ codes "AP"
@@ -87,13 +87,13 @@ IsName named.Properties bytes = bytes ≡ codes "properties"
 IsName other bytes = Unit {0}
 
 -- what holds in both cases holds of a choice
-choice : (P : Header → Type 0) (test : Bool) (one other : Header) → (test ≡ true → P one) → P other → P (if test then one else other)
+choice : (P : HeaderKind → Type 0) (test : Bool) (one other : HeaderKind) → (test ≡ true → P one) → P other → P (if test then one else other)
 choice P true one other holds otherwise = holds refl
 choice P false one other holds otherwise = otherwise
 
 name_is : (bytes : List ℕ) → IsName (header_named bytes) bytes
 name_is bytes =
-    let P : Header → Type 0 = λ header. IsName header bytes in
+    let P : HeaderKind → Type 0 = λ header. IsName header bytes in
     choice P (bytes_eq bytes (codes "HOA")) _ _ (λ e. tt)
     (choice P (bytes_eq bytes (codes "State")) _ _ (λ e. tt)
     (choice P (bytes_eq bytes (codes "States")) _ _ (λ e. (bytes_eq-Decides bytes (codes "States")).0 e)
@@ -107,7 +107,7 @@ name_is bytes =
     (choice P (bytes_eq bytes (codes "properties")) _ _ (λ e. (bytes_eq-Decides bytes (codes "properties")).0 e) tt))))))))))
 
 -- an item of a known header
-abbrev pub IsKnown : Header → Type 0
+abbrev pub IsKnown : HeaderKind → Type 0
 IsKnown named.Unknown = ⊥
 IsKnown other = Unit {0}
 
@@ -116,7 +116,7 @@ item_named (item.Unknown name values) bytes known is = absurd known
 item_named other bytes known is = sym is
 
 -- an item of the header that a name stands for has that name
-pub content_given : (header : Header) (name : List ℕ) (old new : Tokens) (result : Result RawItem Refusal) → header_named name ≡ header → IsKnown header
+pub content_given : (header : HeaderKind) (name : List ℕ) (old new : Tokens) (result : Result RawItem Refusal) → header_named name ≡ header → IsKnown header
     → GivesContent header old new result → GivesNamed name old new result
 content_given header name old new (Ok it) is known given = record {
   is = (item_named it name (subst IsKnown (sym given.is.0) known) (subst (λ h. IsName h name) (is ∙ sym given.is.0) (name_is name)), given.is.1);
@@ -125,7 +125,7 @@ content_given header name old new (Ok it) is known given = record {
 content_given header name old new (Err refusal) is known given = tt
 
 -- an item of a name has the header that it stands for
-pub content_found : (header : Header) (name : List ℕ) (old new : Tokens) (result : Result RawItem Refusal) → header_named name ≡ header
+pub content_found : (header : HeaderKind) (name : List ℕ) (old new : Tokens) (result : Result RawItem Refusal) → header_named name ≡ header
     → FindsContent header old new result → FindsNamed name old new result
 content_found header name old new result is finds it others rest called valid follow spells =
     finds it others rest (sym (header_named-item_name it valid) ∙ (ap header_named called ∙ is)) valid follow spells
@@ -140,7 +140,7 @@ unknown_found name old new result is finds it others rest called valid follow sp
     finds it others rest (record { unknown = sym (header_named-item_name it valid) ∙ (ap header_named called ∙ is); called = called }) valid follow spells
 
 -- no item has a name that stands for none
-pub none_found : (header : Header) (name : List ℕ) (old new : Tokens) (result : Result RawItem Refusal) → header_named name ≡ header
+pub none_found : (header : HeaderKind) (name : List ℕ) (old new : Tokens) (result : Result RawItem Refusal) → header_named name ≡ header
     → ((it : RawItem) → item_header it ≡ header → ⊥) → FindsNamed name old new result
 none_found header name old new result is none it others rest called valid follow spells =
     absurd (none it (sym (header_named-item_name it valid) ∙ (ap header_named called ∙ is)))
@@ -154,60 +154,60 @@ no_state (item.Unknown name values) is = cc
 no_state other is = cc
 
 pub start_found : (old new : Tokens) (result : Result RawItem Refusal)
-    → ((states : List ℕ) (others : List Symbol) (rest : Tokens) → IsItem (item.Start states) → FirstIs EndsItem others → Spells old (content_row (item.Start states) others) rest → Found result (item.Start states) (Spells new others rest))
+    → ((states : List ℕ) (others : List AutomatonSymbol) (rest : Tokens) → IsRawItem (item.Start states) → FirstIs EndsItem others → ReadsSymbols old (content_row (item.Start states) others) rest → Found result (item.Start states) (ReadsSymbols new others rest))
     → FindsContent named.Start old new result
 start_found old new result direct it others rest is valid follow spells =
-    let P : RawItem → Type 0 = λ it. IsItem it → Spells old (content_row it others) rest → Found result it (Spells new others rest) in
+    let P : RawItem → Type 0 = λ it. IsRawItem it → ReadsSymbols old (content_row it others) rest → Found result it (ReadsSymbols new others rest) in
     of_start P (λ states valid spells. direct states others rest valid follow spells) it is valid spells
 
 pub propositions_found : (old new : Tokens) (result : Result RawItem Refusal)
-    → ((count : ℕ) (names : List (List ℕ)) (others : List Symbol) (rest : Tokens) → FirstIs EndsItem others → Spells old (content_row (item.Propositions count names) others) rest → Found result (item.Propositions count names) (Spells new others rest))
+    → ((count : ℕ) (names : List (List ℕ)) (others : List AutomatonSymbol) (rest : Tokens) → FirstIs EndsItem others → ReadsSymbols old (content_row (item.Propositions count names) others) rest → Found result (item.Propositions count names) (ReadsSymbols new others rest))
     → FindsContent named.Propositions old new result
 propositions_found old new result direct it others rest is valid follow spells =
-    let P : RawItem → Type 0 = λ it. IsItem it → Spells old (content_row it others) rest → Found result it (Spells new others rest) in
+    let P : RawItem → Type 0 = λ it. IsRawItem it → ReadsSymbols old (content_row it others) rest → Found result it (ReadsSymbols new others rest) in
     of_propositions P (λ count names valid spells. direct count names others rest follow spells) it is valid spells
 
 pub alias_found : (old new : Tokens) (result : Result RawItem Refusal)
-    → ((name : List ℕ) (definition : RawLabelTree) (others : List Symbol) (rest : Tokens) → FirstIs EndsItem others → Spells old (content_row (item.Alias name definition) others) rest → Found result (item.Alias name definition) (Spells new others rest))
+    → ((name : List ℕ) (definition : RawLabelTree) (others : List AutomatonSymbol) (rest : Tokens) → FirstIs EndsItem others → ReadsSymbols old (content_row (item.Alias name definition) others) rest → Found result (item.Alias name definition) (ReadsSymbols new others rest))
     → FindsContent named.Alias old new result
 alias_found old new result direct it others rest is valid follow spells =
-    let P : RawItem → Type 0 = λ it. IsItem it → Spells old (content_row it others) rest → Found result it (Spells new others rest) in
+    let P : RawItem → Type 0 = λ it. IsRawItem it → ReadsSymbols old (content_row it others) rest → Found result it (ReadsSymbols new others rest) in
     of_alias P (λ name definition valid spells. direct name definition others rest follow spells) it is valid spells
 
 pub acceptance_found : (old new : Tokens) (result : Result RawItem Refusal)
-    → ((count : ℕ) (tree : RawAccTree) (others : List Symbol) (rest : Tokens) → FirstIs EndsItem others → Spells old (content_row (item.Acceptance count tree) others) rest → Found result (item.Acceptance count tree) (Spells new others rest))
+    → ((count : ℕ) (tree : RawAccTree) (others : List AutomatonSymbol) (rest : Tokens) → FirstIs EndsItem others → ReadsSymbols old (content_row (item.Acceptance count tree) others) rest → Found result (item.Acceptance count tree) (ReadsSymbols new others rest))
     → FindsContent named.Acceptance old new result
 acceptance_found old new result direct it others rest is valid follow spells =
-    let P : RawItem → Type 0 = λ it. IsItem it → Spells old (content_row it others) rest → Found result it (Spells new others rest) in
+    let P : RawItem → Type 0 = λ it. IsRawItem it → ReadsSymbols old (content_row it others) rest → Found result it (ReadsSymbols new others rest) in
     of_acceptance P (λ count tree valid spells. direct count tree others rest follow spells) it is valid spells
 
 pub acc_name_found : (old new : Tokens) (result : Result RawItem Refusal)
-    → ((name : AccName) (others : List Symbol) (rest : Tokens) → FirstIs EndsItem others → Spells old (content_row (item.AccName name) others) rest → Found result (item.AccName name) (Spells new others rest))
+    → ((name : AccName) (others : List AutomatonSymbol) (rest : Tokens) → FirstIs EndsItem others → ReadsSymbols old (content_row (item.AccName name) others) rest → Found result (item.AccName name) (ReadsSymbols new others rest))
     → FindsContent named.AccName old new result
 acc_name_found old new result direct it others rest is valid follow spells =
-    let P : RawItem → Type 0 = λ it. IsItem it → Spells old (content_row it others) rest → Found result it (Spells new others rest) in
+    let P : RawItem → Type 0 = λ it. IsRawItem it → ReadsSymbols old (content_row it others) rest → Found result it (ReadsSymbols new others rest) in
     of_acc_name P (λ name valid spells. direct name others rest follow spells) it is valid spells
 
 pub tool_found : (old new : Tokens) (result : Result RawItem Refusal)
-    → ((first : List ℕ) (second : Option (List ℕ)) (others : List Symbol) (rest : Tokens) → FirstIs EndsItem others → Spells old (content_row (item.Tool first second) others) rest → Found result (item.Tool first second) (Spells new others rest))
+    → ((first : List ℕ) (second : Option (List ℕ)) (others : List AutomatonSymbol) (rest : Tokens) → FirstIs EndsItem others → ReadsSymbols old (content_row (item.Tool first second) others) rest → Found result (item.Tool first second) (ReadsSymbols new others rest))
     → FindsContent named.Tool old new result
 tool_found old new result direct it others rest is valid follow spells =
-    let P : RawItem → Type 0 = λ it. IsItem it → Spells old (content_row it others) rest → Found result it (Spells new others rest) in
+    let P : RawItem → Type 0 = λ it. IsRawItem it → ReadsSymbols old (content_row it others) rest → Found result it (ReadsSymbols new others rest) in
     of_tool P (λ first second valid spells. direct first second others rest follow spells) it is valid spells
 
 pub properties_found : (old new : Tokens) (result : Result RawItem Refusal)
-    → ((words : List (List ℕ)) (others : List Symbol) (rest : Tokens) → FirstIs EndsItem others → Spells old (content_row (item.Properties words) others) rest → Found result (item.Properties words) (Spells new others rest))
+    → ((words : List (List ℕ)) (others : List AutomatonSymbol) (rest : Tokens) → FirstIs EndsItem others → ReadsSymbols old (content_row (item.Properties words) others) rest → Found result (item.Properties words) (ReadsSymbols new others rest))
     → FindsContent named.Properties old new result
 properties_found old new result direct it others rest is valid follow spells =
-    let P : RawItem → Type 0 = λ it. IsItem it → Spells old (content_row it others) rest → Found result it (Spells new others rest) in
+    let P : RawItem → Type 0 = λ it. IsRawItem it → ReadsSymbols old (content_row it others) rest → Found result it (ReadsSymbols new others rest) in
     of_properties P (λ words valid spells. direct words others rest follow spells) it is valid spells
 
 pub unknown_finds : (name : List ℕ) (old new : Tokens) (result : Result RawItem Refusal)
-    → ((called : List ℕ) (values : List HeaderValue) (others : List Symbol) (rest : Tokens) → called ≡ name → FirstIs EndsItem others
-    → Spells old (content_row (item.Unknown called values) others) rest → Found result (item.Unknown called values) (Spells new others rest))
+    → ((called : List ℕ) (values : List HeaderValue) (others : List AutomatonSymbol) (rest : Tokens) → called ≡ name → FirstIs EndsItem others
+    → ReadsSymbols old (content_row (item.Unknown called values) others) rest → Found result (item.Unknown called values) (ReadsSymbols new others rest))
     → FindsUnknown name old new result
 unknown_finds name old new result direct it others rest is valid follow spells =
-    let P : RawItem → Type 0 = λ it. item_name it ≡ name → Spells old (content_row it others) rest → Found result it (Spells new others rest) in
+    let P : RawItem → Type 0 = λ it. item_name it ≡ name → ReadsSymbols old (content_row it others) rest → Found result it (ReadsSymbols new others rest) in
     of_unknown P (λ called values same spells. direct called values others rest same follow spells) it is.unknown is.called spells
 
 pub acc_name_same : (name : List ℕ) (parameters : List Parameter) (it : AccName) → name ≡ it.name → parameters ≡ it.parameters

@@ -4,10 +4,10 @@ use Rattle.std.specs.Prelude.{IfSome}
 use Rattle.std.specs.List.{AllByRecursion}
 use Rattle.omega_raw.proofs.SpellingLemmas.{first_then}
 use Rattle.omega_raw.specs.steps.Beginnings.{edge_begun}
-use Rattle.omega_raw.specs.Grammar.{IsConj, IsEdge, conj_row, each, edge_row, optional, sig_row}
+use Rattle.omega_raw.specs.Grammar.{IsConj, IsRawEdge, conj_row, each, edge_row, optional_row, sig_row}
 use Rattle.omega_raw.specs.steps.Parts.{EndsConj, EndsEdge, EndsItem, EndsState, is_and, is_brace, is_bracket, is_edge, is_identifier, is_parameter, is_string, is_value}
 use Rattle.omega_raw.specs.steps.Reading.{EndsList, IsAny, IsKind}
-use Rattle.omega_raw.specs.Symbols.{FirstIs, Symbol}
+use Rattle.omega_raw.specs.Symbols.{FirstIs, AutomatonSymbol}
 use Rattle.omega_raw.specs.declared.raw_edge.RawEdge.{RawEdge}
 use Rattle.omega_text.specs.declared.hoa.kind.HoaKind.{HoaKind}
 use Rattle.omega_text.specs.declared.hoa.kind.HoaKind.TheVariants as kind
@@ -84,47 +84,47 @@ edge_ends kind.HeaderName is = tt
 edge_ends kind.End is = tt
 edge_ends other is = cc
 
-pub strings_end : (others : List Symbol) → FirstIs EndsItem others → FirstIs (EndsList is_string IsKind) others
+pub strings_end : (others : List AutomatonSymbol) → FirstIs EndsItem others → FirstIs (EndsList is_string IsKind) others
 strings_end others ends = first_then EndsItem (EndsList is_string IsKind) others item_string ends
 
-pub words_end : (others : List Symbol) → FirstIs EndsItem others → FirstIs (EndsList is_identifier IsKind) others
+pub words_end : (others : List AutomatonSymbol) → FirstIs EndsItem others → FirstIs (EndsList is_identifier IsKind) others
 words_end others ends = first_then EndsItem (EndsList is_identifier IsKind) others item_identifier ends
 
-pub parameters_end : (others : List Symbol) → FirstIs EndsItem others → FirstIs (EndsList is_parameter IsKind) others
+pub parameters_end : (others : List AutomatonSymbol) → FirstIs EndsItem others → FirstIs (EndsList is_parameter IsKind) others
 parameters_end others ends = first_then EndsItem (EndsList is_parameter IsKind) others item_parameter ends
 
-pub values_end : (others : List Symbol) → FirstIs EndsItem others → FirstIs (EndsList is_value IsKind) others
+pub values_end : (others : List AutomatonSymbol) → FirstIs EndsItem others → FirstIs (EndsList is_value IsKind) others
 values_end others ends = first_then EndsItem (EndsList is_value IsKind) others item_value ends
 
-pub start_ends : (others : List Symbol) → FirstIs EndsItem others → FirstIs EndsConj others
+pub start_ends : (others : List AutomatonSymbol) → FirstIs EndsItem others → FirstIs EndsConj others
 start_ends others ends = first_then EndsItem EndsConj others item_conj ends
 
-pub joined_end : (others : List Symbol) → FirstIs EndsConj others → FirstIs (EndsList is_and IsKind) others
+pub joined_end : (others : List AutomatonSymbol) → FirstIs EndsConj others → FirstIs (EndsList is_and IsKind) others
 joined_end others ends = first_then EndsConj (EndsList is_and IsKind) others conj_and ends
 
 -- no label follows the label of an edge
-pub guard_ends : (targets : List ℕ) (others : List Symbol) → IsConj targets → FirstIs (EndsList is_bracket IsKind) (conj_row targets others)
+pub guard_ends : (targets : List ℕ) (others : List AutomatonSymbol) → IsConj targets → FirstIs (EndsList is_bracket IsKind) (conj_row targets others)
 guard_ends [] others valid = absurd (omega arith)
 guard_ends (first ∷ more) others valid = (refl, tt)
 
 -- a sig or what follows an edge follows its targets
-pub targets_end : (marks : Option (List ℕ)) (others : List Symbol) → FirstIs EndsEdge others → FirstIs EndsConj (optional sig_row marks others)
+pub targets_end : (marks : Option (List ℕ)) (others : List AutomatonSymbol) → FirstIs EndsEdge others → FirstIs EndsConj (optional_row sig_row marks others)
 targets_end (Some marks) others ends = tt
 targets_end None others ends = first_then EndsEdge EndsConj others edge_conj ends
 
-pub sig_ends : (others : List Symbol) → FirstIs EndsEdge others → FirstIs (EndsList is_brace IsKind) others
+pub sig_ends : (others : List AutomatonSymbol) → FirstIs EndsEdge others → FirstIs (EndsList is_brace IsKind) others
 sig_ends others ends = first_then EndsEdge (EndsList is_brace IsKind) others edge_brace ends
 
-pub edges_end : (others : List Symbol) → FirstIs EndsState others → FirstIs (EndsList is_edge EndsEdge) others
+pub edges_end : (others : List AutomatonSymbol) → FirstIs EndsState others → FirstIs (EndsList is_edge EndsEdge) others
 edges_end others ends = first_then EndsState (EndsList is_edge EndsEdge) others state_edge ends
 
 -- an edge or what follows a state follows what stands before the edges
-pub edges_begin : (edges : List RawEdge) (others : List Symbol) → AllByRecursion IsEdge edges → FirstIs EndsState others → FirstIs EndsEdge (each edge_row edges others)
+pub edges_begin : (edges : List RawEdge) (others : List AutomatonSymbol) → AllByRecursion IsRawEdge edges → FirstIs EndsState others → FirstIs EndsEdge (each edge_row edges others)
 edges_begin [] others are ends = first_then (EndsList is_edge EndsEdge) EndsEdge others (λ kind holds. holds.1) (edges_end others ends)
 edges_begin (edge ∷ more) others are ends =
     first_then (λ kind. is_edge kind ≡ true) EndsEdge (edge_row edge (each edge_row more others)) edge_ends (edge_begun edge (each edge_row more others) are.0)
 
 -- no further name follows the name of a state
-pub name_ends : (marks : Option (List ℕ)) (others : List Symbol) → FirstIs EndsEdge others → FirstIs (EndsList is_string IsKind) (optional sig_row marks others)
+pub name_ends : (marks : Option (List ℕ)) (others : List AutomatonSymbol) → FirstIs EndsEdge others → FirstIs (EndsList is_string IsKind) (optional_row sig_row marks others)
 name_ends (Some marks) others ends = (refl, tt)
 name_ends None others ends = first_then EndsEdge (EndsList is_string IsKind) others edge_string ends

@@ -3,32 +3,32 @@ use Rattle.std.proofs.Common.{◌≡◌, Bool, true, false, List, [], ◌∷◌,
 use Rattle.std.specs.Prelude.{IfOk, IfSome}
 use Rattle.std.specs.List.{AllByRecursion}
 use Rattle.omega_raw.proofs.SpellingLemmas.{first_then, next_clash, next_is, next_may}
-use Rattle.omega_raw.specs.Grammar.{each, optional}
+use Rattle.omega_raw.specs.Grammar.{each, optional_row}
 use Rattle.omega_raw.specs.steps.Reading.{EndsList, Given, NextIs, NextMayBe}
-use Rattle.omega_raw.specs.Symbols.{FirstIs, Spells, Symbol, Tokens}
+use Rattle.omega_raw.specs.Symbols.{FirstIs, ReadsSymbols, AutomatonSymbol, Tokens}
 use Rattle.omega_text.specs.declared.hoa.kind.HoaKind.{HoaKind}
 use Rattle.omega_text.specs.declared.refusal.Refusal.{Refusal}
 
 -- parts that are still to be read, behind those that were read
-pub record Remains {X : Type 0} (Is : X → Type 0) (row : X → List Symbol → List Symbol) (values all : List X) (now : Tokens) (others : List Symbol) (rest : Tokens) : Type 0 where
+pub record Remains {X : Type 0} (Is : X → Type 0) (row : X → List AutomatonSymbol → List AutomatonSymbol) (values all : List X) (now : Tokens) (others : List AutomatonSymbol) (rest : Tokens) : Type 0 where
   pub more : List X
   pub joined : values ≡ all ++ more
   pub are : AllByRecursion Is more
-  pub spells : Spells now (each row more others) rest
+  pub spells : ReadsSymbols now (each row more others) rest
 
 -- these parts were read, and whatever was written goes through here
-pub record IsReadTo {X : Type 0} (Is : X → Type 0) (row : X → List Symbol → List Symbol) (Last : HoaKind → Type 0) (old : Tokens) (all : List X) (now : Tokens) : Type 0 where
+pub record IsReadTo {X : Type 0} (Is : X → Type 0) (row : X → List AutomatonSymbol → List AutomatonSymbol) (Last : HoaKind → Type 0) (old : Tokens) (all : List X) (now : Tokens) : Type 0 where
   pub given : Given (AllByRecursion Is) (each row) old now all
-  pub remains : (values : List X) (others : List Symbol) (rest : Tokens) → AllByRecursion Is values → FirstIs Last others → Spells old (each row values others) rest
+  pub remains : (values : List X) (others : List AutomatonSymbol) (rest : Tokens) → AllByRecursion Is values → FirstIs Last others → ReadsSymbols old (each row values others) rest
       → Remains Is row values all now others rest
 
 -- what is known of a part
-pub record IsPart {X : Type 0} (Is : X → Type 0) (row : X → List Symbol → List Symbol) (begins : HoaKind → Bool) (May : HoaKind → Type 0) : Type 0 where
-  pub begun : (it : X) (others : List Symbol) → Is it → FirstIs (λ kind. begins kind ≡ true) (row it others)
+pub record IsPart {X : Type 0} (Is : X → Type 0) (row : X → List AutomatonSymbol → List AutomatonSymbol) (begins : HoaKind → Bool) (May : HoaKind → Type 0) : Type 0 where
+  pub begun : (it : X) (others : List AutomatonSymbol) → Is it → FirstIs (λ kind. begins kind ≡ true) (row it others)
   pub follows : (kind : HoaKind) → begins kind ≡ true → May kind
 
 -- nothing was read
-pub read_none : {X : Type 0} (Is : X → Type 0) (row : X → List Symbol → List Symbol) (Last : HoaKind → Type 0) (old : Tokens) → IsReadTo Is row Last old [] old
+pub read_none : {X : Type 0} (Is : X → Type 0) (row : X → List AutomatonSymbol → List AutomatonSymbol) (Last : HoaKind → Type 0) (old : Tokens) → IsReadTo Is row Last old [] old
 read_none Is row Last old = record {
   given = record { is = tt; spells = λ others rest spells. spells };
   remains = λ values others rest are last spells. record { more = values; joined = refl; are = are; spells = spells };
@@ -38,27 +38,27 @@ AllByRecursion-snoc : {X : Type 0} (Is : X → Type 0) (all : List X) (it : X) �
 AllByRecursion-snoc Is [] it are is = (is, tt)
 AllByRecursion-snoc Is (first ∷ more) it are is = (are.0, AllByRecursion-snoc Is more it are.1 is)
 
-each-append : {X : Type 0} (row : X → List Symbol → List Symbol) (all more : List X) (others : List Symbol) → each row (all ++ more) others ≡ each row all (each row more others)
+each-append : {X : Type 0} (row : X → List AutomatonSymbol → List AutomatonSymbol) (all more : List X) (others : List AutomatonSymbol) → each row (all ++ more) others ≡ each row all (each row more others)
 each-append row [] more others = refl
 each-append row (first ∷ all) more others = ap (row first) (each-append row all more others)
 
 -- what follows a part in a list of parts
-pub follows_part : {X : Type 0} (Is : X → Type 0) (row : X → List Symbol → List Symbol) (begins : HoaKind → Bool) (May : HoaKind → Type 0) → IsPart Is row begins May
-    → (more : List X) (others : List Symbol) → AllByRecursion Is more → FirstIs (EndsList begins May) others → FirstIs May (each row more others)
+pub follows_part : {X : Type 0} (Is : X → Type 0) (row : X → List AutomatonSymbol → List AutomatonSymbol) (begins : HoaKind → Bool) (May : HoaKind → Type 0) → IsPart Is row begins May
+    → (more : List X) (others : List AutomatonSymbol) → AllByRecursion Is more → FirstIs (EndsList begins May) others → FirstIs May (each row more others)
 follows_part Is row begins May part [] others are last = first_then (EndsList begins May) May others (λ kind holds. holds.1) last
 follows_part Is row begins May part (next ∷ more) others are last =
     first_then (λ kind. begins kind ≡ true) May (row next (each row more others)) part.follows (part.begun next (each row more others) are.0)
 
 -- one part more was read
-pub read_more : {X : Type 0} (Is : X → Type 0) (row : X → List Symbol → List Symbol) (begins : HoaKind → Bool) (May : HoaKind → Type 0) → IsPart Is row begins May
+pub read_more : {X : Type 0} (Is : X → Type 0) (row : X → List AutomatonSymbol → List AutomatonSymbol) (begins : HoaKind → Bool) (May : HoaKind → Type 0) → IsPart Is row begins May
     → (old now new : Tokens) (all : List X) (it : X) → IsReadTo Is row (EndsList begins May) old all now → NextIs (λ kind. begins kind ≡ true) now
     → Given Is row now new it
-    → ((wanted : X) (others : List Symbol) (rest : Tokens) → Is wanted → FirstIs May others → Spells now (row wanted others) rest → (it ≡ wanted) × Spells new others rest)
+    → ((wanted : X) (others : List AutomatonSymbol) (rest : Tokens) → Is wanted → FirstIs May others → ReadsSymbols now (row wanted others) rest → (it ≡ wanted) × ReadsSymbols new others rest)
     → IsReadTo Is row (EndsList begins May) old (all ++ it ∷ []) new
 read_more {X} Is row begins May part old now new all it read next given finds =
-    let through : (values more : List X) (others : List Symbol) (rest : Tokens) → FirstIs (EndsList begins May) others → values ≡ all ++ more → AllByRecursion Is more
-    → Spells now (each row more others) rest → Remains Is row values (all ++ it ∷ []) new others rest =
-    λ values more others rest last joined are spells. (elim more as (λ more. values ≡ all ++ more → AllByRecursion Is more → Spells now (each row more others) rest → Remains Is row values (all ++ it ∷ []) new others rest) [
+    let through : (values more : List X) (others : List AutomatonSymbol) (rest : Tokens) → FirstIs (EndsList begins May) others → values ≡ all ++ more → AllByRecursion Is more
+    → ReadsSymbols now (each row more others) rest → Remains Is row values (all ++ it ∷ []) new others rest =
+    λ values more others rest last joined are spells. (elim more as (λ more. values ≡ all ++ more → AllByRecursion Is more → ReadsSymbols now (each row more others) rest → Remains Is row values (all ++ it ∷ []) new others rest) [
       | [] ↦ λ joined are spells. absurd (next_clash begins now next
           (next_may (λ kind. begins kind ≡ false) now (next_is (λ kind. begins kind ≡ false) others now rest (first_then (EndsList begins May) (λ kind. begins kind ≡ false) others (λ kind holds. holds.0) last) spells)))
       | wanted ∷ more ↦ λ joined are spells.
@@ -73,7 +73,7 @@ read_more {X} Is row begins May part old now new all it read next given finds =
     in record {
       given = record {
         is = AllByRecursion-snoc Is all it read.given.is given.is;
-        spells = λ others rest spells. subst (λ symbols. Spells old symbols rest) (sym (each-append row all (it ∷ []) others)) (read.given.spells (row it others) rest (given.spells others rest spells));
+        spells = λ others rest spells. subst (λ symbols. ReadsSymbols old symbols rest) (sym (each-append row all (it ∷ []) others)) (read.given.spells (row it others) rest (given.spells others rest spells));
       };
       remains = λ values others rest are last spells.
           let remains = read.remains values others rest are last spells in
@@ -81,14 +81,14 @@ read_more {X} Is row begins May part old now new all it read next given finds =
     }
 
 -- no part stands there any more
-pub read_all : {X : Type 0} (Is : X → Type 0) (row : X → List Symbol → List Symbol) (begins : HoaKind → Bool) (May : HoaKind → Type 0) → IsPart Is row begins May
+pub read_all : {X : Type 0} (Is : X → Type 0) (row : X → List AutomatonSymbol → List AutomatonSymbol) (begins : HoaKind → Bool) (May : HoaKind → Type 0) → IsPart Is row begins May
     → (old now : Tokens) (all : List X) → IsReadTo Is row (EndsList begins May) old all now → NextMayBe (λ kind. begins kind ≡ false) now
-    → (values : List X) (others : List Symbol) (rest : Tokens) → AllByRecursion Is values → FirstIs (EndsList begins May) others → Spells old (each row values others) rest
-    → (all ≡ values) × Spells now others rest
+    → (values : List X) (others : List AutomatonSymbol) (rest : Tokens) → AllByRecursion Is values → FirstIs (EndsList begins May) others → ReadsSymbols old (each row values others) rest
+    → (all ≡ values) × ReadsSymbols now others rest
 read_all {X} Is row begins May part old now all read may values others rest are last spells =
     let remains = read.remains values others rest are last spells in
-    let through : (more : List X) → values ≡ all ++ more → AllByRecursion Is more → Spells now (each row more others) rest → (all ≡ values) × Spells now others rest =
-    λ more. (elim more as (λ more. values ≡ all ++ more → AllByRecursion Is more → Spells now (each row more others) rest → (all ≡ values) × Spells now others rest) [
+    let through : (more : List X) → values ≡ all ++ more → AllByRecursion Is more → ReadsSymbols now (each row more others) rest → (all ≡ values) × ReadsSymbols now others rest =
+    λ more. (elim more as (λ more. values ≡ all ++ more → AllByRecursion Is more → ReadsSymbols now (each row more others) rest → (all ≡ values) × ReadsSymbols now others rest) [
       | [] ↦ λ joined are spells. (sym (joined ∙ append-nil all), spells)
       | wanted ∷ more ↦ λ joined are spells.
           absurd (next_clash begins now (next_is (λ kind. begins kind ≡ true) (row wanted (each row more others)) now rest (part.begun wanted (each row more others) are.0) spells) may)
@@ -96,15 +96,15 @@ read_all {X} Is row begins May part old now all read may values others rest are 
     in through remains.more remains.joined remains.are remains.spells
 
 -- a part that stands there is what remains, and so what is known of all such parts is known
-pub read_failed : {X : Type 0} (Is : X → Type 0) (row : X → List Symbol → List Symbol) (begins : HoaKind → Bool) (May : HoaKind → Type 0) → IsPart Is row begins May
+pub read_failed : {X : Type 0} (Is : X → Type 0) (row : X → List AutomatonSymbol → List AutomatonSymbol) (begins : HoaKind → Bool) (May : HoaKind → Type 0) → IsPart Is row begins May
     → (old now : Tokens) (all : List X) → IsReadTo Is row (EndsList begins May) old all now → NextIs (λ kind. begins kind ≡ true) now → (Wanted : Type 0)
-    → ((wanted : X) (others : List Symbol) (rest : Tokens) → Is wanted → FirstIs May others → Spells now (row wanted others) rest → Wanted)
-    → (values : List X) (others : List Symbol) (rest : Tokens) → AllByRecursion Is values → FirstIs (EndsList begins May) others → Spells old (each row values others) rest
+    → ((wanted : X) (others : List AutomatonSymbol) (rest : Tokens) → Is wanted → FirstIs May others → ReadsSymbols now (row wanted others) rest → Wanted)
+    → (values : List X) (others : List AutomatonSymbol) (rest : Tokens) → AllByRecursion Is values → FirstIs (EndsList begins May) others → ReadsSymbols old (each row values others) rest
     → Wanted
 read_failed {X} Is row begins May part old now all read next Wanted finds values others rest are last spells =
     let remains = read.remains values others rest are last spells in
-    let through : (more : List X) → AllByRecursion Is more → Spells now (each row more others) rest → Wanted =
-    λ more. (elim more as (λ more. AllByRecursion Is more → Spells now (each row more others) rest → Wanted) [
+    let through : (more : List X) → AllByRecursion Is more → ReadsSymbols now (each row more others) rest → Wanted =
+    λ more. (elim more as (λ more. AllByRecursion Is more → ReadsSymbols now (each row more others) rest → Wanted) [
       | [] ↦ λ are spells. absurd (next_clash begins now next
           (next_may (λ kind. begins kind ≡ false) now (next_is (λ kind. begins kind ≡ false) others now rest (first_then (EndsList begins May) (λ kind. begins kind ≡ false) others (λ kind holds. holds.0) last) spells)))
       | wanted ∷ more ↦ λ are spells. finds wanted (each row more others) rest are.0 (follows_part Is row begins May part more others are.1 last) spells
@@ -112,18 +112,18 @@ read_failed {X} Is row begins May part old now all read next Wanted finds values
     in through remains.more remains.are remains.spells
 
 -- no part stands there
-pub part_absent : {X : Type 0} (Is : X → Type 0) (row : X → List Symbol → List Symbol) (begins : HoaKind → Bool) (May : HoaKind → Type 0) → IsPart Is row begins May
+pub part_absent : {X : Type 0} (Is : X → Type 0) (row : X → List AutomatonSymbol → List AutomatonSymbol) (begins : HoaKind → Bool) (May : HoaKind → Type 0) → IsPart Is row begins May
     → (now : Tokens) → NextMayBe (λ kind. begins kind ≡ false) now
-    → (it : Option X) (others : List Symbol) (rest : Tokens) → IfSome it Is → Spells now (optional row it others) rest → (None ≡ it) × Spells now others rest
+    → (it : Option X) (others : List AutomatonSymbol) (rest : Tokens) → IfSome it Is → ReadsSymbols now (optional_row row it others) rest → (None ≡ it) × ReadsSymbols now others rest
 part_absent Is row begins May part now may None others rest is spells = (refl, spells)
 part_absent Is row begins May part now may (Some it) others rest is spells =
     absurd (next_clash begins now (next_is (λ kind. begins kind ≡ true) (row it others) now rest (part.begun it others is) spells) may)
 
 -- a part stands there, and so what is known of it is known
-pub part_there : {X : Type 0} (Is : X → Type 0) (row : X → List Symbol → List Symbol) (begins : HoaKind → Bool) (May : HoaKind → Type 0)
-    → (now : Tokens) → NextIs (λ kind. begins kind ≡ true) now → (Wanted : Option X → Type 0) (others : List Symbol) (rest : Tokens) → FirstIs (EndsList begins May) others
-    → ((it : X) → Is it → FirstIs May others → Spells now (row it others) rest → Wanted (Some it))
-    → (it : Option X) → IfSome it Is → Spells now (optional row it others) rest → Wanted it
+pub part_there : {X : Type 0} (Is : X → Type 0) (row : X → List AutomatonSymbol → List AutomatonSymbol) (begins : HoaKind → Bool) (May : HoaKind → Type 0)
+    → (now : Tokens) → NextIs (λ kind. begins kind ≡ true) now → (Wanted : Option X → Type 0) (others : List AutomatonSymbol) (rest : Tokens) → FirstIs (EndsList begins May) others
+    → ((it : X) → Is it → FirstIs May others → ReadsSymbols now (row it others) rest → Wanted (Some it))
+    → (it : Option X) → IfSome it Is → ReadsSymbols now (optional_row row it others) rest → Wanted it
 part_there Is row begins May now next Wanted others rest last finds None is spells =
     absurd (next_clash begins now next
     (next_may (λ kind. begins kind ≡ false) now (next_is (λ kind. begins kind ≡ false) others now rest (first_then (EndsList begins May) (λ kind. begins kind ≡ false) others (λ kind holds. holds.0) last) spells)))

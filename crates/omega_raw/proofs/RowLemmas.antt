@@ -4,10 +4,10 @@ use Rattle.omega_acc.specs.label.Raw.{RawLabelTree}
 use Rattle.std.specs.Prelude.{IfErr, IsErrAnd}
 use Rattle.omega_acc.specs.Depth.{IsMemory}
 use Rattle.omega_acc.specs.Symbols.{IsUnread}
-use Rattle.omega_raw.specs.Grammar.{IsConj, ReadsAutomaton, ReadsNone, conj_row}
+use Rattle.omega_raw.specs.Grammar.{IsConj, ReadsAutomaton, ReadsNoAutomaton, conj_row}
 use Rattle.omega_raw.specs.steps.Parts.{EndsConj}
-use Rattle.omega_raw.specs.steps.Reading.{Finds, Found, Given, IsRefusal}
-use Rattle.omega_raw.specs.Symbols.{FirstIs, Spells, Symbol, Tokens}
+use Rattle.omega_raw.specs.steps.Reading.{Finds, Found, Given, IsReadingRefusal}
+use Rattle.omega_raw.specs.Symbols.{FirstIs, ReadsSymbols, AutomatonSymbol, Tokens}
 use Rattle.omega_raw.specs.declared.raw_automaton.RawAutomaton.{RawAutomaton}
 use Rattle.omega_raw.specs.declared.raw_edge.RawEdge.{RawEdge}
 use Rattle.omega_raw.specs.declared.raw_item.RawItem.{RawItem}
@@ -42,14 +42,14 @@ of_conj P holds [] valid = absurd (omega arith)
 of_conj P holds (first ∷ more) valid = holds first more
 
 pub conj_found : (old new : Tokens) (result : Result (List ℕ) Refusal)
-    → ((first : ℕ) (more : List ℕ) (others : List Symbol) (rest : Tokens) → FirstIs EndsConj others → Spells old (conj_row (first ∷ more) others) rest → Found result (first ∷ more) (Spells new others rest))
+    → ((first : ℕ) (more : List ℕ) (others : List AutomatonSymbol) (rest : Tokens) → FirstIs EndsConj others → ReadsSymbols old (conj_row (first ∷ more) others) rest → Found result (first ∷ more) (ReadsSymbols new others rest))
     → Finds IsConj conj_row (FirstIs EndsConj) old new result
 conj_found old new result direct it others rest valid follow spells =
-    let P : List ℕ → Type 0 = λ it. Spells old (conj_row it others) rest → Found result it (Spells new others rest) in
+    let P : List ℕ → Type 0 = λ it. ReadsSymbols old (conj_row it others) rest → Found result it (ReadsSymbols new others rest) in
     of_conj P (λ first more spells. direct first more others rest follow spells) it valid spells
 
 pub conj_given : (old new : Tokens) (states : List ℕ) (first : ℕ) (more : List ℕ) → states ≡ first ∷ more
-    → ((others : List Symbol) (rest : Tokens) → Spells new others rest → Spells old (conj_row (first ∷ more) others) rest) → Given IsConj conj_row old new states
+    → ((others : List AutomatonSymbol) (rest : Tokens) → ReadsSymbols new others rest → ReadsSymbols old (conj_row (first ∷ more) others) rest) → Given IsConj conj_row old new states
 conj_given old new states first more is spells =
     let given : Given IsConj conj_row old new (first ∷ more) = record { is = omega arith; spells = spells } in
     subst (Given IsConj conj_row old new) (sym is) given
@@ -60,8 +60,8 @@ error_is (Ok value) said Wanted is follows = tt
 error_is (Err refusal) said Wanted is follows = follows refusal is
 
 -- a refusal that is want of memory wherever an automaton was written
-pub read_refused : (tokens : Tokens) (refusal : Refusal) → IsRefusal refusal → ((raw : RawAutomaton) (rest : Tokens) → ReadsAutomaton tokens raw rest → IsMemory refusal)
-    → IsUnread (ReadsNone tokens) refusal
+pub read_refused : (tokens : Tokens) (refusal : Refusal) → IsReadingRefusal refusal → ((raw : RawAutomaton) (rest : Tokens) → ReadsAutomaton tokens raw rest → IsMemory refusal)
+    → IsUnread (ReadsNoAutomaton tokens) refusal
 read_refused tokens (Text (Syntax at)) is memory = memory
 read_refused tokens (Text fault) is memory = absurd is
 read_refused tokens Memory is memory = tt

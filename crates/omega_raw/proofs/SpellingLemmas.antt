@@ -8,7 +8,7 @@ use Rattle.omega_acc.specs.formula.Raw.{RawAccTree}
 use Rattle.omega_acc.specs.label.Reading.{Reads}
 use Rattle.omega_acc.specs.label.Raw.{RawLabelTree}
 use Rattle.omega_raw.specs.steps.Reading.{Found, NextIs, NextIsNot, NextMayBe}
-use Rattle.omega_raw.specs.Symbols.{FirstIs, IsNext, Shows, Spells, Splits, Symbol, Tokens, alias, formula, header, label, number, sign, text, word}
+use Rattle.omega_raw.specs.Symbols.{FirstIs, IsNext, Shows, ReadsSymbols, Splits, AutomatonSymbol, Tokens, alias, formula, header, label, number, sign, text, word}
 use Rattle.omega_text.specs.Lexeme.{Lexeme}
 use Rattle.omega_text.specs.declared.hoa.kind.HoaKind.{HoaKind}
 use Rattle.omega_text.specs.declared.hoa.kind.HoaKind.TheVariants as kind
@@ -17,16 +17,16 @@ use Rattle.omega_text.specs.declared.refusal.Refusal.TheVariants.{Memory, Text}
 use Rattle.omega_text.specs.declared.refusal.text.TextFault.TheVariants.{Syntax}
 
 -- the token that is taken shows the symbol, and those that are left spell the others
-pub token_taken : (symbol : Symbol) (others : List Symbol) (rest old new : Tokens) (lexeme : Lexeme HoaKind) → old ≡ lexeme ∷ new
-    → Splits (λ middle. IsNext symbol old middle) (λ middle. Spells middle others rest) → Shows symbol lexeme × Spells new others rest
+pub token_taken : (symbol : AutomatonSymbol) (others : List AutomatonSymbol) (rest old new : Tokens) (lexeme : Lexeme HoaKind) → old ≡ lexeme ∷ new
+    → Splits (λ middle. IsNext symbol old middle) (λ middle. ReadsSymbols middle others rest) → Shows symbol lexeme × ReadsSymbols new others rest
 token_taken symbol others rest old new lexeme took splits =
     let e : splits.front.lexeme ∷ splits.middle ≡ lexeme ∷ new = sym splits.front.next ∙ took in
     let one : splits.front.lexeme ≡ lexeme = cc in
     let left : splits.middle ≡ new = cc in
-    (subst (Shows symbol) one splits.front.shows, subst (λ tokens. Spells tokens others rest) left splits.back)
+    (subst (Shows symbol) one splits.front.shows, subst (λ tokens. ReadsSymbols tokens others rest) left splits.back)
 
 -- a token of a kind that is not there shows nothing
-pub token_missing : (symbol : Symbol) (old middle : Tokens) (kind : HoaKind) → NextIsNot kind old → IsNext symbol old middle
+pub token_missing : (symbol : AutomatonSymbol) (old middle : Tokens) (kind : HoaKind) → NextIsNot kind old → IsNext symbol old middle
     → ((lexeme : Lexeme HoaKind) → Shows symbol lexeme → lexeme.kind ≡ kind) → ⊥
 token_missing symbol [] middle kind missing next shown = let e : [] ≡ next.lexeme ∷ middle = next.next in cc
 token_missing symbol (lexeme ∷ tokens) middle kind missing next shown =
@@ -35,13 +35,13 @@ token_missing symbol (lexeme ∷ tokens) middle kind missing next shown =
     missing (shown lexeme (subst (Shows symbol) one next.shows))
 
 -- what holds of the kind of a token holds of the next one
-next_of : (Holds : HoaKind → Type 0) (symbol : Symbol) (tokens middle : Tokens) (kind : HoaKind) → Holds kind → IsNext symbol tokens middle
+next_of : (Holds : HoaKind → Type 0) (symbol : AutomatonSymbol) (tokens middle : Tokens) (kind : HoaKind) → Holds kind → IsNext symbol tokens middle
     → ((lexeme : Lexeme HoaKind) → Shows symbol lexeme → lexeme.kind ≡ kind) → NextIs Holds tokens
 next_of Holds symbol tokens middle kind holds next shown =
     subst (NextIs Holds) (sym next.next) (subst Holds (sym (shown next.lexeme next.shows)) holds)
 
 -- the first symbol says of which kind the next token is
-pub next_is : (Holds : HoaKind → Type 0) (symbols : List Symbol) (tokens rest : Tokens) → FirstIs Holds symbols → Spells tokens symbols rest → NextIs Holds tokens
+pub next_is : (Holds : HoaKind → Type 0) (symbols : List AutomatonSymbol) (tokens rest : Tokens) → FirstIs Holds symbols → ReadsSymbols tokens symbols rest → NextIs Holds tokens
 next_is Holds [] tokens rest first spells = absurd first
 next_is Holds (number n ∷ others) tokens rest first spells = next_of Holds (number n) tokens spells.middle kind.Int first spells.front (λ lexeme shows. shows.0)
 next_is Holds (word bytes ∷ others) tokens rest first spells = next_of Holds (word bytes) tokens spells.middle kind.Identifier first spells.front (λ lexeme shows. shows.0)
@@ -53,7 +53,7 @@ next_is Holds (label tree ∷ others) tokens rest first spells = absurd first
 next_is Holds (formula tree ∷ others) tokens rest first spells = absurd first
 
 -- what is said of the first symbol's kind may be weakened
-pub first_then : (Holds More : HoaKind → Type 0) (symbols : List Symbol) → ((kind : HoaKind) → Holds kind → More kind) → FirstIs Holds symbols → FirstIs More symbols
+pub first_then : (Holds More : HoaKind → Type 0) (symbols : List AutomatonSymbol) → ((kind : HoaKind) → Holds kind → More kind) → FirstIs Holds symbols → FirstIs More symbols
 first_then Holds More [] then first = absurd first
 first_then Holds More (number n ∷ others) then first = then kind.Int first
 first_then Holds More (word bytes ∷ others) then first = then kind.Identifier first
@@ -75,7 +75,7 @@ next_may Holds [] is = absurd is
 next_may Holds (lexeme ∷ tokens) is = is
 
 -- no more tokens are left than there were
-shorter_next : (symbol : Symbol) (tokens rest : Tokens) → IsNext symbol tokens rest → length rest < length tokens
+shorter_next : (symbol : AutomatonSymbol) (tokens rest : Tokens) → IsNext symbol tokens rest → length rest < length tokens
 shorter_next symbol tokens rest next = subst (λ all. length rest < length all) (sym next.next) (omega arith)
 
 shorter_label : (tree : RawLabelTree) (tokens rest : Tokens) → Reads tokens tree rest → length rest ≤ length tokens
@@ -84,7 +84,7 @@ shorter_label tree tokens rest reads = subst (λ all. length rest ≤ length all
 shorter_formula : (tree : RawAccTree) (tokens rest : Tokens) → ReadsAcc tokens tree rest → length rest ≤ length tokens
 shorter_formula tree tokens rest reads = subst (λ all. length rest ≤ length all) (sym reads.split) (omega (arith, length-append reads.front rest))
 
-pub no_longer : (symbols : List Symbol) (tokens rest : Tokens) → Spells tokens symbols rest → length rest ≤ length tokens
+pub no_longer : (symbols : List AutomatonSymbol) (tokens rest : Tokens) → ReadsSymbols tokens symbols rest → length rest ≤ length tokens
 no_longer [] tokens rest spells = subst (λ all. length rest ≤ length all) (sym spells) (omega arith)
 no_longer (number n ∷ others) tokens rest spells = let a = shorter_next _ tokens spells.middle spells.front in let b = no_longer others spells.middle rest spells.back in omega (arith, a, b)
 no_longer (word bytes ∷ others) tokens rest spells = let a = shorter_next _ tokens spells.middle spells.front in let b = no_longer others spells.middle rest spells.back in omega (arith, a, b)
@@ -96,7 +96,7 @@ no_longer (label tree ∷ others) tokens rest spells = let a = shorter_label tre
 no_longer (formula tree ∷ others) tokens rest spells = let a = shorter_formula tree tokens spells.middle spells.front in let b = no_longer others spells.middle rest spells.back in omega (arith, a, b)
 
 -- where the first symbol is a token, fewer are left
-pub shorter : (Holds : HoaKind → Type 0) (symbols : List Symbol) (tokens rest : Tokens) → FirstIs Holds symbols → Spells tokens symbols rest → length rest < length tokens
+pub shorter : (Holds : HoaKind → Type 0) (symbols : List AutomatonSymbol) (tokens rest : Tokens) → FirstIs Holds symbols → ReadsSymbols tokens symbols rest → length rest < length tokens
 shorter Holds [] tokens rest first spells = absurd first
 shorter Holds (number n ∷ others) tokens rest first spells = let a = shorter_next _ tokens spells.middle spells.front in let b = no_longer others spells.middle rest spells.back in omega (arith, a, b)
 shorter Holds (word bytes ∷ others) tokens rest first spells = let a = shorter_next _ tokens spells.middle spells.front in let b = no_longer others spells.middle rest spells.back in omega (arith, a, b)
@@ -121,7 +121,7 @@ unread_memory None never_none Memory is = tt
 unread_memory None never_none refusal is = absurd is
 
 -- where a token of a kind is refused and a symbol of that kind was written, memory is wanting
-pub missing_memory : (symbol : Symbol) (kind : HoaKind) (old : Tokens) (Back : Tokens → Type 0) → ((lexeme : Lexeme HoaKind) → Shows symbol lexeme → lexeme.kind ≡ kind)
+pub missing_memory : (symbol : AutomatonSymbol) (kind : HoaKind) (old : Tokens) (Back : Tokens → Type 0) → ((lexeme : Lexeme HoaKind) → Shows symbol lexeme → lexeme.kind ≡ kind)
     → (refusal : Refusal) → IsUnread (NextIsNot kind old) refusal → Splits (λ middle. IsNext symbol old middle) Back → IsMemory refusal
 missing_memory symbol kind old Back shown refusal unread splits =
     unread_memory (NextIsNot kind old) (λ missing. token_missing symbol old splits.middle kind missing splits.front shown) refusal unread
@@ -130,9 +130,9 @@ missing_memory symbol kind old Back shown refusal unread splits =
 pub expression_found : {X : Type 0} (R : Tokens → X → Tokens → Type 0)
     → ((tokens : Tokens) (one other : X) (rest left : Tokens) → R tokens one rest → R tokens other left → (one ≡ other) × (rest ≡ left))
     → (result : Result X Refusal) (old new : Tokens) → IfOk result (λ it. R old it new) → IfErr result (IsUnread ((it : X) (rest : Tokens) → R old it rest → ⊥))
-    → (wanted : X) (others : List Symbol) (rest : Tokens) → Splits (λ middle. R old wanted middle) (λ middle. Spells middle others rest) → Found result wanted (Spells new others rest)
+    → (wanted : X) (others : List AutomatonSymbol) (rest : Tokens) → Splits (λ middle. R old wanted middle) (λ middle. ReadsSymbols middle others rest) → Found result wanted (ReadsSymbols new others rest)
 expression_found R one (Ok it) old new reads none wanted others rest splits =
     let same = one old it wanted new splits.middle reads splits.front in
-    (same.0, subst (λ tokens. Spells tokens others rest) (sym same.1) splits.back)
+    (same.0, subst (λ tokens. ReadsSymbols tokens others rest) (sym same.1) splits.back)
 expression_found R one (Err refusal) old new reads none wanted others rest splits =
     unread_memory _ (λ none_read. none_read wanted splits.middle splits.front) refusal none

@@ -1,6 +1,6 @@
 -- What the grammar of automata is written in: tokens with what they say,
 -- and the expressions of labels and of acceptance.
-use Rattle.std.specs.Prelude.{◌≡◌, ℕ, ◌-◌, List, [], ◌∷◌, length, take, drop}
+use Rattle.std.specs.Prelude.{◌≡◌, ℕ, ◌-◌, List, [], ◌∷◌, length, take}
 use Rattle.omega_acc.specs.formula.Raw.{RawAccTree}
 use Rattle.omega_acc.specs.label.Raw.{RawLabelTree}
 use Rattle.omega_text.specs.Lexeme.{Lexeme}
@@ -8,6 +8,7 @@ use Rattle.omega_text.specs.declared.hoa.kind.HoaKind.{HoaKind}
 use Rattle.omega_text.specs.declared.hoa.kind.HoaKind.TheVariants as kind
 use Rattle.omega_acc.specs.formula.Reading.{ReadsAcc}
 use Rattle.omega_acc.specs.label.Reading.{Reads}
+use Rattle.omega_text.specs.Forms.{between_quotes}
 
 -- the tokens of a text
 abbrev pub Tokens : Type 0
@@ -15,26 +16,22 @@ Tokens = List (Lexeme HoaKind)
 
 -- a symbol of the grammar: an INT, an IDENTIFIER, a HEADERNAME without its colon, an ANAME with its `@`, a STRING
 -- without its quotes, any other token, a label-expr or an acc-expr
-pub data Symbol : Type 0 where
-  number : ℕ → Symbol
-  word : List ℕ → Symbol
-  header : List ℕ → Symbol
-  alias : List ℕ → Symbol
-  text : List ℕ → Symbol
-  sign : HoaKind → Symbol
-  label : RawLabelTree → Symbol
-  formula : RawAccTree → Symbol
+pub data AutomatonSymbol : Type 0 where
+  number : ℕ → AutomatonSymbol
+  word : List ℕ → AutomatonSymbol
+  header : List ℕ → AutomatonSymbol
+  alias : List ℕ → AutomatonSymbol
+  text : List ℕ → AutomatonSymbol
+  sign : HoaKind → AutomatonSymbol
+  label : RawLabelTree → AutomatonSymbol
+  formula : RawAccTree → AutomatonSymbol
 
 -- bytes without the last
 abbrev pub without_last : List ℕ → List ℕ
 without_last bytes = take (length bytes - 1) bytes
 
--- bytes without the quote at either end
-abbrev pub between_quotes : List ℕ → List ℕ
-between_quotes bytes = take (length bytes - 2) (drop 1 bytes)
-
 -- the token is written as the symbol
-abbrev pub Shows : Symbol → Lexeme HoaKind → Type 0
+abbrev pub Shows : AutomatonSymbol → Lexeme HoaKind → Type 0
 Shows (number n) lexeme = (lexeme.kind ≡ kind.Int) × (lexeme.value ≡ n)
 Shows (word bytes) lexeme = (lexeme.kind ≡ kind.Identifier) × (lexeme.text ≡ bytes)
 Shows (header bytes) lexeme = (lexeme.kind ≡ kind.HeaderName) × (without_last lexeme.text ≡ bytes)
@@ -45,16 +42,16 @@ Shows (label tree) lexeme = ⊥
 Shows (formula tree) lexeme = ⊥
 
 -- the first of the tokens is written as the symbol, and the rest is left
-pub record IsNext (symbol : Symbol) (tokens rest : Tokens) : Type 0 where
+pub record IsNext (symbol : AutomatonSymbol) (tokens rest : Tokens) : Type 0 where
   pub lexeme : Lexeme HoaKind
   pub next : tokens ≡ lexeme ∷ rest
   pub shows : Shows symbol lexeme
 
 -- the tokens are the symbol's, and then the rest
-abbrev pub Begins : Symbol → Tokens → Tokens → Type 0
-Begins (label tree) tokens rest = Reads tokens tree rest
-Begins (formula tree) tokens rest = ReadsAcc tokens tree rest
-Begins symbol tokens rest = IsNext symbol tokens rest
+abbrev pub ReadsSymbol : AutomatonSymbol → Tokens → Tokens → Type 0
+ReadsSymbol (label tree) tokens rest = Reads tokens tree rest
+ReadsSymbol (formula tree) tokens rest = ReadsAcc tokens tree rest
+ReadsSymbol symbol tokens rest = IsNext symbol tokens rest
 
 -- some tokens stand between a front and a back
 pub record Splits (Front Back : Tokens → Type 0) : Type 0 where
@@ -63,12 +60,12 @@ pub record Splits (Front Back : Tokens → Type 0) : Type 0 where
   pub back : Back middle
 
 -- the tokens are those of the symbols, and then the rest
-abbrev pub Spells : Tokens → List Symbol → Tokens → Type 0
-Spells tokens [] rest = tokens ≡ rest
-Spells tokens (symbol ∷ others) rest = Splits (Begins symbol tokens) (λ middle. Spells middle others rest)
+abbrev pub ReadsSymbols : Tokens → List AutomatonSymbol → Tokens → Type 0
+ReadsSymbols tokens [] rest = tokens ≡ rest
+ReadsSymbols tokens (symbol ∷ others) rest = Splits (ReadsSymbol symbol tokens) (λ middle. ReadsSymbols middle others rest)
 
 -- the first symbol is a token, and this holds of its kind
-abbrev pub FirstIs : (HoaKind → Type 0) → List Symbol → Type 0
+abbrev pub FirstIs : (HoaKind → Type 0) → List AutomatonSymbol → Type 0
 FirstIs Holds [] = ⊥
 FirstIs Holds (number n ∷ others) = Holds kind.Int
 FirstIs Holds (word bytes ∷ others) = Holds kind.Identifier

@@ -3,7 +3,7 @@ ghost use Rattle.omega_acc.specs.Depth.{IsMemory};
 ghost use Rattle.omega_raw.specs.Grammar.{IsConj, conj_row, joined_row};
 ghost use Rattle.omega_raw.specs.steps.Parts.{EndsConj, is_and};
 ghost use Rattle.omega_raw.specs.Symbols.{FirstIs};
-ghost use Rattle.omega_raw.specs.steps.Reading.{Finds, Gives, IsAny, IsKind, IsRefusal};
+ghost use Rattle.omega_raw.specs.steps.Reading.{Finds, GivesRow, IsAny, IsKind, IsReadingRefusal};
 
 use crate::part::{Part, read_numbers};
 use crate::taking::{take_int, take_sign};
@@ -43,9 +43,9 @@ pub(crate) fn conj<'a, S: TokenSource<'a, HoaKind>>(
     alloc: Global,
     source: &mut S,
 ) -> Result<Numbers, Refusal>
-    ensures gives { Gives IsConj conj_row (S.left source.old) (S.left source.new) result }
+    ensures gives { GivesRow IsConj conj_row (S.left source.old) (S.left source.new) result }
     ensures finds { Finds IsConj conj_row (FirstIs EndsConj) (S.left source.old) (S.left source.new) result }
-    ensures err { IfErr result IsRefusal }
+    ensures err { IfErr result IsReadingRefusal }
 {
     let first = take_int(source)?;
     let others = read_numbers::<Joined, S>(alloc, source)?;

@@ -2,7 +2,7 @@
 
 ghost use Rattle.std.specs.Prelude.{IfErr};
 ghost use Rattle.omega_raw.specs.Grammar.{formula_row, expression_row};
-ghost use Rattle.omega_raw.specs.steps.Reading.{Anything, Finds, Gives, IsAny, IsRefusal};
+ghost use Rattle.omega_raw.specs.steps.Reading.{Anything, Finds, GivesRow, IsAny, IsReadingRefusal};
 
 use omega_acc::{RawAcc, RawLabel, formulas_are_one, labels_are_one, read_raw_acc, read_raw_label};
 use omega_text::{HoaKind, Refusal, TokenSource};
@@ -13,9 +13,9 @@ pub(crate) fn label_expression<'a, S: TokenSource<'a, HoaKind>>(
     alloc: Global,
     source: &mut S,
 ) -> Result<RawLabel, Refusal>
-    ensures gives { Gives IsAny expression_row (S.left source.old) (S.left source.new) result }
+    ensures gives { GivesRow IsAny expression_row (S.left source.old) (S.left source.new) result }
     ensures finds { Finds IsAny expression_row Anything (S.left source.old) (S.left source.new) result }
-    ensures err { IfErr result IsRefusal }
+    ensures err { IfErr result IsReadingRefusal }
 {
     labels_are_one();
     read_raw_label(alloc, source)
@@ -26,9 +26,9 @@ pub(crate) fn acceptance_expression<'a, S: TokenSource<'a, HoaKind>>(
     alloc: Global,
     source: &mut S,
 ) -> Result<RawAcc, Refusal>
-    ensures gives { Gives IsAny formula_row (S.left source.old) (S.left source.new) result }
+    ensures gives { GivesRow IsAny formula_row (S.left source.old) (S.left source.new) result }
     ensures finds { Finds IsAny formula_row Anything (S.left source.old) (S.left source.new) result }
-    ensures err { IfErr result IsRefusal }
+    ensures err { IfErr result IsReadingRefusal }
 {
     formulas_are_one();
     read_raw_acc(alloc, source)

@@ -1,8 +1,8 @@
 ghost use Rattle.std.specs.Prelude.{◌≡◌, All, IfErr, IfSome, MatchBool, true, false};
 ghost use Rattle.std.specs.List.{AllByRecursion};
-ghost use Rattle.omega_raw.specs.Grammar.{each, optional};
+ghost use Rattle.omega_raw.specs.Grammar.{each, optional_row};
 ghost use Rattle.omega_raw.specs.Symbols.{FirstIs};
-ghost use Rattle.omega_raw.specs.steps.Reading.{EndsList, Finds, Gives, IsRefusal, NextIs, NextMayBe};
+ghost use Rattle.omega_raw.specs.steps.Reading.{EndsList, Finds, GivesRow, IsReadingRefusal, NextIs, NextMayBe};
 
 use crate::raw_edge::RawEdge;
 use crate::raw_edges::RawEdges;
@@ -12,7 +12,7 @@ use std::alloc::Global;
 /// A part of a text, which is known by the kind of its first token.
 pub(crate) trait Part<'a, S: TokenSource<'a, HoaKind>> {
     ghost use Rattle.std.specs.Prelude.{Bool, List};
-    ghost use Rattle.omega_raw.specs.Symbols.{Symbol};
+    ghost use Rattle.omega_raw.specs.Symbols.{AutomatonSymbol};
     ghost use Rattle.omega_text.specs.declared.hoa.kind.HoaKind.{HoaKind as Kind};
 
     /// What is read.
@@ -22,7 +22,7 @@ pub(crate) trait Part<'a, S: TokenSource<'a, HoaKind>> {
     ghost valid: { Self.Value → Type 0 };
 
     /// How it is written, and then others.
-    ghost written: { Self.Value → List Symbol → List Symbol };
+    ghost written: { Self.Value → List AutomatonSymbol → List AutomatonSymbol };
 
     /// The kinds by which it begins.
     ghost first: { Kind → Bool };
@@ -36,12 +36,12 @@ pub(crate) trait Part<'a, S: TokenSource<'a, HoaKind>> {
 
     /// Reads it, where 3 is answered if it does not stand there.
     fn read(alloc: Global, source: &mut S) -> Result<Self::Value, Refusal>
-        ensures gives { Gives valid written (S.left source.old) (S.left source.new) result }
+        ensures gives { GivesRow valid written (S.left source.old) (S.left source.new) result }
         ensures finds { Finds valid written (FirstIs next) (S.left source.old) (S.left source.new) result }
-        ensures err { IfErr result IsRefusal };
+        ensures err { IfErr result IsReadingRefusal };
 
     /// It begins so.
-    ghost begun: { (it : Self.Value) (others : List Symbol) → valid it → FirstIs (λ kind. first kind ≡ true) (written it others) };
+    ghost begun: { (it : Self.Value) (others : List AutomatonSymbol) → valid it → FirstIs (λ kind. first kind ≡ true) (written it others) };
 
     /// One may follow another.
     ghost follows: { (kind : Kind) → first kind ≡ true → next kind };
@@ -62,9 +62,9 @@ pub(crate) fn read_if<'a, P: Part<'a, S>, S: TokenSource<'a, HoaKind>>(
     alloc: Global,
     source: &mut S,
 ) -> Result<Option<P::Value>, Refusal>
-    ensures gives { Gives (λ it. IfSome it P.valid) (optional P.written) (S.left source.old) (S.left source.new) result }
-    ensures finds { Finds (λ it. IfSome it P.valid) (optional P.written) (FirstIs (EndsList P.first P.next)) (S.left source.old) (S.left source.new) result }
-    ensures err { IfErr result IsRefusal }
+    ensures gives { GivesRow (λ it. IfSome it P.valid) (optional_row P.written) (S.left source.old) (S.left source.new) result }
+    ensures finds { Finds (λ it. IfSome it P.valid) (optional_row P.written) (FirstIs (EndsList P.first P.next)) (S.left source.old) (S.left source.new) result }
+    ensures err { IfErr result IsReadingRefusal }
 {
     if !is_next::<P, S>(source) {
         return Ok(None);
@@ -78,9 +78,9 @@ pub(crate) fn read_each<'a, P: Part<'a, S>, S: TokenSource<'a, HoaKind>>(
     alloc: Global,
     source: &mut S,
 ) -> Result<Seq<P::Value>, Refusal>
-    ensures gives { Gives (AllByRecursion P.valid) (each P.written) (S.left source.old) (S.left source.new) result }
+    ensures gives { GivesRow (AllByRecursion P.valid) (each P.written) (S.left source.old) (S.left source.new) result }
     ensures finds { Finds (AllByRecursion P.valid) (each P.written) (FirstIs (EndsList P.first P.next)) (S.left source.old) (S.left source.new) result }
-    ensures err { IfErr result IsRefusal }
+    ensures err { IfErr result IsReadingRefusal }
 {
     let values = read_growing::<P, S>(alloc, source)?;
     Ok(shrunk(values))
@@ -91,9 +91,9 @@ pub(crate) fn read_growing<'a, P: Part<'a, S>, S: TokenSource<'a, HoaKind>>(
     alloc: Global,
     source: &mut S,
 ) -> Result<Seq<P::Value>, Refusal>
-    ensures gives { Gives (AllByRecursion P.valid) (each P.written) (S.left source.old) (S.left source.new) result }
+    ensures gives { GivesRow (AllByRecursion P.valid) (each P.written) (S.left source.old) (S.left source.new) result }
     ensures finds { Finds (AllByRecursion P.valid) (each P.written) (FirstIs (EndsList P.first P.next)) (S.left source.old) (S.left source.new) result }
-    ensures err { IfErr result IsRefusal }
+    ensures err { IfErr result IsReadingRefusal }
 {
     let mut values = Vec::new(alloc);
     while is_next::<P, S>(source) {
@@ -117,9 +117,9 @@ pub(crate) fn read_numbers<'a, P: Part<'a, S, Value = u32>, S: TokenSource<'a, H
     alloc: Global,
     source: &mut S,
 ) -> Result<Numbers, Refusal>
-    ensures gives { Gives (AllByRecursion P.valid) (each P.written) (S.left source.old) (S.left source.new) result }
+    ensures gives { GivesRow (AllByRecursion P.valid) (each P.written) (S.left source.old) (S.left source.new) result }
     ensures finds { Finds (AllByRecursion P.valid) (each P.written) (FirstIs (EndsList P.first P.next)) (S.left source.old) (S.left source.new) result }
-    ensures err { IfErr result IsRefusal }
+    ensures err { IfErr result IsReadingRefusal }
 {
     let mut numbers = Numbers::new();
     while is_next::<P, S>(source) {
@@ -134,9 +134,9 @@ pub(crate) fn read_raw_edges<'a, P: Part<'a, S, Value = RawEdge>, S: TokenSource
     alloc: Global,
     source: &mut S,
 ) -> Result<RawEdges, Refusal>
-    ensures gives { Gives (AllByRecursion P.valid) (each P.written) (S.left source.old) (S.left source.new) result }
+    ensures gives { GivesRow (AllByRecursion P.valid) (each P.written) (S.left source.old) (S.left source.new) result }
     ensures finds { Finds (AllByRecursion P.valid) (each P.written) (FirstIs (EndsList P.first P.next)) (S.left source.old) (S.left source.new) result }
-    ensures err { IfErr result IsRefusal }
+    ensures err { IfErr result IsReadingRefusal }
 {
     let mut edges = RawEdges::new(alloc);
     while is_next::<P, S>(source) {

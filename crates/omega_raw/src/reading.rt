@@ -1,7 +1,7 @@
 //! Automata read from tokens.
 
 ghost use Rattle.std.specs.Prelude.{IfErr, IfOk};
-ghost use Rattle.omega_raw.specs.Grammar.{ReadsAutomaton, ReadsNoOther, ReadsNone};
+ghost use Rattle.omega_raw.specs.Grammar.{ReadsAutomaton, ReadsNoOther, ReadsNoAutomaton};
 ghost use Rattle.omega_acc.specs.Symbols.{IsUnread};
 
 use crate::body::State;
@@ -23,7 +23,7 @@ pub fn read_raw<'a, S: TokenSource<'a, HoaKind>>(
 ) -> Result<RawAutomaton, Refusal>
     ensures ok { IfOk result (λ raw. ReadsAutomaton (S.left source.old) raw (S.left source.new)) }
     ensures only { IfOk result (λ raw. ReadsNoOther (S.left source.old) raw (S.left source.new)) }
-    ensures err { IfErr result (IsUnread (ReadsNone (S.left source.old))) }
+    ensures err { IfErr result (IsUnread (ReadsNoAutomaton (S.left source.old))) }
 {
     take_header(source, b"HOA")?;
     let version = take_word(alloc, source)?;

@@ -4,8 +4,9 @@ ghost use Rattle.std.specs.Prelude.{◌≡◌, ◌∷◌, List, IfErr, IfNone, I
 ghost use Rattle.omega_acc.specs.Depth.{IsMemory};
 ghost use Rattle.omega_acc.specs.Symbols.{IsUnread};
 ghost use Rattle.omega_raw.specs.Grammar.{int_row, string_row, word_row};
-ghost use Rattle.omega_raw.specs.steps.Reading.{Anything, Finds, FoundThere, Gives, IsAny, IsRefusal, NextIsNot};
-ghost use Rattle.omega_raw.specs.Symbols.{Spells, Symbol, Tokens, between_quotes, header, sign, without_last};
+ghost use Rattle.omega_raw.specs.steps.Reading.{Anything, Finds, FoundThere, GivesRow, IsAny, IsReadingRefusal, NextIsNot};
+ghost use Rattle.omega_raw.specs.Symbols.{ReadsSymbols, AutomatonSymbol, Tokens, header, sign, without_last};
+ghost use Rattle.omega_text.specs.Forms.{between_quotes};
 ghost use Rattle.omega_text.specs.Lexeme.{lexeme_of};
 
 use omega_text::{ByteString, HoaKind, Refusal, TextFault, Token, TokenSource};
@@ -72,9 +73,9 @@ pub(crate) fn take_sign<'a, S: TokenSource<'a, HoaKind>>(
     source: &mut S,
     kind: HoaKind,
 ) -> Result<(), Refusal>
-    ensures gives { OnOk result ((others : List Symbol) (rest : Tokens) → Spells (S.left source.new) others rest → Spells (S.left source.old) (sign kind ∷ others) rest) }
-    ensures finds { (others : List Symbol) (rest : Tokens) → Spells (S.left source.old) (sign kind ∷ others) rest → FoundThere result (Spells (S.left source.new) others rest) }
-    ensures err { IfErr result IsRefusal }
+    ensures gives { OnOk result ((others : List AutomatonSymbol) (rest : Tokens) → ReadsSymbols (S.left source.new) others rest → ReadsSymbols (S.left source.old) (sign kind ∷ others) rest) }
+    ensures finds { (others : List AutomatonSymbol) (rest : Tokens) → ReadsSymbols (S.left source.old) (sign kind ∷ others) rest → FoundThere result (ReadsSymbols (S.left source.new) others rest) }
+    ensures err { IfErr result IsReadingRefusal }
 {
     take_kind(source, kind)?;
     Ok(())
@@ -85,9 +86,9 @@ pub(crate) fn take_header<'a, S: TokenSource<'a, HoaKind>>(
     source: &mut S,
     name: &[u8],
 ) -> Result<(), Refusal>
-    ensures gives { OnOk result ((others : List Symbol) (rest : Tokens) → Spells (S.left source.new) others rest → Spells (S.left source.old) (header name.now ∷ others) rest) }
-    ensures finds { (others : List Symbol) (rest : Tokens) → Spells (S.left source.old) (header name.now ∷ others) rest → FoundThere result (Spells (S.left source.new) others rest) }
-    ensures err { IfErr result IsRefusal }
+    ensures gives { OnOk result ((others : List AutomatonSymbol) (rest : Tokens) → ReadsSymbols (S.left source.new) others rest → ReadsSymbols (S.left source.old) (header name.now ∷ others) rest) }
+    ensures finds { (others : List AutomatonSymbol) (rest : Tokens) → ReadsSymbols (S.left source.old) (header name.now ∷ others) rest → FoundThere result (ReadsSymbols (S.left source.new) others rest) }
+    ensures err { IfErr result IsReadingRefusal }
 {
     let at = source.place();
     let token = take_kind(source, HoaKind::HeaderName)?;
@@ -99,9 +100,9 @@ pub(crate) fn take_header<'a, S: TokenSource<'a, HoaKind>>(
 
 /// Takes an INT.
 pub(crate) fn take_int<'a, S: TokenSource<'a, HoaKind>>(source: &mut S) -> Result<u32, Refusal>
-    ensures gives { Gives IsAny int_row (S.left source.old) (S.left source.new) result }
+    ensures gives { GivesRow IsAny int_row (S.left source.old) (S.left source.new) result }
     ensures finds { Finds IsAny int_row Anything (S.left source.old) (S.left source.new) result }
-    ensures err { IfErr result IsRefusal }
+    ensures err { IfErr result IsReadingRefusal }
 {
     Ok(take_kind(source, HoaKind::Int)?.value)
 }
@@ -111,9 +112,9 @@ pub(crate) fn take_word<'a, S: TokenSource<'a, HoaKind>>(
     alloc: Global,
     source: &mut S,
 ) -> Result<ByteString, Refusal>
-    ensures gives { Gives IsAny word_row (S.left source.old) (S.left source.new) result }
+    ensures gives { GivesRow IsAny word_row (S.left source.old) (S.left source.new) result }
     ensures finds { Finds IsAny word_row Anything (S.left source.old) (S.left source.new) result }
-    ensures err { IfErr result IsRefusal }
+    ensures err { IfErr result IsReadingRefusal }
 {
     let token = take_kind(source, HoaKind::Identifier)?;
     copied(alloc, token.text)
@@ -124,9 +125,9 @@ pub(crate) fn take_string<'a, S: TokenSource<'a, HoaKind>>(
     alloc: Global,
     source: &mut S,
 ) -> Result<ByteString, Refusal>
-    ensures gives { Gives IsAny string_row (S.left source.old) (S.left source.new) result }
+    ensures gives { GivesRow IsAny string_row (S.left source.old) (S.left source.new) result }
     ensures finds { Finds IsAny string_row Anything (S.left source.old) (S.left source.new) result }
-    ensures err { IfErr result IsRefusal }
+    ensures err { IfErr result IsReadingRefusal }
 {
     let token = take_kind(source, HoaKind::String)?;
     string_of(alloc, token.text)

@@ -6,8 +6,8 @@ use Rattle.omega_game_answers.specs.Watching.{CountsToldOfText}
 use Rattle.omega_game_answers.specs.declared.solve.asked.Asked.TheVariants as way
 use Rattle.omega_io.specs.declared.exit.Exit.{Exit}
 use Rattle.omega_io.specs.Reading.{IsRead}
-use Rattle.omega_line.specs.declared.command.Command.{Command}
-use Rattle.omega_line.specs.declared.command.Command.TheVariants.{Canon, CanonPart, Check, Draw, DrawLasso, DrawSolution, Empty, EmptySearch, Game, Search, Show, Solve, Verify}
+use Rattle.omega_command.specs.declared.command.Command.{Command}
+use Rattle.omega_command.specs.declared.command.Command.TheVariants.{Canon, CanonPart, Check, Draw, DrawLasso, DrawSolution, Empty, EmptySearch, Game, Search, Show, Solve, Verify}
 use Rattle.omega_budget.specs.Watching.{IsWatched, TellsRun, refusal_in}
 use Rattle.omega_budget.specs.declared.watching.Progress.{Progress}
 use Rattle.omega_budget.proofs.Watched.{one_made}

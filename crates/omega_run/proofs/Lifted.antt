@@ -5,8 +5,8 @@ use Rattle.omega_text.specs.declared.refusal.Refusal.TheVariants.{Task}
 use Rattle.omega_text.specs.declared.refusal.task.TaskFault.TheVariants.{Budget}
 use Rattle.omega_game.specs.Game.{Node}
 use Rattle.omega_game.specs.declared.player.Player.{Player}
-use Rattle.omega_line.specs.declared.command.Command.{Command}
-use Rattle.omega_line.specs.declared.command.Command.TheVariants.{Canon, CanonPart, Check, Draw, DrawLasso, DrawSolution, Empty, EmptySearch, Game, Search, Show, Solve, Verify}
+use Rattle.omega_command.specs.declared.command.Command.{Command}
+use Rattle.omega_command.specs.declared.command.Command.TheVariants.{Canon, CanonPart, Check, Draw, DrawLasso, DrawSolution, Empty, EmptySearch, Game, Search, Show, Solve, Verify}
 use Rattle.omega_budget.specs.Watching.{IsWatched}
 use Rattle.omega_budget.specs.declared.watching.Progress.{Progress}
 use Rattle.omega_automaton_answers.proofs.Watching.{text_refused}

@@ -2,7 +2,7 @@
 use Rattle.std.proofs.Common.{◌≡◌, ◌+◌, ◌<◌, ◌≤◌, ℕ, List, [], Result, Ok, Err, IfOk, IfErr, OnErr, arith, inl, inr}
 use Rattle.std.specs.Io.KnownBytes.{Keeps}
 use Rattle.omega_text.specs.declared.refusal.Refusal.{Refusal}
-use Rattle.omega_line.specs.declared.command.Command.{Command}
+use Rattle.omega_command.specs.declared.command.Command.{Command}
 use Rattle.omega_io.specs.declared.exit.Exit.{Exit}
 use Rattle.omega_io.specs.Exit.{status_of}
 use Rattle.omega_io.specs.Failures.{failures_of}

@@ -4,12 +4,12 @@ use Rattle.std.specs.Io.KnownBytes.{Appends, Keeps}
 use Rattle.omega_text.specs.declared.refusal.Refusal.{Refusal}
 use Rattle.omega_text.specs.declared.refusal.Refusal.TheVariants.{Io, Memory}
 use Rattle.omega_solve.specs.Limits.{most_lifts}
-use Rattle.omega_line.specs.declared.command.Command.{Command}
-use Rattle.omega_line.specs.declared.command.Command.TheVariants as command
+use Rattle.omega_command.specs.declared.command.Command.{Command}
+use Rattle.omega_command.specs.declared.command.Command.TheVariants as command
 use Rattle.omega_io.specs.declared.exit.Exit.{Exit}
 use Rattle.omega_io.specs.declared.exit.Exit.TheVariants.{Done}
-use Rattle.omega_line.specs.declared.line.Line.{Line}
-use Rattle.omega_line.specs.declared.line.Line.TheVariants.{DrawSolution, Fault, Help, Run, Verify, Watched}
+use Rattle.omega_command.specs.declared.line.Line.{Line}
+use Rattle.omega_command.specs.declared.line.Line.TheVariants.{DrawSolution, Fault, Help, Run, Verify, Watched}
 use Rattle.omega_io.specs.Exit.{fault_status, status_of}
 use Rattle.omega_io.specs.RefusalLine.{line_of}
 use Rattle.omega_budget.specs.Watching.{lifts_between_reports, refusal_in}
@@ -85,14 +85,14 @@ Obeys reads refuses (Help text) outcome before after =
 Obeys reads refuses (Fault text) outcome before after = ⊥
 
 -- the status of a refusal, and its line on standard error
-abbrev pub IsTold : Refusal → ℕ → (List ℕ → Type 0) → Type 0
-IsTold refusal status tells = (status ≡ status_of (Err refusal)) × tells (line_of refusal)
+abbrev pub IsRefusalTold : Refusal → ℕ → (List ℕ → Type 0) → Type 0
+IsRefusalTold refusal status tells = (status ≡ status_of (Err refusal)) × tells (line_of refusal)
 
 -- the status after this outcome, and what is told of it on standard error;
 -- where there is no memory for the line of a refusal, that is told
 abbrev pub Reports : Result Exit Refusal → ℕ → (List ℕ → Type 0) → Type 0
 Reports (Ok exit) status tells = (status ≡ status_of (Ok exit)) × tells []
-Reports (Err refusal) status tells = IsTold refusal status tells ⊎ IsTold Memory status tells
+Reports (Err refusal) status tells = IsRefusalTold refusal status tells ⊎ IsRefusalTold Memory status tells
 
 -- the program obeyed the command line, or told why it asks for nothing that can be done; of a command that is watched,
 -- the lines of its progress come before what is told of its outcome, and both are one text; its answer counts the lifts

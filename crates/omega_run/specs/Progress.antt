@@ -10,8 +10,8 @@ use Rattle.omega_game_answers.specs.Watching.{CountsToldOfText, LiftsText}
 use Rattle.omega_budget.specs.Watching.{IsWatched}
 use Rattle.omega_game_answers.specs.declared.solve.asked.Asked.TheVariants as way
 use Rattle.omega_budget.specs.declared.watching.Progress.{Progress}
-use Rattle.omega_line.specs.declared.command.Command.{Command}
-use Rattle.omega_line.specs.declared.command.Command.TheVariants.{Empty, Search, Solve}
+use Rattle.omega_command.specs.declared.command.Command.{Command}
+use Rattle.omega_command.specs.declared.command.Command.TheVariants.{Empty, Search, Solve}
 use Rattle.omega_io.specs.declared.exit.Exit.{Exit}
 use Rattle.omega_io.specs.Reading.{ReadsText}
 use Rattle.omega_io.specs.Writing.{Tells}

@@ -4,9 +4,9 @@ use Rattle.omega_text.specs.Cases.{or_io, or_memory}
 use Rattle.omega_text.specs.declared.refusal.Refusal.{Refusal}
 use Rattle.omega_pg.specs.game.Refusing.{IsRefusal}
 use Rattle.omega_game.specs.declared.player.Player.{Player}
-use Rattle.omega_line.specs.declared.command.Command.{Command}
-use Rattle.omega_line.specs.declared.command.Command.TheVariants.{Canon, CanonPart, Check, Draw, DrawLasso, DrawSolution, Empty, EmptySearch, Game, Search, Show, Solve, Verify}
-use Rattle.omega_line.specs.declared.command.Format.TheVariants.{Hoa, Pg}
+use Rattle.omega_command.specs.declared.command.Command.{Command}
+use Rattle.omega_command.specs.declared.command.Command.TheVariants.{Canon, CanonPart, Check, Draw, DrawLasso, DrawSolution, Empty, EmptySearch, Game, Search, Show, Solve, Verify}
+use Rattle.omega_command.specs.declared.command.Format.TheVariants.{Hoa, Pg}
 use Rattle.omega_io.specs.declared.exit.Exit.{Exit}
 use Rattle.omega_io.specs.declared.exit.Exit.TheVariants.{Done}
 use Rattle.omega_automaton_answers.specs.Game.{IsEmptinessGameAnswer, IsEmptinessGameRefusal}

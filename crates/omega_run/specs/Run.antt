@@ -1,7 +1,7 @@
 -- What a run of a command leaves: its whole answer written, or where a write failed, a beginning of it.
 use Rattle.std.specs.Prelude.{List, Option, ℕ}
 use Rattle.std.specs.Io.KnownBytes.{Appends}
-use Rattle.omega_line.specs.declared.command.Command.{Command}
+use Rattle.omega_command.specs.declared.command.Command.{Command}
 use Rattle.omega_io.specs.declared.exit.Exit.{Exit}
 use Rattle.omega_run.specs.Respond.{Responds}
 use Rattle.omega_io.specs.Writing.{WritesBeginning}

@@ -1,5 +1,5 @@
 ghost use Rattle.std.specs.Prelude.{◌≡◌};
-ghost use Rattle.omega_line.specs.Limits.{most_budget};
+ghost use Rattle.omega_command.specs.Limits.{most_budget};
 ghost use Rattle.omega_solve.specs.Limits.{most_lifts};
 
 /// The greatest budget of a command line is the most lifts that a solver makes.

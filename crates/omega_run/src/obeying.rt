@@ -1,6 +1,6 @@
 ghost use Rattle.std.specs.Prelude.{◌≡◌, ◌-◌, ◌^◌, ◌<◌, ◌≤◌, IfOk, ℕ, List};
-ghost use Rattle.omega_line.specs.Line.{IsRunnable};
-ghost use Rattle.omega_line.specs.declared.command.Command.TheVariants as command;
+ghost use Rattle.omega_command.specs.Line.{IsRunnable};
+ghost use Rattle.omega_command.specs.declared.command.Command.TheVariants as command;
 ghost use Rattle.omega_run.specs.Obey.{IsObeyed, PerformsWithFile, Prints, Reports, streams};
 ghost use Rattle.omega_io.specs.Writing.{Tells};
 ghost use Rattle.omega_run.specs.Progress.{TellsLast};
@@ -11,7 +11,7 @@ use omega_budget::{LIFTS_BETWEEN_REPORTS, Unwatched};
 use omega_io::{
     Exit, GameFiles, Input, Output, Refusal, exit_code, refusal_line, tell, write_text,
 };
-use omega_line::{Command, Line};
+use omega_command::{Command, Line};
 use omega_solve::MOST_LIFTS;
 use omega_text::Seq;
 use std::alloc::Global;

@@ -22,7 +22,7 @@ use omega_game_answers::{
     solve_game, verify_solution,
 };
 use omega_io::{Exit, Input, Refusal, read_all};
-use omega_line::Command;
+use omega_command::Command;
 use std::alloc::Global;
 
 /// Reads what a command needs, and makes its whole answer in memory, with how it ends. Each command reads for itself,

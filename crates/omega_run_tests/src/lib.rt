@@ -1,4 +1,4 @@
-//! Tests of the public calls of `omega_run` and `omega_command`: what a run of the built program cannot show, and the
+//! Tests of the public calls of `omega_run` and `omega_words`: what a run of the built program cannot show, and the
 //! worked examples. They stand in a crate of their own so that each library is proved once.
 #![tactic(auto)]
 

@@ -1,9 +1,9 @@
 //! Runs of the program over an input, a file and outputs in memory.
 ghost use Rattle.std.specs.Prelude.{◌≡◌, IfOk};
-ghost use Rattle.omega_line.specs.Line.{IsRunnable};
+ghost use Rattle.omega_command.specs.Line.{IsRunnable};
 
 use crate::portions::{Filling, Portions};
-use omega_command::read_words;
+use omega_words::read_words;
 use omega_run::{FromRead, GameFiles, Input, Line, Output, Refusal, ToWrite, obey};
 use std::alloc::{AllocError, Global};
 use std::test::Fail;

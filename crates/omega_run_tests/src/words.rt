@@ -1,6 +1,6 @@
 //! What command lines ask for, and what is told of wrong ones.
 use crate::running::words_of;
-use omega_command::read_words;
+use omega_words::read_words;
 use std::alloc::Global;
 use std::test::Fail;
 

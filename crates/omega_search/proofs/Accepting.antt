@@ -7,7 +7,7 @@ use Rattle.omega_game.specs.Game.{Node, IsGame}
 use Rattle.omega_game.specs.Solution.{IsExactSolution, choices_of, winner_at}
 use Rattle.omega_game.specs.Winning.{InRegion}
 use Rattle.omega_region.specs.Laws.{RegionsAreApart}
-use Rattle.omega_search.specs.judging.Judging.{ChoosesWhereWon, IsAccepted}
+use Rattle.omega_search.specs.judging.Judging.{ChoosesWhereWon, IsAcceptedFor}
 
 -- a player is one of two
 one_of_two : (player : Player) → (player ≡ Zero) ⊎ (player ≡ One)
@@ -16,32 +16,32 @@ one_of_two One = inr refl
 
 module _ (nodes : List Node) (solution : Solution) where
   -- a node that is given to a player is in that player's region
-  in_region : (player : Player) (v : ℕ) → IsAccepted nodes solution player → v < length nodes → winner_at solution v ≡ player → InRegion nodes player v
+  in_region : (player : Player) (v : ℕ) → IsAcceptedFor nodes solution player → v < length nodes → winner_at solution v ≡ player → InRegion nodes player v
   in_region player v accepted node given =
       record { node = node; choices = choices_of solution player; strategy = accepted.strategy; wins = accepted.wins v node given }
 
   -- a node in the region of player 0 is given to player 0
-  given-zero : (v : ℕ) → RegionsAreApart → IsGame nodes → IsAccepted nodes solution One → v < length nodes → InRegion nodes Zero v → winner_at solution v ≡ Zero
+  given-zero : (v : ℕ) → RegionsAreApart → IsGame nodes → IsAcceptedFor nodes solution One → v < length nodes → InRegion nodes Zero v → winner_at solution v ≡ Zero
   given-zero v apart game accepted node region = elim (one_of_two (winner_at solution v)) [
     | inl is ↦ is
     | inr is ↦ absurd (apart nodes v game region (in_region One v accepted node is))
   ]
 
   -- a node in the region of player 1 is given to player 1
-  given-one : (v : ℕ) → RegionsAreApart → IsGame nodes → IsAccepted nodes solution Zero → v < length nodes → InRegion nodes One v → winner_at solution v ≡ One
+  given-one : (v : ℕ) → RegionsAreApart → IsGame nodes → IsAcceptedFor nodes solution Zero → v < length nodes → InRegion nodes One v → winner_at solution v ≡ One
   given-one v apart game accepted node region = elim (one_of_two (winner_at solution v)) [
     | inl is ↦ absurd (apart nodes v game (in_region Zero v accepted node is) region)
     | inr is ↦ is
   ]
 
   -- each node is given to the player in whose region it is
-  exactly : RegionsAreApart → IsGame nodes → IsAccepted nodes solution Zero → IsAccepted nodes solution One
+  exactly : RegionsAreApart → IsGame nodes → IsAcceptedFor nodes solution Zero → IsAcceptedFor nodes solution One
       → (player : Player) (v : ℕ) → v < length nodes → (winner_at solution v ≡ player) ↔ InRegion nodes player v
   exactly apart game zero one Zero v node = (in_region Zero v zero node, given-zero v apart game one node)
   exactly apart game zero one One v node = (in_region One v one node, given-one v apart game zero node)
 
   -- what is accepted for each player
-  accepted_for : IsAccepted nodes solution Zero → IsAccepted nodes solution One → (player : Player) → IsAccepted nodes solution player
+  accepted_for : IsAcceptedFor nodes solution Zero → IsAcceptedFor nodes solution One → (player : Player) → IsAcceptedFor nodes solution player
   accepted_for zero one Zero = zero
   accepted_for zero one One = one
 
@@ -54,9 +54,9 @@ module _ (nodes : List Node) (solution : Solution) where
   -- a solution that is accepted for both players is exact
   pub is_exact : RegionsAreApart → IsGame nodes → length solution.winners ≡ length nodes
       → ChoosesWhereWon nodes Zero solution.winners solution.zero.choice → ChoosesWhereWon nodes One solution.winners solution.one.choice
-      → IsAccepted nodes solution Zero → IsAccepted nodes solution One → IsExactSolution nodes solution
+      → IsAcceptedFor nodes solution Zero → IsAcceptedFor nodes solution One → IsExactSolution nodes solution
   is_exact apart game entries chosen_zero chosen_one zero one =
-      let accepted : (player : Player) → IsAccepted nodes solution player = accepted_for zero one in
+      let accepted : (player : Player) → IsAcceptedFor nodes solution player = accepted_for zero one in
       let chosen : (player : Player) → ChoosesWhereWon nodes player solution.winners (choices_of solution player) =
       chosen_for chosen_zero chosen_one in
       record {

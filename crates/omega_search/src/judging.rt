@@ -4,7 +4,7 @@
 ghost use Rattle.std.specs.Prelude.{◌≡◌, ◌<◌, ◌^◌, length, IfOk, IfSome, IsOkUnless, IsTrue};
 ghost use Rattle.omega_game.specs.Solution.{IsExactSolution, WinsGiven, choices_of};
 ghost use Rattle.omega_game.specs.Winning.{IsStrategy};
-ghost use Rattle.omega_search.specs.judging.Judging.{ChoosesWhereWon, IsAccepted};
+ghost use Rattle.omega_search.specs.judging.Judging.{ChoosesWhereWon, IsAcceptedFor};
 
 use omega_game::{Game, Player, Refusal, Seq, Solution, Strategy, check_strategy_by_order};
 use omega_region::regions_are_apart;
@@ -91,7 +91,7 @@ fn is_accepted(
     order: &[u32],
 ) -> Result<bool, Refusal>
     requires { length solution.now.winners ≡ length game.now }
-    ensures accepted { IfOk result (λ answer. IsTrue answer → IsAccepted game.now solution.now player) }
+    ensures accepted { IfOk result (λ answer. IsTrue answer → IsAcceptedFor game.now solution.now player) }
     ensures memory { IsOkUnless result Refusal.Memory }
 {
     if !solution.strategy(player).fits(game, player) {

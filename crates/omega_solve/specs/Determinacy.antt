@@ -3,7 +3,7 @@ use Rattle.std.specs.Prelude.{◌≡◌, ◌⊎◌, ℕ, ◌<◌, Bool, true, fa
 use Rattle.omega_game.specs.declared.player.Player.TheVariants.{Zero, One}
 use Rattle.omega_game.specs.Game.{Node, IsGame}
 use Rattle.omega_lift.specs.Answer.{won_in}
-use Rattle.omega_solve.specs.Solver.{State, IsFinished, IsReached}
+use Rattle.omega_solve.specs.Solver.{SolverState, IsFinished, IsReached}
 
 -- the place is in exactly one of two answers
 abbrev pub IsInOne : List Bool → List Bool → ℕ → Type 0
@@ -14,7 +14,7 @@ IsInOne zero one v =
 -- of the answers of two solvers of one game that are done, one for each player, each node is in exactly one
 abbrev pub AnswersPartTheGame : Type 0
 AnswersPartTheGame =
-    (nodes : List Node) (zero one : State) (v : ℕ)
+    (nodes : List Node) (zero one : SolverState) (v : ℕ)
     → IsGame nodes → zero.nodes ≡ nodes → one.nodes ≡ nodes → zero.player ≡ Zero → one.player ≡ One
     → IsReached zero → IsReached one → IsFinished zero → IsFinished one → v < length nodes
     → IsInOne (won_in zero.table.measures) (won_in one.table.measures) v

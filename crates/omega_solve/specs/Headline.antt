@@ -5,11 +5,11 @@ use Rattle.omega_game.specs.Game.{Node, IsGame, owner_at, priorities}
 use Rattle.omega_game.specs.Bound.{bound_of}
 use Rattle.omega_game.specs.Winning.{Chooses, InRegion, IsStrategy, Wins}
 use Rattle.omega_lift.specs.Answer.{AreChoices, won_in}
-use Rattle.omega_solve.specs.Solver.{State, IsFinished, IsReached, HasLiftDue, LiftsWithin, start_of}
+use Rattle.omega_solve.specs.Solver.{SolverState, IsFinished, IsReached, HasLiftDue, LiftsWithin, start_of}
 
 -- a call of `run`: the game and the player stay, and lifts are made within the budget. It is done and no lift is due,
 -- or the whole budget was used up and a lift is due
-pub record Runs (old : State) (budget : ℕ) (new : State) : Type 0 where
+pub record Runs (old : SolverState) (budget : ℕ) (new : SolverState) : Type 0 where
   pub same_nodes : new.nodes ≡ old.nodes
   pub same_player : new.player ≡ old.player
   pub lifted : LiftsWithin old budget new
@@ -17,9 +17,9 @@ pub record Runs (old : State) (budget : ℕ) (new : State) : Type 0 where
   pub spent : new.done ≡ false → (new.lifts ≡ old.lifts + budget) × HasLiftDue new
 
 -- a budget is dealt out: calls of `run`, one with each of the budgets, lead from one state to another
-abbrev pub DealsOut : State → List ℕ → State → Type 0
+abbrev pub DealsOut : SolverState → List ℕ → SolverState → Type 0
 DealsOut old [] new = old ≡ new
-DealsOut old (budget ∷ budgets) new = (next : State) × Runs old budget next × DealsOut next budgets new
+DealsOut old (budget ∷ budgets) new = (next : SolverState) × Runs old budget next × DealsOut next budgets new
 
 -- an answer, with one entry for each node, is exactly the nodes from which the player has a winning strategy, with one
 -- strategy for all; it chooses exactly at those of them that the player owns
@@ -34,7 +34,7 @@ pub record IsExact (nodes : List Node) (player : Player) (won : List Bool) (choi
 -- a solver for the game and the player, once these budgets were dealt out: the lifts are those of a lifting run from
 -- the all-zero table, and at most the bound; budgets that together reach the bound suffice;
 -- and a solver that is done has an exact answer
-pub record IsBoundedAndExact (nodes : List Node) (player : Player) (budgets : List ℕ) (solver : State) : Type 0 where
+pub record IsBoundedAndExact (nodes : List Node) (player : Player) (budgets : List ℕ) (solver : SolverState) : Type 0 where
   pub same_nodes : solver.nodes ≡ nodes
   pub same_player : solver.player ≡ player
   pub reached : IsReached solver
@@ -49,5 +49,5 @@ pub record IsBoundedAndExact (nodes : List Node) (player : Player) (budgets : Li
 -- answer is exactly the nodes from which that player has a winning positional strategy, with one strategy for all
 abbrev pub Headline : Type 0
 Headline =
-    (nodes : List Node) (player : Player) (budgets : List ℕ) (solver : State)
+    (nodes : List Node) (player : Player) (budgets : List ℕ) (solver : SolverState)
     → IsGame nodes → DealsOut (start_of nodes player) budgets solver → IsBoundedAndExact nodes player budgets solver

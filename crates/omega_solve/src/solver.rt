@@ -35,14 +35,14 @@ pub struct Solver<'g, T: MeasureTable, S: Schedule> {
 }
 
 impl<'g, T: MeasureTable, S: Schedule> Model for Solver<'g, T, S> {
-    ghost use Rattle.omega_solve.specs.Solver.{State, state_of};
+    ghost use Rattle.omega_solve.specs.Solver.{SolverState, solver_state};
     ghost use Rattle.omega_solve.specs.solving.Progress.{IsSolver};
 
-    ghost Value = { State };
+    ghost Value = { SolverState };
 
-    ghost view = { λ s. state_of s.game.now s.player (T.content s.table) (S.waiting s.schedule) s.lifts s.done };
+    ghost view = { λ s. solver_state s.game.now s.player (T.content s.table) (S.waiting s.schedule) s.lifts s.done };
 
-    ghost invariant = { λ s. IsSolver (state_of s.game.now s.player (T.content s.table) (S.waiting s.schedule) s.lifts s.done) s.won.items s.choice.items };
+    ghost invariant = { λ s. IsSolver (solver_state s.game.now s.player (T.content s.table) (S.waiting s.schedule) s.lifts s.done) s.won.items s.choice.items };
 }
 
 impl<'g, T: MeasureTable, S: Schedule> Solver<'g, T, S> {

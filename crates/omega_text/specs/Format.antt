@@ -6,7 +6,7 @@ use Rattle.omega_text.specs.declared.refusal.text.TextFault.TheVariants.{Lex, Nu
 use Rattle.omega_text.specs.declared.token.Span.{Span}
 
 -- how texts of a format go on from a place: with this token, with nothing more, or with this fault
-pub record Format (Kind : Type 0) : Type 1 where
+pub record TextFormat (Kind : Type 0) : Type 1 where
   pub follows : List ℕ → ℕ → Lexeme Kind → Type 0
   pub ends : List ℕ → ℕ → Type 0
   pub faults : List ℕ → ℕ → TextFault → Type 0
@@ -25,7 +25,7 @@ IsLexical (Syntax at) = ⊥
 IsLexical TooLong = ⊥
 
 -- a text goes on from each place in one way: with one token, with one fault, or with nothing more
-pub record GoesOneWay {Kind : Type 0} (format : Format Kind) : Type 0 where
+pub record GoesOneWay {Kind : Type 0} (format : TextFormat Kind) : Type 0 where
   pub behind : (source : List ℕ) (from : ℕ) (lexeme : Lexeme Kind) → format.follows source from lexeme → IsPartBehind source from lexeme.span
   pub lexical : (source : List ℕ) (from : ℕ) (fault : TextFault) → format.faults source from fault → IsLexical fault
   pub one_token : (source : List ℕ) (from : ℕ) (one other : Lexeme Kind) → format.follows source from one → format.follows source from other → one ≡ other

@@ -5,22 +5,22 @@ use Rattle.std.proofs.Common.{refl}
 use Rattle.std.proofs.Math.Logic.{∥∥₁_elim, ∥∥₁_prop}
 use mathlib.Core.HLevel.{is_prop→PathP}
 use Rattle.omega_text.specs.Cut.{Cuts}
-use Rattle.omega_text.specs.Format.{Format}
+use Rattle.omega_text.specs.Format.{TextFormat}
 use Rattle.omega_text.specs.Lexeme.{Lexeme}
 use Rattle.omega_text.specs.declared.token.Span.{Span}
 
 -- from a place on, the tokens are the rest of the text, and nothing more follows
-pub record IsRest {Kind : Type 0} (format : Format Kind) (source : List ℕ) (from : ℕ) (lexemes : List (Lexeme Kind)) : Type 0 where
+pub record IsRestOfText {Kind : Type 0} (format : TextFormat Kind) (source : List ℕ) (from : ℕ) (lexemes : List (Lexeme Kind)) : Type 0 where
   pub end : ℕ
   pub cuts : Cuts format source from lexemes end
   pub rest : format.ends source end
 
 -- the token is the first of those that are left, and the others are the rest of the text behind it
-pub record IsNext {Kind : Type 0} (format : Format Kind) (source : List ℕ) (lexeme : Lexeme Kind) (lexemes : List (Lexeme Kind)) : Type 0 where
+pub record IsNextOfLeft {Kind : Type 0} (format : TextFormat Kind) (source : List ℕ) (lexeme : Lexeme Kind) (lexemes : List (Lexeme Kind)) : Type 0 where
   pub others : List (Lexeme Kind)
   pub split : lexemes ≡ lexeme ∷ others
   pub within : lexeme.span.end ≤ length source
-  pub behind : IsRest format source lexeme.span.end others
+  pub behind : IsRestOfText format source lexeme.span.end others
 
 -- the next token, by its parts, if there is one
 abbrev pub next_of : {Kind : Type 0} → Option Kind → List ℕ → ℕ → Span → Option (Lexeme Kind)
@@ -28,17 +28,17 @@ next_of None text value span = None
 next_of (Some kind) text value span = Some (record { kind = kind; text = text; value = value; span = span })
 
 -- the tokens that are left, by the next one
-abbrev pub IsLeft : {Kind : Type 0} → Format Kind → List ℕ → Option (Lexeme Kind) → List (Lexeme Kind) → Type 0
+abbrev pub IsLeft : {Kind : Type 0} → TextFormat Kind → List ℕ → Option (Lexeme Kind) → List (Lexeme Kind) → Type 0
 IsLeft format source None lexemes = lexemes ≡ []
-IsLeft format source (Some lexeme) lexemes = IsNext format source lexeme lexemes
+IsLeft format source (Some lexeme) lexemes = IsNextOfLeft format source lexeme lexemes
 
 -- these tokens are left, and no others
-pub record IsAllLeft {Kind : Type 0} (format : Format Kind) (source : List ℕ) (next : Option (Lexeme Kind)) (lexemes : List (Lexeme Kind)) : Type 0 where
+pub record IsAllLeft {Kind : Type 0} (format : TextFormat Kind) (source : List ℕ) (next : Option (Lexeme Kind)) (lexemes : List (Lexeme Kind)) : Type 0 where
   pub are_left : IsLeft format source next lexemes
   pub only : (others : List (Lexeme Kind)) → IsLeft format source next others → lexemes ≡ others
 
 -- the tokens that are left
-pub record Left {Kind : Type 0} (format : Format Kind) (source : List ℕ) (next : Option (Lexeme Kind)) : Type 0 where
+pub record Left {Kind : Type 0} (format : TextFormat Kind) (source : List ℕ) (next : Option (Lexeme Kind)) : Type 0 where
   pub lexemes : List (Lexeme Kind)
   pub all_left : ∥ IsAllLeft format source next lexemes ∥₁
 
@@ -49,7 +49,7 @@ lexeme_code {Kind} kind = code_by (Kind × (List ℕ × (ℕ × (ℕ × ℕ)))) 
     (λ t. record { kind = t.0; text = t.1.0; value = t.1.1.0; span = record { start = t.1.1.1.0; end = t.1.1.1.1 } }) (λ _. refl)
 
 -- the tokens that are left are one list
-pub Left-prop : {Kind : Type 0} → Coded Kind → (format : Format Kind) (source : List ℕ) (next : Option (Lexeme Kind)) → IsProp (Left format source next)
+pub Left-prop : {Kind : Type 0} → Coded Kind → (format : TextFormat Kind) (source : List ℕ) (next : Option (Lexeme Kind)) → IsProp (Left format source next)
 Left-prop {Kind} kind format source next one other =
     let set : IsProp (one.lexemes ≡ other.lexemes) = Coded-set (coded_list (lexeme_code kind)) one.lexemes other.lexemes in
     let same : one.lexemes ≡ other.lexemes =

@@ -2,14 +2,14 @@
 use Rattle.std.specs.Prelude.{ℕ, Bool, true, false, List, [], ◌∷◌, ◌++◌, length, ◌≤◌}
 use Rattle.omega_text.specs.Cases.{never, or_memory, or_text}
 use Rattle.omega_text.specs.Cut.{IsCut}
-use Rattle.omega_text.specs.Format.{Format}
+use Rattle.omega_text.specs.Format.{TextFormat}
 use Rattle.omega_text.specs.Lexeme.{Lexeme}
 use Rattle.omega_text.specs.Limits.{most_text}
 use Rattle.omega_text.specs.Syntax.{IsFaultBy, IsUnfinished}
 use Rattle.omega_text.specs.declared.refusal.Refusal.{Refusal}
 
 -- a token of some text of the format
-abbrev pub IsTokenOf : {Kind : Type 0} → Format Kind → Lexeme Kind → Type 0
+abbrev pub IsTokenOf : {Kind : Type 0} → TextFormat Kind → Lexeme Kind → Type 0
 IsTokenOf format lexeme = (source : List ℕ) × (from : ℕ) × format.follows source from lexeme
 
 -- a call took a token behind others, or refused it: the others begin a text, and with it they begin none
@@ -23,7 +23,7 @@ IsWholeOrUnfinished true begins completes lexemes = completes lexemes
 IsWholeOrUnfinished false begins completes lexemes = IsUnfinished begins completes lexemes
 
 -- the text is within the limit and was read, and its tokens were taken and are a text
-pub record IsReadText {Kind : Type 0} (format : Format Kind) (taken completes : List (Lexeme Kind) → Type 0) (source : List ℕ) : Type 0 where
+pub record IsReadText {Kind : Type 0} (format : TextFormat Kind) (taken completes : List (Lexeme Kind) → Type 0) (source : List ℕ) : Type 0 where
   pub short : length source ≤ most_text
   pub lexemes : List (Lexeme Kind)
   pub cut : IsCut format source lexemes
@@ -31,5 +31,5 @@ pub record IsReadText {Kind : Type 0} (format : Format Kind) (taken completes : 
   pub complete : completes lexemes
 
 -- the refusal of a text that can't be read so, or memory
-abbrev pub IsReadingRefusal : {Kind : Type 0} → Format Kind → (begins completes : List (Lexeme Kind) → Type 0) → List ℕ → Refusal → Type 0
+abbrev pub IsReadingRefusal : {Kind : Type 0} → TextFormat Kind → (begins completes : List (Lexeme Kind) → Type 0) → List ℕ → Refusal → Type 0
 IsReadingRefusal format begins completes source = or_text (IsFaultBy format begins completes source) (or_memory never)

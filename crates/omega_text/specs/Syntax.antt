@@ -1,7 +1,7 @@
 -- What it means that bytes are a text of a syntax, and which fault they have where they are none.
 use Rattle.std.specs.Prelude.{◌≡◌, ◌↔◌, ℕ, ◌<◌, ◌≤◌, ◌⊎◌, List, [], ◌∷◌, ◌++◌, length, map}
 use Rattle.omega_text.specs.Cut.{IsCut, IsFault}
-use Rattle.omega_text.specs.Format.{Format}
+use Rattle.omega_text.specs.Format.{TextFormat}
 use Rattle.omega_text.specs.Lexeme.{Lexeme}
 use Rattle.omega_text.specs.Limits.{most_text}
 use Rattle.omega_text.specs.declared.refusal.text.TextFault.{TextFault}
@@ -10,7 +10,7 @@ use Rattle.omega_text.specs.declared.refusal.text.TextFault.TheVariants.{Lex, Nu
 -- a syntax: how texts are cut, the symbol that a grammar sees in a token, and the grammar,
 -- by which symbols spell a raw text
 pub record Syntax (Kind Symbol Raw : Type 0) : Type 1 where
-  pub format : Format Kind
+  pub format : TextFormat Kind
   pub symbol : Lexeme Kind → Symbol
   pub spells : List Symbol → Raw → Type 0
 
@@ -52,14 +52,14 @@ pub record IsUnfinished {Kind : Type 0} (begins completes : List (Lexeme Kind) �
   pub partial : completes lexemes → ⊥
 
 -- the place of a syntax fault: that of the first wrong token, or the length of a text that ends too early
-pub record IsMisplaced {Kind : Type 0} (format : Format Kind) (begins completes : List (Lexeme Kind) → Type 0) (source : List ℕ) (place : ℕ) : Type 0 where
+pub record IsMisplaced {Kind : Type 0} (format : TextFormat Kind) (begins completes : List (Lexeme Kind) → Type 0) (source : List ℕ) (place : ℕ) : Type 0 where
   pub lexemes : List (Lexeme Kind)
   pub cut : IsCut format source lexemes
   pub fault_there : IsWrongAt begins lexemes place ⊎ (IsUnfinished begins completes lexemes × (place ≡ length source))
 
 -- the fault of bytes, where it is known which tokens begin a text and which are one: the length first, then tokens,
 -- then syntax
-abbrev pub IsFaultBy : {Kind : Type 0} → Format Kind → (begins completes : List (Lexeme Kind) → Type 0) → List ℕ → TextFault → Type 0
+abbrev pub IsFaultBy : {Kind : Type 0} → TextFormat Kind → (begins completes : List (Lexeme Kind) → Type 0) → List ℕ → TextFault → Type 0
 IsFaultBy format begins completes source (Lex at) = (length source ≤ most_text) × IsFault format source (Lex at)
 IsFaultBy format begins completes source (Number at) = (length source ≤ most_text) × IsFault format source (Number at)
 IsFaultBy format begins completes source (SyntaxFault at) = (length source ≤ most_text) × IsMisplaced format begins completes source at
@@ -85,7 +85,7 @@ SyntaxFaultsAreFirst {Kind} syntax = (source : List ℕ) (place : ℕ) (front re
     → TokensBegin syntax (front ++ token ∷ []) ↔ (token.span.start < place)
 
 -- there is a text, and of all symbols it can be said whether they begin one and whether they are one
-pub record IsDecided {Kind Symbol Raw : Type 0} (syntax : Syntax Kind Symbol Raw) : Type 0 where
+pub record IsDecidable {Kind Symbol Raw : Type 0} (syntax : Syntax Kind Symbol Raw) : Type 0 where
   pub some_text : Begins syntax []
   pub begins_or_not : (symbols : List Symbol) → Begins syntax symbols ⊎ (Begins syntax symbols → ⊥)
   pub spells_or_not : (symbols : List Symbol) → ((raw : Raw) × syntax.spells symbols raw) ⊎ ((raw : Raw) → syntax.spells symbols raw → ⊥)

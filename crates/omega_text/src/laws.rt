@@ -1,7 +1,7 @@
 //! What holds of the texts of every format and syntax, for callers' proofs: each call does nothing and states one law.
 
 ghost use Rattle.omega_text.specs.Cut.{CutOrFault, CutsAreOne, CutsHaveNoFault, CutsJoin, FaultsAreOne};
-ghost use Rattle.omega_text.specs.Syntax.{IsDecided, SyntaxFaultsAreFirst, TextFaultsAreOne, TextsAreReadOrFaulty, TextsHaveNoFault};
+ghost use Rattle.omega_text.specs.Syntax.{IsDecidable, SyntaxFaultsAreFirst, TextFaultsAreOne, TextsAreReadOrFaulty, TextsHaveNoFault};
 
 pub use crate::limits::text_limits_are_stated;
 use crate::syntax::TextSyntax;
@@ -63,7 +63,7 @@ pub fn syntax_faults_are_first<S: TextSyntax>()
 
 /// Each text within the limit spells something, or has a fault, if the syntax is decided.
 pub fn texts_are_read_or_faulty<S: TextSyntax>()
-    ensures { IsDecided S.syntax → TextsAreReadOrFaulty S.syntax }
+    ensures { IsDecidable S.syntax → TextsAreReadOrFaulty S.syntax }
 {
     S::goes_on_one_way();
 }

@@ -4,11 +4,11 @@ use crate::token::Token;
 /// The kinds of a format's tokens, by which its texts are cut.
 pub trait TokenKind: Copy {
     ghost use Rattle.std.specs.Prelude.{length, ◌≤◌, IfErr, IfOk, IfNone, IfSome};
-    ghost use Rattle.omega_text.specs.Format.{Format, GoesOneWay, IsLexical, IsPartBehind};
+    ghost use Rattle.omega_text.specs.Format.{TextFormat, GoesOneWay, IsLexical, IsPartBehind};
     ghost use Rattle.omega_text.specs.Lexeme.{lexeme_of};
 
     /// How texts of the format go on from each place.
-    ghost format: { Format Self };
+    ghost format: { TextFormat Self };
 
     /// The next token of a text from a place on, or none where only what the format passes over is left.
     fn next_token(source: &[u8], at: usize) -> Result<Option<Token<'_, Self>>, TextFault>

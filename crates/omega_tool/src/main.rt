@@ -3,9 +3,9 @@
 
 ghost use Rattle.std.specs.Prelude.{IfOk, IsOkUnless};
 ghost use Rattle.omega_text.specs.declared.refusal.Refusal.TheVariants.{Memory};
-ghost use Rattle.omega_line.specs.Line.{IsFault, IsRunnable};
+ghost use Rattle.omega_command.specs.Line.{IsFaultLine, IsRunnable};
 
-use omega_command::read_words;
+use omega_words::read_words;
 use omega_run::{FromRead, HostFiles, Line, Refusal, ToWrite, obey};
 use std::alloc::Global;
 use std::io;
@@ -39,7 +39,7 @@ fn asked_of(rt: &HostRuntime) -> Result<Line, Refusal>
 
 /// The line for words that are no text, unless there was no memory for them.
 fn no_text(alloc: Global, kind: io::ErrorKind) -> Result<Line, Refusal>
-    ensures fault { IfOk result IsFault }
+    ensures fault { IfOk result IsFaultLine }
     ensures memory { IsOkUnless result Memory }
 {
     if kind == io::ErrorKind::OutOfMemory {

@@ -1,7 +1,7 @@
 -- Tokens passed one after another, and what follows them.
 use Rattle.std.proofs.Common.{◌≡◌, List, [], ◌∷◌, ◌++◌, map, ap, append_assoc, refl, sym, ◌∙◌, subst, Result, Ok, Err, IfErr, IsErrAnd}
 use Rattle.std.proofs.lemmas.List.{map-append}
-use Rattle.omega_acc.specs.Symbols.{EndsThere, IsNoOperator, IsUnread, Symbol, symbol_of}
+use Rattle.omega_acc.specs.Symbols.{EndsThere, IsNoOperator, IsUnread, ExpressionSymbol, expression_symbol_of}
 use Rattle.omega_acc.specs.layout.Passing.{NextIsNot, Passed}
 use Rattle.omega_text.specs.Lexeme.{Lexeme}
 use Rattle.omega_text.specs.declared.hoa.kind.HoaKind.{HoaKind}
@@ -11,22 +11,22 @@ use Rattle.omega_text.specs.declared.refusal.Refusal.TheVariants as refusals
 use Rattle.omega_text.specs.declared.refusal.text.TextFault.TheVariants as faults
 
 -- a token more is passed
-passed_more : (whole : List (Lexeme HoaKind)) (symbols : List Symbol) (lexeme : Lexeme HoaKind) (left : List (Lexeme HoaKind)) (more : List Symbol)
-    → Passed whole symbols (lexeme ∷ left) → more ≡ symbols ++ symbol_of lexeme ∷ [] → Passed whole more left
+passed_more : (whole : List (Lexeme HoaKind)) (symbols : List ExpressionSymbol) (lexeme : Lexeme HoaKind) (left : List (Lexeme HoaKind)) (more : List ExpressionSymbol)
+    → Passed whole symbols (lexeme ∷ left) → more ≡ symbols ++ expression_symbol_of lexeme ∷ [] → Passed whole more left
 passed_more whole symbols lexeme left more passed is = record {
   front = passed.front ++ lexeme ∷ [];
   split = passed.split ∙ sym (append_assoc passed.front (lexeme ∷ []) left);
-  spells = map-append symbol_of passed.front (lexeme ∷ []) ∙ (ap (λ front. front ++ symbol_of lexeme ∷ []) passed.spells ∙ sym is);
+  spells = map-append expression_symbol_of passed.front (lexeme ∷ []) ∙ (ap (λ front. front ++ expression_symbol_of lexeme ∷ []) passed.spells ∙ sym is);
 }
 
 -- the same symbols otherwise grouped
-pub passed_same : (whole left : List (Lexeme HoaKind)) (symbols more : List Symbol)
+pub passed_same : (whole left : List (Lexeme HoaKind)) (symbols more : List ExpressionSymbol)
     → Passed whole symbols left → more ≡ symbols → Passed whole more left
 passed_same whole left symbols more passed is = record { front = passed.front; split = passed.split; spells = passed.spells ∙ sym is }
 
 -- the next token
-pub passed_next : (whole old left : List (Lexeme HoaKind)) (lexeme : Lexeme HoaKind) (symbols more : List Symbol) (symbol : Symbol)
-    → Passed whole symbols old → old ≡ lexeme ∷ left → symbol_of lexeme ≡ symbol → more ≡ symbols ++ symbol ∷ [] → Passed whole more left
+pub passed_next : (whole old left : List (Lexeme HoaKind)) (lexeme : Lexeme HoaKind) (symbols more : List ExpressionSymbol) (symbol : ExpressionSymbol)
+    → Passed whole symbols old → old ≡ lexeme ∷ left → expression_symbol_of lexeme ≡ symbol → more ≡ symbols ++ symbol ∷ [] → Passed whole more left
 passed_next whole old left lexeme symbols more symbol passed next is grouped =
     passed_more whole symbols lexeme left more (subst (Passed whole symbols) next passed) (grouped ∙ ap (λ s. symbols ++ s ∷ []) (sym is))
 
@@ -35,12 +35,12 @@ pub nothing_passed : (whole : List (Lexeme HoaKind)) → Passed whole [] whole
 nothing_passed whole = record { front = []; split = refl; spells = refl }
 
 -- what is passed from where these stand
-pub passed_then : (whole middle left : List (Lexeme HoaKind)) (symbols more : List Symbol)
+pub passed_then : (whole middle left : List (Lexeme HoaKind)) (symbols more : List ExpressionSymbol)
     → Passed whole symbols middle → Passed middle more left → Passed whole (symbols ++ more) left
 passed_then whole middle left symbols more first second = record {
   front = first.front ++ second.front;
   split = first.split ∙ (ap (λ rest. first.front ++ rest) second.split ∙ sym (append_assoc first.front second.front left));
-  spells = map-append symbol_of first.front second.front ∙ (ap (λ front. front ++ map symbol_of second.front) first.spells ∙ ap (λ back. symbols ++ back) second.spells);
+  spells = map-append expression_symbol_of first.front second.front ∙ (ap (λ front. front ++ map expression_symbol_of second.front) first.spells ∙ ap (λ back. symbols ++ back) second.spells);
 }
 
 -- two lists and what joins them, regrouped

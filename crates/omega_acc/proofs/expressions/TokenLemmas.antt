@@ -2,7 +2,7 @@
 use Rattle.std.proofs.Common.{◌≡◌, ℕ, ◌+◌, Bool, true, false, ◌||◌, ◌==◌, List, [], ◌∷◌, ◌++◌, drop, length, map, ap, append_assoc, refl, sym, ◌∙◌, subst, arith, length-append}
 use Rattle.std.proofs.lemmas.List.{drop-drop, map-append}
 use Rattle.std.proofs.Math.Seq.{drop-append_seam}
-use Rattle.omega_acc.specs.Symbols.{Symbol, seen_as, symbol_of}
+use Rattle.omega_acc.specs.Symbols.{ExpressionSymbol, seen_as, expression_symbol_of}
 use Rattle.omega_acc.specs.WritingLaws.{AreThere}
 use Rattle.omega_text.specs.Cut.{Cuts, CutsJoin}
 use Rattle.omega_text.specs.Lexeme.{lexeme_at}
@@ -41,7 +41,7 @@ drop-first source first rest from stands =
     sym (drop-drop (length first) from source) ∙ (ap (drop (length first)) stands ∙ drop-append_seam first rest)
 
 -- the tokens of two texts, one after the other
-pub there-then : Tokens → (source first second behind : List ℕ) (from : ℕ) (one other : List Symbol)
+pub there-then : Tokens → (source first second behind : List ℕ) (from : ℕ) (one other : List ExpressionSymbol)
     → drop from source ≡ (first ++ second) ++ behind
     → (drop from source ≡ first ++ (second ++ behind) → AreThere source from (from + length first) one)
     → ((place : ℕ) → drop place source ≡ second ++ behind → AreThere source place (place + length second) other)
@@ -55,7 +55,7 @@ there-then laws source first second behind from one other stands begins follows 
       lexemes = front.lexemes ++ back.lexemes;
       cuts = subst (λ to. Cuts hoa_format source from (front.lexemes ++ back.lexemes) to) ends
           (laws.join source from (from + length first) (from + length first + length second) front.lexemes back.lexemes front.cuts back.cuts);
-      spells = map-append symbol_of front.lexemes back.lexemes ∙ (ap (λ symbols. symbols ++ map symbol_of back.lexemes) front.spells ∙ ap (λ symbols. one ++ symbols) back.spells);
+      spells = map-append expression_symbol_of front.lexemes back.lexemes ∙ (ap (λ symbols. symbols ++ map expression_symbol_of back.lexemes) front.spells ∙ ap (λ symbols. one ++ symbols) back.spells);
     }
 
 -- where neither holds the first does not

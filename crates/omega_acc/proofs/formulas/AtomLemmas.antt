@@ -1,7 +1,7 @@
 -- The set of an atom, with its parentheses.
 use Rattle.std.proofs.Common.{◌≡◌, ℕ, ◌<◌, Bool, true, false, List, [], ◌∷◌, MatchBool, length, ap, refl, sym, ◌∙◌, subst, arith}
 use Rattle.std.proofs.lemmas.List.{length-append, length-map}
-use Rattle.omega_acc.specs.Symbols.{Symbol, number, seen_as, sign, symbol_of}
+use Rattle.omega_acc.specs.Symbols.{ExpressionSymbol, number, seen_as, sign, expression_symbol_of}
 use Rattle.omega_acc.specs.layout.formula.States.{IsStuck, PassesSet, barred, entered, named, numbered}
 use Rattle.omega_acc.specs.layout.Passing.{NextIsNot, Passed, PassesNumber, PassesOne}
 use Rattle.omega_acc.proofs.formulas.Unread.{IsStuck-barred, IsStuck-behind, IsStuck-entered, IsStuck-numbered}
@@ -46,8 +46,8 @@ IsStuck-unclosed old one two three false set passes bar counts not =
     (ap (λ k. seen_as k counts.lexeme.value counts.lexeme.text) counts.is) (λ count. refl) (IsStuck-numbered three not))
 
 -- a sign is passed
-sign_passed : (old new : List (Lexeme HoaKind)) (lexeme : Lexeme HoaKind) (symbol : Symbol)
-    → old ≡ lexeme ∷ new → symbol_of lexeme ≡ symbol → Passed old (symbol ∷ []) new
+sign_passed : (old new : List (Lexeme HoaKind)) (lexeme : Lexeme HoaKind) (symbol : ExpressionSymbol)
+    → old ≡ lexeme ∷ new → expression_symbol_of lexeme ≡ symbol → Passed old (symbol ∷ []) new
 sign_passed old new lexeme symbol next is = record { front = lexeme ∷ []; split = next; spells = ap (λ s. s ∷ []) is }
 
 -- a set is passed behind its `(`
@@ -74,4 +74,4 @@ PassesSet-of old one two three new negated set opens bar counts closes =
 -- fewer tokens are left behind a set
 pub PassesSet-shorter : (negated : Bool) (set : ℕ) (old new : List (Lexeme HoaKind)) → PassesSet negated set old new → length new < length old
 PassesSet-shorter negated set old new passes =
-    omega (arith, ap length passes.split, length-append passes.front new, sym (length-map passes.front symbol_of) ∙ ap length passes.spells)
+    omega (arith, ap length passes.split, length-append passes.front new, sym (length-map passes.front expression_symbol_of) ∙ ap length passes.spells)

@@ -4,7 +4,7 @@ use Rattle.std.proofs.Common.{◌≡◌, ℕ, ◌+◌, ◌-◌, ◌<◌, ◌≤�
 use Rattle.std.specs.List.{All}
 use Rattle.std.proofs.lemmas.Bool.{cases_eq, cond_both, ne_eqb, or_from, or_left, or_right}
 use Rattle.omega_acc.specs.formula.Acceptance.{accepts, fin, holds, inf, occurs, disjunction, conjunction}
-use Rattle.omega_acc.specs.formula.Kind.{beyond, formula_of, greatest, has_parity, least_from, least_mark, priority_by, sets_left, without_sets}
+use Rattle.omega_acc.specs.formula.Kind.{beyond, formula_of, greatest_number, has_parity, least_from, least_mark, priority_by, sets_left, without_sets}
 use Rattle.omega_acc.specs.declared.formula.kind.Order.{Order}
 use Rattle.omega_acc.specs.declared.formula.kind.Order.TheVariants.{Max, Min}
 use Rattle.omega_acc.specs.declared.formula.kind.Parity.{Parity}
@@ -174,18 +174,18 @@ min-value-all parity (suc left) forever = min-value parity (suc left) left forev
 
 -- ---- the priorities
 
-greatest-max-odd : (count : ℕ) (forever : List (List ℕ)) → greatest (map (priority_by Max Odd count) forever) ≡ most_beyond forever
+greatest-max-odd : (count : ℕ) (forever : List (List ℕ)) → greatest_number (map (priority_by Max Odd count) forever) ≡ most_beyond forever
 greatest-max-odd count [] = refl
 greatest-max-odd count (marks ∷ forever) = ap (max (beyond marks)) (greatest-max-odd count forever)
 
 greatest-max-even : (count : ℕ) (forever : List (List ℕ)) → 0 < length forever
-    → greatest (map (priority_by Max Even count) forever) ≡ most_beyond forever + 1
+    → greatest_number (map (priority_by Max Even count) forever) ≡ most_beyond forever + 1
 greatest-max-even count [] more = absurd (omega arith)
 greatest-max-even count (marks ∷ []) more = omega arith
 greatest-max-even count (marks ∷ next ∷ forever) more = omega (arith, greatest-max-even count (next ∷ forever) (omega arith))
 
 greatest-min : (parity : Parity) (count : ℕ) (forever : List (List ℕ)) → 0 < length forever
-    → greatest (map (priority_by Min parity count) forever) ≡ least_from parity count - lowest count forever
+    → greatest_number (map (priority_by Min parity count) forever) ≡ least_from parity count - lowest count forever
 greatest-min parity count [] more = absurd (omega arith)
 greatest-min parity count (marks ∷ []) more = omega (arith, least_mark-le count marks)
 greatest-min parity count (marks ∷ next ∷ forever) more = omega (arith, greatest-min parity count (next ∷ forever) (omega arith))
@@ -206,7 +206,7 @@ most_beyond-le count (marks ∷ forever) within =
 -- the formula holds where the greatest priority is even
 pub accepts-greatest : (order : Order) (parity : Parity) (count : ℕ) (forever : List (List ℕ)) → 0 < length forever
     → All (λ marks. All (λ mark. mark < count) marks) forever
-    → accepts forever (formula_of order parity (sets_left order count count)) ≡ has_parity Even (greatest (map (priority_by order parity count) forever))
+    → accepts forever (formula_of order parity (sets_left order count count)) ≡ has_parity Even (greatest_number (map (priority_by order parity count) forever))
 accepts-greatest Max Even count forever more within =
     max-value Even count count forever (most_beyond-le count forever within)
     ∙ (sym (has_parity-suc Even (most_beyond forever))

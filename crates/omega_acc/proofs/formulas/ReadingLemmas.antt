@@ -1,13 +1,13 @@
 -- Acceptance formulas built from their tokens.
 use Rattle.std.proofs.Common.{◌≡◌, ℕ, ◌+◌, List, [], ◌∷◌, ◌++◌, max, min, ap, append_assoc, refl, sym, ◌∙◌, subst, arith}
-use Rattle.omega_acc.specs.formula.Reading.{IsAccOf, ReadsAcc, acc_spelled}
+use Rattle.omega_acc.specs.formula.Reading.{IsAccOf, ReadsAcc, formula_symbols}
 use Rattle.omega_acc.specs.formula.Raw.{RawAccTree, atom, conjunction, constant, disjunction, group}
-use Rattle.omega_acc.specs.Symbols.{EndsThere, Rank, Symbol, conjunctive, disjunctive, seen_as, sign, symbol_of, unary}
+use Rattle.omega_acc.specs.Symbols.{EndsThere, Rank, ExpressionSymbol, conjunctive, disjunctive, seen_as, sign, expression_symbol_of, unary}
 use Rattle.omega_acc.specs.declared.pending.Pending.{Pending}
 use Rattle.omega_acc.specs.declared.pending.Pending.TheVariants.{And, Not, Open, Or}
 use Rattle.omega_acc.specs.declared.formula.raw.RawAccNode.{RawAccNode}
 use Rattle.omega_acc.specs.declared.formula.raw.RawAccNode.TheVariants as node
-use Rattle.omega_acc.specs.layout.formula.Building.{Before, Fits, Has, IsOpen, Wants, anded, before_names, before_nodes, before_pending, before_symbols, capped, opened, ored, start}
+use Rattle.omega_acc.specs.layout.formula.Building.{Before, FitsBehind, Has, IsOpenBefore, Wants, anded, before_names, before_nodes, before_pending, before_symbols, capped, opened, ored, start}
 use Rattle.omega_acc.specs.layout.Passing.{NextIsNot, Passed, PassesOne}
 use Rattle.omega_acc.specs.layout.formula.Raw.{atom_names, raw_acc_postfix}
 use Rattle.omega_acc.proofs.expressions.PassingLemmas.{enclosed_list, end_others, followed_lists, joined_lists, passed_next, passed_same, passed_then}
@@ -29,7 +29,7 @@ wants_first whole = record {
 
 -- `(` is passed
 pub wants_opened : (whole old left : List (Lexeme HoaKind)) (lexeme : Lexeme HoaKind) (nodes : List RawAccNode) (names : List ℕ) (pending : List Pending)
-    → Wants whole old nodes names pending → old ≡ lexeme ∷ left → symbol_of lexeme ≡ sign kind.OpenParenthesis
+    → Wants whole old nodes names pending → old ≡ lexeme ∷ left → expression_symbol_of lexeme ≡ sign kind.OpenParenthesis
     → Wants whole left nodes names (Open ∷ pending)
 wants_opened whole old left lexeme nodes names pending wants next is = record {
   before = opened wants.before;
@@ -61,7 +61,7 @@ leaf_capped (disjunction left right) leaf = absurd leaf
 leaf_capped (group part) leaf = absurd leaf
 
 -- a unary part may stand anywhere
-fits_unary : (before : Before) → Fits unary before
+fits_unary : (before : Before) → FitsBehind unary before
 fits_unary start = tt
 fits_unary (opened before) = tt
 fits_unary (anded before left) = tt
@@ -69,8 +69,8 @@ fits_unary (ored before left) = tt
 
 -- a constant or an atom is passed
 pub has_leaf : (whole middle left : List (Lexeme HoaKind)) (lexeme : Lexeme HoaKind) (nodes : List RawAccNode) (names : List ℕ) (pending : List Pending)
-    (tree : RawAccTree) (more : List Symbol) (all_nodes : List RawAccNode) (all_names : List ℕ) (all_pending : List Pending) (old : List (Lexeme HoaKind))
-    → IsLeaf tree → old ≡ lexeme ∷ middle → acc_spelled tree ≡ symbol_of lexeme ∷ more → Passed middle more left
+    (tree : RawAccTree) (more : List ExpressionSymbol) (all_nodes : List RawAccNode) (all_names : List ℕ) (all_pending : List Pending) (old : List (Lexeme HoaKind))
+    → IsLeaf tree → old ≡ lexeme ∷ middle → formula_symbols tree ≡ expression_symbol_of lexeme ∷ more → Passed middle more left
     → all_nodes ≡ nodes ++ raw_acc_postfix tree → all_names ≡ names ++ atom_names tree → all_pending ≡ pending
     → Wants whole old nodes names pending → Has unary whole left 1 all_nodes all_names all_pending
 has_leaf whole middle left lexeme nodes names pending tree more all_nodes all_names all_pending old leaf next spells behind flat named pends wants = record {
@@ -85,13 +85,13 @@ has_leaf whole middle left lexeme nodes names pending tree more all_nodes all_na
   pends = pends ∙ wants.pends;
   passed = passed_same whole left _ _
       (passed_then whole middle left _ _ (passed_next whole old middle lexeme _ _ _ wants.passed next refl refl) behind)
-      (ap (λ symbols. before_symbols wants.before ++ symbols) spells ∙ sym (append_assoc (before_symbols wants.before) (symbol_of lexeme ∷ []) more));
+      (ap (λ symbols. before_symbols wants.before ++ symbols) spells ∙ sym (append_assoc (before_symbols wants.before) (expression_symbol_of lexeme ∷ []) more));
 }
 
 -- a part behind `&`
 conjoined_before : (before : Before) (whole left : List (Lexeme HoaKind)) (depth other deeper : ℕ) (nodes : List RawAccNode) (names : List ℕ) (rest : List Pending) (part : RawAccTree)
-    → IsAccOf unary part → IsOpen before → depth ≡ capped part → deeper ≡ min (max depth other + 1) 257 → nodes ≡ before_nodes before ++ raw_acc_postfix part
-    → names ≡ before_names before ++ atom_names part → And other ∷ rest ≡ before_pending before → Passed whole (before_symbols before ++ acc_spelled part) left
+    → IsAccOf unary part → IsOpenBefore before → depth ≡ capped part → deeper ≡ min (max depth other + 1) 257 → nodes ≡ before_nodes before ++ raw_acc_postfix part
+    → names ≡ before_names before ++ atom_names part → And other ∷ rest ≡ before_pending before → Passed whole (before_symbols before ++ formula_symbols part) left
     → Has conjunctive whole left deeper (nodes ++ node.And ∷ []) names rest
 conjoined_before start whole left depth other deeper nodes names rest part is sound deep more flat named pends passed = absurd (subst (λ p. IsConjunct (top p)) pends tt)
 conjoined_before (opened before) whole left depth other deeper nodes names rest part is sound deep more flat named pends passed = absurd (subst (λ p. IsConjunct (top p)) pends tt)
@@ -108,7 +108,7 @@ conjoined_before (anded before first) whole left depth other deeper nodes names 
       flat = ap (λ front. front ++ node.And ∷ []) flat ∙ followed_lists (before_nodes before) (raw_acc_postfix first) (raw_acc_postfix part) node.And;
       named = named ∙ append_assoc (before_names before) (atom_names first) (atom_names part);
       pends = ap below pends;
-      passed = passed_same whole left _ _ passed (joined_lists (before_symbols before) (acc_spelled first) (acc_spelled part) (sign kind.And));
+      passed = passed_same whole left _ _ passed (joined_lists (before_symbols before) (formula_symbols first) (formula_symbols part) (sign kind.And));
     }
 
 pub has_conjoined : (whole left : List (Lexeme HoaKind)) (depth other deeper : ℕ) (nodes all : List RawAccNode) (names : List ℕ) (pending rest : List Pending)
@@ -120,8 +120,8 @@ has_conjoined whole left depth other deeper nodes all names pending rest waits e
 
 -- a part behind `|`
 disjoined_before : (before : Before) (whole left : List (Lexeme HoaKind)) (depth other deeper : ℕ) (nodes : List RawAccNode) (names : List ℕ) (rest : List Pending) (part : RawAccTree)
-    → IsAccOf conjunctive part → IsOpen before → depth ≡ capped part → deeper ≡ min (max depth other + 1) 257 → nodes ≡ before_nodes before ++ raw_acc_postfix part
-    → names ≡ before_names before ++ atom_names part → Or other ∷ rest ≡ before_pending before → Passed whole (before_symbols before ++ acc_spelled part) left
+    → IsAccOf conjunctive part → IsOpenBefore before → depth ≡ capped part → deeper ≡ min (max depth other + 1) 257 → nodes ≡ before_nodes before ++ raw_acc_postfix part
+    → names ≡ before_names before ++ atom_names part → Or other ∷ rest ≡ before_pending before → Passed whole (before_symbols before ++ formula_symbols part) left
     → Has disjunctive whole left deeper (nodes ++ node.Or ∷ []) names rest
 disjoined_before start whole left depth other deeper nodes names rest part is sound deep more flat named pends passed = absurd (subst (λ p. IsDisjunct (top p)) pends tt)
 disjoined_before (opened before) whole left depth other deeper nodes names rest part is sound deep more flat named pends passed = absurd (subst (λ p. IsDisjunct (top p)) pends tt)
@@ -138,7 +138,7 @@ disjoined_before (ored before first) whole left depth other deeper nodes names r
       flat = ap (λ front. front ++ node.Or ∷ []) flat ∙ followed_lists (before_nodes before) (raw_acc_postfix first) (raw_acc_postfix part) node.Or;
       named = named ∙ append_assoc (before_names before) (atom_names first) (atom_names part);
       pends = ap below pends;
-      passed = passed_same whole left _ _ passed (joined_lists (before_symbols before) (acc_spelled first) (acc_spelled part) (sign kind.Or));
+      passed = passed_same whole left _ _ passed (joined_lists (before_symbols before) (formula_symbols first) (formula_symbols part) (sign kind.Or));
     }
 
 pub has_disjoined : (whole left : List (Lexeme HoaKind)) (depth other deeper : ℕ) (nodes all : List RawAccNode) (names : List ℕ) (pending rest : List Pending)
@@ -163,13 +163,13 @@ conjunctive_is (group part) is = is
 conjunctive_is (conjunction left right) is = is
 conjunctive_is (disjunction left right) is = absurd is.0
 
-fits_loose : (before : Before) → IsLoose (before_pending before) → Fits conjunctive before
+fits_loose : (before : Before) → IsLoose (before_pending before) → FitsBehind conjunctive before
 fits_loose start loose = tt
 fits_loose (opened before) loose = tt
 fits_loose (anded before left) loose = loose
 fits_loose (ored before left) loose = tt
 
-fits_free : (before : Before) → IsFree (before_pending before) → Fits disjunctive before
+fits_free : (before : Before) → IsFree (before_pending before) → FitsBehind disjunctive before
 fits_free start free = tt
 fits_free (opened before) free = tt
 fits_free (anded before left) free = free
@@ -208,7 +208,7 @@ has_free whole left depth nodes names pending has free = record {
 }
 
 -- no `!` or `&` waits for an and-expression
-loose_of : (before : Before) → Fits conjunctive before → IsLoose (before_pending before)
+loose_of : (before : Before) → FitsBehind conjunctive before → IsLoose (before_pending before)
 loose_of start fits = tt
 loose_of (opened before) fits = tt
 loose_of (anded before left) fits = fits
@@ -219,7 +219,7 @@ pub has_is_loose : (whole left : List (Lexeme HoaKind)) (depth : ℕ) (nodes : L
 has_is_loose whole left depth nodes names pending has = subst IsLoose (sym has.pends) (loose_of has.before has.fits)
 
 -- only a parenthesis waits for an or-expression
-free_of : (before : Before) → Fits disjunctive before → IsFree (before_pending before)
+free_of : (before : Before) → FitsBehind disjunctive before → IsFree (before_pending before)
 free_of start fits = tt
 free_of (opened before) fits = tt
 free_of (anded before left) fits = fits
@@ -231,7 +231,7 @@ has_is_free whole left depth nodes names pending has = subst IsFree (sym has.pen
 
 -- `&` is passed behind a part
 pub wants_conjunct : (whole old left : List (Lexeme HoaKind)) (lexeme : Lexeme HoaKind) (depth : ℕ) (nodes : List RawAccNode) (names : List ℕ) (pending : List Pending)
-    → Has conjunctive whole old depth nodes names pending → old ≡ lexeme ∷ left → symbol_of lexeme ≡ sign kind.And
+    → Has conjunctive whole old depth nodes names pending → old ≡ lexeme ∷ left → expression_symbol_of lexeme ≡ sign kind.And
     → Wants whole left nodes names (And depth ∷ pending)
 wants_conjunct whole old left lexeme depth nodes names pending has next is = record {
   before = anded has.before has.part;
@@ -239,12 +239,12 @@ wants_conjunct whole old left lexeme depth nodes names pending has next is = rec
   flat = has.flat;
   named = has.named;
   pends = ap (λ d. And d ∷ pending) has.deep ∙ ap (λ more. And (capped has.part) ∷ more) has.pends;
-  passed = passed_next whole old left lexeme _ _ _ has.passed next is (sym (append_assoc (before_symbols has.before) (acc_spelled has.part) (sign kind.And ∷ [])));
+  passed = passed_next whole old left lexeme _ _ _ has.passed next is (sym (append_assoc (before_symbols has.before) (formula_symbols has.part) (sign kind.And ∷ [])));
 }
 
 -- `|` is passed behind a part
 pub wants_disjunct : (whole old left : List (Lexeme HoaKind)) (lexeme : Lexeme HoaKind) (depth : ℕ) (nodes : List RawAccNode) (names : List ℕ) (pending : List Pending)
-    → Has disjunctive whole old depth nodes names pending → old ≡ lexeme ∷ left → symbol_of lexeme ≡ sign kind.Or
+    → Has disjunctive whole old depth nodes names pending → old ≡ lexeme ∷ left → expression_symbol_of lexeme ≡ sign kind.Or
     → Wants whole left nodes names (Or depth ∷ pending)
 wants_disjunct whole old left lexeme depth nodes names pending has next is = record {
   before = ored has.before has.part;
@@ -252,13 +252,13 @@ wants_disjunct whole old left lexeme depth nodes names pending has next is = rec
   flat = has.flat;
   named = has.named;
   pends = ap (λ d. Or d ∷ pending) has.deep ∙ ap (λ more. Or (capped has.part) ∷ more) has.pends;
-  passed = passed_next whole old left lexeme _ _ _ has.passed next is (sym (append_assoc (before_symbols has.before) (acc_spelled has.part) (sign kind.Or ∷ [])));
+  passed = passed_next whole old left lexeme _ _ _ has.passed next is (sym (append_assoc (before_symbols has.before) (formula_symbols has.part) (sign kind.Or ∷ [])));
 }
 
 grouped_before : (before : Before) (whole old left : List (Lexeme HoaKind)) (lexeme : Lexeme HoaKind) (depth deeper : ℕ) (nodes : List RawAccNode) (names : List ℕ) (rest : List Pending) (part : RawAccTree)
-    → IsAccOf disjunctive part → IsOpen before → depth ≡ capped part → deeper ≡ min (depth + 1) 257 → nodes ≡ before_nodes before ++ raw_acc_postfix part
-    → names ≡ before_names before ++ atom_names part → Open ∷ rest ≡ before_pending before → Passed whole (before_symbols before ++ acc_spelled part) old
-    → old ≡ lexeme ∷ left → symbol_of lexeme ≡ sign kind.CloseParenthesis
+    → IsAccOf disjunctive part → IsOpenBefore before → depth ≡ capped part → deeper ≡ min (depth + 1) 257 → nodes ≡ before_nodes before ++ raw_acc_postfix part
+    → names ≡ before_names before ++ atom_names part → Open ∷ rest ≡ before_pending before → Passed whole (before_symbols before ++ formula_symbols part) old
+    → old ≡ lexeme ∷ left → expression_symbol_of lexeme ≡ sign kind.CloseParenthesis
     → Has unary whole left deeper (nodes ++ node.Group ∷ []) names rest
 grouped_before start whole old left lexeme depth deeper nodes names rest part is sound deep more flat named pends passed next closes = absurd (subst (λ p. IsParenthesis (top p)) pends tt)
 grouped_before (anded before other) whole old left lexeme depth deeper nodes names rest part is sound deep more flat named pends passed next closes = absurd (subst (λ p. IsParenthesis (top p)) pends tt)
@@ -273,12 +273,12 @@ grouped_before (opened before) whole old left lexeme depth deeper nodes names re
   flat = ap (λ front. front ++ node.Group ∷ []) flat ∙ append_assoc (before_nodes before) (raw_acc_postfix part) (node.Group ∷ []);
   named = named;
   pends = ap below pends;
-  passed = passed_next whole old left lexeme _ _ _ passed next closes (enclosed_list (before_symbols before) (acc_spelled part) (sign kind.OpenParenthesis) (sign kind.CloseParenthesis));
+  passed = passed_next whole old left lexeme _ _ _ passed next closes (enclosed_list (before_symbols before) (formula_symbols part) (sign kind.OpenParenthesis) (sign kind.CloseParenthesis));
 }
 
 pub has_grouped : (whole old left : List (Lexeme HoaKind)) (lexeme : Lexeme HoaKind) (depth deeper : ℕ) (nodes all : List RawAccNode) (names : List ℕ) (pending rest : List Pending)
     → pending ≡ Open ∷ rest → all ≡ nodes ++ node.Group ∷ [] → deeper ≡ min (depth + 1) 257
-    → old ≡ lexeme ∷ left → symbol_of lexeme ≡ sign kind.CloseParenthesis
+    → old ≡ lexeme ∷ left → expression_symbol_of lexeme ≡ sign kind.CloseParenthesis
     → Has disjunctive whole old depth nodes names pending → Has unary whole left deeper all names rest
 has_grouped whole old left lexeme depth deeper nodes all names pending rest waits ended more next closes has =
     subst (λ final. Has unary whole left deeper final names rest) (sym ended)
@@ -294,7 +294,7 @@ pub record IsRead (whole left : List (Lexeme HoaKind)) (depth : ℕ) (nodes : Li
 
 read_before : (before : Before) (whole left : List (Lexeme HoaKind)) (depth : ℕ) (nodes : List RawAccNode) (names : List ℕ) (part : RawAccTree)
     → IsAccOf disjunctive part → depth ≡ capped part → nodes ≡ before_nodes before ++ raw_acc_postfix part
-    → names ≡ before_names before ++ atom_names part → [] ≡ before_pending before → Passed whole (before_symbols before ++ acc_spelled part) left → EndsThere left
+    → names ≡ before_names before ++ atom_names part → [] ≡ before_pending before → Passed whole (before_symbols before ++ formula_symbols part) left → EndsThere left
     → IsRead whole left depth nodes names
 read_before (opened before) whole left depth nodes names part is deep flat named pends passed ends = absurd (subst (λ p. IsNothing (top p)) pends tt)
 read_before (anded before other) whole left depth nodes names part is deep flat named pends passed ends = absurd (subst (λ p. IsNothing (top p)) pends tt)

@@ -13,7 +13,7 @@ use Rattle.omega_acc.specs.label.Raw.{RawLabelTree, alias, conjunction, constant
 use Rattle.omega_acc.specs.layout.label.Bare.{bare, is_alias, is_bare}
 use Rattle.omega_acc.specs.layout.label.Extents.{extent_of}
 use Rattle.omega_acc.specs.Limits.{most_depth}
-use Rattle.omega_acc.specs.layout.label.Label.{IsLabel, postfix, tree_of, tree_of-postfix}
+use Rattle.omega_acc.specs.layout.label.Label.{IsLabelInPostfix, postfix, tree_of, tree_of-postfix}
 use Rattle.omega_acc.specs.layout.label.Raw.{raw_postfix}
 use Rattle.omega_acc.proofs.labels.ExpansionLemmas.{deep-none}
 use Rattle.omega_acc.specs.declared.label.extents.Extent.{Extent}
@@ -128,7 +128,7 @@ pub nodes-bare : (tree : RawLabelTree) (all left : List LabelNode) → list_any 
 nodes-bare tree all left none is sifted = sifted ∙ (ap (filter is_bare) is ∙ filter-bare tree none)
 
 -- and are a label, if it was not too deep
-pub IsLabel-bare : (tree : RawLabelTree) (nodes : List LabelNode) → nodes ≡ postfix (bare tree) → raw_depth tree ≤ most_depth → IsLabel nodes
+pub IsLabel-bare : (tree : RawLabelTree) (nodes : List LabelNode) → nodes ≡ postfix (bare tree) → raw_depth tree ≤ most_depth → IsLabelInPostfix nodes
 IsLabel-bare tree nodes is shallow =
     let made : tree_of nodes ≡ bare tree = ap tree_of is ∙ tree_of-postfix (bare tree) in
     record { flat = ap postfix made ∙ sym is; shallow = omega (arith, ap label_depth made, depth-bare tree, shallow) }

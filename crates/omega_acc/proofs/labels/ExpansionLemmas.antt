@@ -6,7 +6,7 @@ use Rattle.omega_text.specs.declared.refusal.automaton.AutomatonFault.TheVariant
 use Rattle.omega_acc.specs.label.Expanding.{Meaning, fault_of_meaning}
 use Rattle.omega_acc.specs.label.Label.{label_depth, label_size}
 use Rattle.omega_acc.specs.layout.label.Emitting.{nodes_of}
-use Rattle.omega_acc.specs.layout.label.Label.{IsLabel, postfix, tree_of, tree_of-postfix}
+use Rattle.omega_acc.specs.layout.label.Label.{IsLabelInPostfix, postfix, tree_of, tree_of-postfix}
 use Rattle.omega_acc.proofs.labels.EntryLemmas.{IsShallow}
 use Rattle.omega_acc.specs.declared.label.LabelNode.{LabelNode}
 
@@ -23,7 +23,7 @@ sound-some None sound = absurd (some-none sound)
 sound-some (Some meaning) sound = refl
 
 -- its nodes are a label
-pub IsLabel-sound : (meaning : Option Meaning) (nodes : List LabelNode) → fault_of_meaning meaning ≡ None → IsShallow meaning → nodes ≡ nodes_of meaning → IsLabel nodes
+pub IsLabel-sound : (meaning : Option Meaning) (nodes : List LabelNode) → fault_of_meaning meaning ≡ None → IsShallow meaning → nodes ≡ nodes_of meaning → IsLabelInPostfix nodes
 IsLabel-sound None nodes sound shallow is = absurd (some-none sound)
 IsLabel-sound (Some meaning) nodes sound shallow is =
     let tree : tree_of nodes ≡ meaning.tree = ap tree_of is ∙ tree_of-postfix meaning.tree in

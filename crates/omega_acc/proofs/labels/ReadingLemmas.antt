@@ -2,13 +2,13 @@
 use Rattle.std.proofs.Common.{◌≡◌, ℕ, ◌+◌, zero, suc, Bool, true, false, List, [], ◌∷◌, ◌++◌, map, max, min, ap, append-nil, append_assoc, if◌then◌else◌, MatchBool, refl, sym, ◌∙◌, subst, arith}
 use Rattle.std.proofs.lemmas.List.{map-append}
 use Rattle.omega_acc.specs.label.Raw.{RawLabelTree, alias, conjunction, constant, disjunction, group, negation, proposition}
-use Rattle.omega_acc.specs.label.Reading.{IsOf, Reads, ReadsNone, spelled}
-use Rattle.omega_acc.specs.Symbols.{EndsThere, IsNoOperator, Rank, Symbol, conjunctive, disjunctive, name, number, seen_as, sign, symbol_of, truth_kind, unary}
+use Rattle.omega_acc.specs.label.Reading.{IsOf, Reads, ReadsNoLabel, label_symbols}
+use Rattle.omega_acc.specs.Symbols.{EndsThere, IsNoOperator, Rank, ExpressionSymbol, conjunctive, disjunctive, name, number, seen_as, sign, expression_symbol_of, truth_kind, unary}
 use Rattle.omega_acc.specs.declared.pending.Pending.{Pending}
 use Rattle.omega_acc.specs.declared.pending.Pending.TheVariants.{And, Not, Open, Or}
 use Rattle.omega_acc.specs.declared.label.LabelNode.{LabelNode}
 use Rattle.omega_acc.specs.declared.label.LabelNode.TheVariants as node
-use Rattle.omega_acc.specs.layout.label.Building.{Before, Fits, Has, IsOpen, Wants, anded, before_names, before_nodes, before_pending, before_symbols, capped, denied, literal, literal_depth, opened, ored, start}
+use Rattle.omega_acc.specs.layout.label.Building.{Before, FitsBehind, Has, IsOpenBefore, Wants, anded, before_names, before_nodes, before_pending, before_symbols, capped, denied, literal, literal_depth, opened, ored, start}
 use Rattle.omega_acc.specs.layout.Passing.{NextIsNot, Passed, PassesNumber, PassesOne}
 use Rattle.omega_acc.specs.layout.label.Raw.{alias_names, raw_postfix}
 use Rattle.omega_acc.proofs.expressions.PassingLemmas.{GoOnNone, GoesOnNone, enclosed_list, end_others, followed_lists, go_on_others, joined_lists, passed_next, passed_same}
@@ -30,7 +30,7 @@ wants_first whole = record {
 
 -- `(` is passed
 pub wants_opened : (whole old left : List (Lexeme HoaKind)) (lexeme : Lexeme HoaKind) (nodes : List LabelNode) (names : List ℕ) (pending : List Pending)
-    → Wants whole old nodes names pending → old ≡ lexeme ∷ left → symbol_of lexeme ≡ sign kind.OpenParenthesis
+    → Wants whole old nodes names pending → old ≡ lexeme ∷ left → expression_symbol_of lexeme ≡ sign kind.OpenParenthesis
     → Wants whole left nodes names (Open ∷ pending)
 wants_opened whole old left lexeme nodes names pending wants next is = record {
   before = opened wants.before;
@@ -43,7 +43,7 @@ wants_opened whole old left lexeme nodes names pending wants next is = record {
 
 -- `!` is passed
 pub wants_denied : (whole old left : List (Lexeme HoaKind)) (lexeme : Lexeme HoaKind) (nodes : List LabelNode) (names : List ℕ) (pending : List Pending)
-    → Wants whole old nodes names pending → old ≡ lexeme ∷ left → symbol_of lexeme ≡ sign kind.Not
+    → Wants whole old nodes names pending → old ≡ lexeme ∷ left → expression_symbol_of lexeme ≡ sign kind.Not
     → Wants whole left nodes names (Not ∷ pending)
 wants_denied whole old left lexeme nodes names pending wants next is = record {
   before = denied wants.before;
@@ -55,33 +55,33 @@ wants_denied whole old left lexeme nodes names pending wants next is = record {
 }
 
 -- a label of one symbol
-pub data IsAtom : RawLabelTree → Symbol → Type 0 where
+pub data IsAtom : RawLabelTree → ExpressionSymbol → Type 0 where
   truth : (value : Bool) → IsAtom (constant value) (sign (truth_kind value))
   numbered : (value : ℕ) → IsAtom (proposition value) (number value)
   called : (text : List ℕ) → IsAtom (alias text) (name text)
 
 -- a number is the symbol of its value
-numbered_as : (lexeme : Lexeme HoaKind) (value : ℕ) → lexeme.kind ≡ kind.Int → lexeme.value ≡ value → IsAtom (proposition value) (symbol_of lexeme)
+numbered_as : (lexeme : Lexeme HoaKind) (value : ℕ) → lexeme.kind ≡ kind.Int → lexeme.value ≡ value → IsAtom (proposition value) (expression_symbol_of lexeme)
 numbered_as lexeme value is same =
     subst (IsAtom (proposition value)) (sym (ap (λ k. seen_as k lexeme.value lexeme.text) is ∙ ap number same)) (numbered value)
 
-atom_spelled : (tree : RawLabelTree) (symbol : Symbol) → IsAtom tree symbol → spelled tree ≡ symbol ∷ []
+atom_spelled : (tree : RawLabelTree) (symbol : ExpressionSymbol) → IsAtom tree symbol → label_symbols tree ≡ symbol ∷ []
 atom_spelled tree symbol (truth value) = refl
 atom_spelled tree symbol (numbered value) = refl
 atom_spelled tree symbol (called text) = refl
 
-atom_is : (tree : RawLabelTree) (symbol : Symbol) (rank : Rank) → IsAtom tree symbol → IsOf rank tree
+atom_is : (tree : RawLabelTree) (symbol : ExpressionSymbol) (rank : Rank) → IsAtom tree symbol → IsOf rank tree
 atom_is tree symbol rank (truth value) = tt
 atom_is tree symbol rank (numbered value) = tt
 atom_is tree symbol rank (called text) = tt
 
-atom_capped : (tree : RawLabelTree) (symbol : Symbol) → IsAtom tree symbol → 1 ≡ capped tree
+atom_capped : (tree : RawLabelTree) (symbol : ExpressionSymbol) → IsAtom tree symbol → 1 ≡ capped tree
 atom_capped tree symbol (truth value) = refl
 atom_capped tree symbol (numbered value) = refl
 atom_capped tree symbol (called text) = refl
 
 -- a unary part may stand anywhere
-fits_unary : (before : Before) → Fits unary before
+fits_unary : (before : Before) → FitsBehind unary before
 fits_unary start = tt
 fits_unary (opened before) = tt
 fits_unary (denied before) = tt
@@ -91,26 +91,26 @@ fits_unary (ored before left) = tt
 -- an atom is passed
 pub has_atom : (whole old left : List (Lexeme HoaKind)) (lexeme : Lexeme HoaKind) (nodes : List LabelNode) (names : List ℕ) (pending : List Pending)
     (tree : RawLabelTree) (all_nodes : List LabelNode) (all_names : List ℕ) (all_pending : List Pending)
-    → old ≡ lexeme ∷ left → IsAtom tree (symbol_of lexeme)
+    → old ≡ lexeme ∷ left → IsAtom tree (expression_symbol_of lexeme)
     → all_nodes ≡ nodes ++ raw_postfix tree → all_names ≡ names ++ alias_names tree → all_pending ≡ pending
     → Wants whole old nodes names pending → Has unary whole left 1 all_nodes all_names all_pending
 has_atom whole old left lexeme nodes names pending tree all_nodes all_names all_pending next is flat named pends wants = record {
   before = wants.before;
   part = tree;
-  is = atom_is tree (symbol_of lexeme) unary is;
+  is = atom_is tree (expression_symbol_of lexeme) unary is;
   fits = fits_unary wants.before;
   sound = wants.sound;
-  deep = atom_capped tree (symbol_of lexeme) is;
+  deep = atom_capped tree (expression_symbol_of lexeme) is;
   flat = flat ∙ ap (λ front. front ++ raw_postfix tree) wants.flat;
   named = named ∙ ap (λ front. front ++ alias_names tree) wants.named;
   pends = pends ∙ wants.pends;
-  passed = passed_next whole old left lexeme _ _ _ wants.passed next refl (ap (λ symbols. before_symbols wants.before ++ symbols) (atom_spelled tree (symbol_of lexeme) is));
+  passed = passed_next whole old left lexeme _ _ _ wants.passed next refl (ap (λ symbols. before_symbols wants.before ++ symbols) (atom_spelled tree (expression_symbol_of lexeme) is));
 }
 
 -- `!` and a part
 negated_before : (before : Before) (whole left : List (Lexeme HoaKind)) (depth deeper : ℕ) (nodes : List LabelNode) (names : List ℕ) (rest : List Pending) (part : RawLabelTree)
-    → IsOf unary part → IsOpen before → depth ≡ capped part → deeper ≡ min (depth + 1) 257 → nodes ≡ before_nodes before ++ raw_postfix part
-    → names ≡ before_names before ++ alias_names part → Not ∷ rest ≡ before_pending before → Passed whole (before_symbols before ++ spelled part) left
+    → IsOf unary part → IsOpenBefore before → depth ≡ capped part → deeper ≡ min (depth + 1) 257 → nodes ≡ before_nodes before ++ raw_postfix part
+    → names ≡ before_names before ++ alias_names part → Not ∷ rest ≡ before_pending before → Passed whole (before_symbols before ++ label_symbols part) left
     → Has unary whole left deeper (nodes ++ node.Not ∷ []) names rest
 negated_before start whole left depth deeper nodes names rest part is sound deep more flat named pends passed = absurd (subst (λ p. IsBar (top p)) pends tt)
 negated_before (opened before) whole left depth deeper nodes names rest part is sound deep more flat named pends passed = absurd (subst (λ p. IsBar (top p)) pends tt)
@@ -126,7 +126,7 @@ negated_before (denied before) whole left depth deeper nodes names rest part is 
   flat = ap (λ front. front ++ node.Not ∷ []) flat ∙ append_assoc (before_nodes before) (raw_postfix part) (node.Not ∷ []);
   named = named;
   pends = ap below pends;
-  passed = passed_same whole left _ _ passed (sym (append_assoc (before_symbols before) (sign kind.Not ∷ []) (spelled part)));
+  passed = passed_same whole left _ _ passed (sym (append_assoc (before_symbols before) (sign kind.Not ∷ []) (label_symbols part)));
 }
 
 pub has_negated : (whole left : List (Lexeme HoaKind)) (depth deeper : ℕ) (nodes all : List LabelNode) (names : List ℕ) (pending rest : List Pending)
@@ -138,8 +138,8 @@ has_negated whole left depth deeper nodes all names pending rest waits ended mor
 
 -- a part behind `&`
 conjoined_before : (before : Before) (whole left : List (Lexeme HoaKind)) (depth other deeper : ℕ) (nodes : List LabelNode) (names : List ℕ) (rest : List Pending) (part : RawLabelTree)
-    → IsOf unary part → IsOpen before → depth ≡ capped part → deeper ≡ min (max depth other + 1) 257 → nodes ≡ before_nodes before ++ raw_postfix part
-    → names ≡ before_names before ++ alias_names part → And other ∷ rest ≡ before_pending before → Passed whole (before_symbols before ++ spelled part) left
+    → IsOf unary part → IsOpenBefore before → depth ≡ capped part → deeper ≡ min (max depth other + 1) 257 → nodes ≡ before_nodes before ++ raw_postfix part
+    → names ≡ before_names before ++ alias_names part → And other ∷ rest ≡ before_pending before → Passed whole (before_symbols before ++ label_symbols part) left
     → Has conjunctive whole left deeper (nodes ++ node.And ∷ []) names rest
 conjoined_before start whole left depth other deeper nodes names rest part is sound deep more flat named pends passed = absurd (subst (λ p. IsConjunct (top p)) pends tt)
 conjoined_before (opened before) whole left depth other deeper nodes names rest part is sound deep more flat named pends passed = absurd (subst (λ p. IsConjunct (top p)) pends tt)
@@ -157,7 +157,7 @@ conjoined_before (anded before first) whole left depth other deeper nodes names 
       flat = ap (λ front. front ++ node.And ∷ []) flat ∙ followed_lists (before_nodes before) (raw_postfix first) (raw_postfix part) node.And;
       named = named ∙ append_assoc (before_names before) (alias_names first) (alias_names part);
       pends = ap below pends;
-      passed = passed_same whole left _ _ passed (joined_lists (before_symbols before) (spelled first) (spelled part) (sign kind.And));
+      passed = passed_same whole left _ _ passed (joined_lists (before_symbols before) (label_symbols first) (label_symbols part) (sign kind.And));
     }
 
 pub has_conjoined : (whole left : List (Lexeme HoaKind)) (depth other deeper : ℕ) (nodes all : List LabelNode) (names : List ℕ) (pending rest : List Pending)
@@ -169,8 +169,8 @@ has_conjoined whole left depth other deeper nodes all names pending rest waits e
 
 -- a part behind `|`
 disjoined_before : (before : Before) (whole left : List (Lexeme HoaKind)) (depth other deeper : ℕ) (nodes : List LabelNode) (names : List ℕ) (rest : List Pending) (part : RawLabelTree)
-    → IsOf conjunctive part → IsOpen before → depth ≡ capped part → deeper ≡ min (max depth other + 1) 257 → nodes ≡ before_nodes before ++ raw_postfix part
-    → names ≡ before_names before ++ alias_names part → Or other ∷ rest ≡ before_pending before → Passed whole (before_symbols before ++ spelled part) left
+    → IsOf conjunctive part → IsOpenBefore before → depth ≡ capped part → deeper ≡ min (max depth other + 1) 257 → nodes ≡ before_nodes before ++ raw_postfix part
+    → names ≡ before_names before ++ alias_names part → Or other ∷ rest ≡ before_pending before → Passed whole (before_symbols before ++ label_symbols part) left
     → Has disjunctive whole left deeper (nodes ++ node.Or ∷ []) names rest
 disjoined_before start whole left depth other deeper nodes names rest part is sound deep more flat named pends passed = absurd (subst (λ p. IsDisjunct (top p)) pends tt)
 disjoined_before (opened before) whole left depth other deeper nodes names rest part is sound deep more flat named pends passed = absurd (subst (λ p. IsDisjunct (top p)) pends tt)
@@ -188,7 +188,7 @@ disjoined_before (ored before first) whole left depth other deeper nodes names r
       flat = ap (λ front. front ++ node.Or ∷ []) flat ∙ followed_lists (before_nodes before) (raw_postfix first) (raw_postfix part) node.Or;
       named = named ∙ append_assoc (before_names before) (alias_names first) (alias_names part);
       pends = ap below pends;
-      passed = passed_same whole left _ _ passed (joined_lists (before_symbols before) (spelled first) (spelled part) (sign kind.Or));
+      passed = passed_same whole left _ _ passed (joined_lists (before_symbols before) (label_symbols first) (label_symbols part) (sign kind.Or));
     }
 
 pub has_disjoined : (whole left : List (Lexeme HoaKind)) (depth other deeper : ℕ) (nodes all : List LabelNode) (names : List ℕ) (pending rest : List Pending)
@@ -217,14 +217,14 @@ conjunctive_is (group part) is = is
 conjunctive_is (conjunction left right) is = is
 conjunctive_is (disjunction left right) is = absurd is.0
 
-fits_loose : (before : Before) → IsLoose (before_pending before) → Fits conjunctive before
+fits_loose : (before : Before) → IsLoose (before_pending before) → FitsBehind conjunctive before
 fits_loose start loose = tt
 fits_loose (opened before) loose = tt
 fits_loose (denied before) loose = loose
 fits_loose (anded before left) loose = loose
 fits_loose (ored before left) loose = tt
 
-fits_free : (before : Before) → IsFree (before_pending before) → Fits disjunctive before
+fits_free : (before : Before) → IsFree (before_pending before) → FitsBehind disjunctive before
 fits_free start free = tt
 fits_free (opened before) free = tt
 fits_free (denied before) free = free
@@ -264,7 +264,7 @@ has_free whole left depth nodes names pending has free = record {
 }
 
 -- no `!` or `&` waits for an and-expression
-loose_of : (before : Before) → Fits conjunctive before → IsLoose (before_pending before)
+loose_of : (before : Before) → FitsBehind conjunctive before → IsLoose (before_pending before)
 loose_of start fits = tt
 loose_of (opened before) fits = tt
 loose_of (denied before) fits = fits
@@ -276,7 +276,7 @@ pub has_is_loose : (whole left : List (Lexeme HoaKind)) (depth : ℕ) (nodes : L
 has_is_loose whole left depth nodes names pending has = subst IsLoose (sym has.pends) (loose_of has.before has.fits)
 
 -- only a parenthesis waits for an or-expression
-free_of : (before : Before) → Fits disjunctive before → IsFree (before_pending before)
+free_of : (before : Before) → FitsBehind disjunctive before → IsFree (before_pending before)
 free_of start fits = tt
 free_of (opened before) fits = tt
 free_of (denied before) fits = fits
@@ -289,7 +289,7 @@ has_is_free whole left depth nodes names pending has = subst IsFree (sym has.pen
 
 -- `&` is passed behind a part
 pub wants_conjunct : (whole old left : List (Lexeme HoaKind)) (lexeme : Lexeme HoaKind) (depth : ℕ) (nodes : List LabelNode) (names : List ℕ) (pending : List Pending)
-    → Has conjunctive whole old depth nodes names pending → old ≡ lexeme ∷ left → symbol_of lexeme ≡ sign kind.And
+    → Has conjunctive whole old depth nodes names pending → old ≡ lexeme ∷ left → expression_symbol_of lexeme ≡ sign kind.And
     → Wants whole left nodes names (And depth ∷ pending)
 wants_conjunct whole old left lexeme depth nodes names pending has next is = record {
   before = anded has.before has.part;
@@ -297,12 +297,12 @@ wants_conjunct whole old left lexeme depth nodes names pending has next is = rec
   flat = has.flat;
   named = has.named;
   pends = ap (λ d. And d ∷ pending) has.deep ∙ ap (λ more. And (capped has.part) ∷ more) has.pends;
-  passed = passed_next whole old left lexeme _ _ _ has.passed next is (sym (append_assoc (before_symbols has.before) (spelled has.part) (sign kind.And ∷ [])));
+  passed = passed_next whole old left lexeme _ _ _ has.passed next is (sym (append_assoc (before_symbols has.before) (label_symbols has.part) (sign kind.And ∷ [])));
 }
 
 -- `|` is passed behind a part
 pub wants_disjunct : (whole old left : List (Lexeme HoaKind)) (lexeme : Lexeme HoaKind) (depth : ℕ) (nodes : List LabelNode) (names : List ℕ) (pending : List Pending)
-    → Has disjunctive whole old depth nodes names pending → old ≡ lexeme ∷ left → symbol_of lexeme ≡ sign kind.Or
+    → Has disjunctive whole old depth nodes names pending → old ≡ lexeme ∷ left → expression_symbol_of lexeme ≡ sign kind.Or
     → Wants whole left nodes names (Or depth ∷ pending)
 wants_disjunct whole old left lexeme depth nodes names pending has next is = record {
   before = ored has.before has.part;
@@ -310,13 +310,13 @@ wants_disjunct whole old left lexeme depth nodes names pending has next is = rec
   flat = has.flat;
   named = has.named;
   pends = ap (λ d. Or d ∷ pending) has.deep ∙ ap (λ more. Or (capped has.part) ∷ more) has.pends;
-  passed = passed_next whole old left lexeme _ _ _ has.passed next is (sym (append_assoc (before_symbols has.before) (spelled has.part) (sign kind.Or ∷ [])));
+  passed = passed_next whole old left lexeme _ _ _ has.passed next is (sym (append_assoc (before_symbols has.before) (label_symbols has.part) (sign kind.Or ∷ [])));
 }
 
 grouped_before : (before : Before) (whole old left : List (Lexeme HoaKind)) (lexeme : Lexeme HoaKind) (depth deeper : ℕ) (nodes : List LabelNode) (names : List ℕ) (rest : List Pending) (part : RawLabelTree)
-    → IsOf disjunctive part → IsOpen before → depth ≡ capped part → deeper ≡ min (depth + 1) 257 → nodes ≡ before_nodes before ++ raw_postfix part
-    → names ≡ before_names before ++ alias_names part → Open ∷ rest ≡ before_pending before → Passed whole (before_symbols before ++ spelled part) old
-    → old ≡ lexeme ∷ left → symbol_of lexeme ≡ sign kind.CloseParenthesis
+    → IsOf disjunctive part → IsOpenBefore before → depth ≡ capped part → deeper ≡ min (depth + 1) 257 → nodes ≡ before_nodes before ++ raw_postfix part
+    → names ≡ before_names before ++ alias_names part → Open ∷ rest ≡ before_pending before → Passed whole (before_symbols before ++ label_symbols part) old
+    → old ≡ lexeme ∷ left → expression_symbol_of lexeme ≡ sign kind.CloseParenthesis
     → Has unary whole left deeper (nodes ++ node.Group ∷ []) names rest
 grouped_before start whole old left lexeme depth deeper nodes names rest part is sound deep more flat named pends passed next closes = absurd (subst (λ p. IsParenthesis (top p)) pends tt)
 grouped_before (denied before) whole old left lexeme depth deeper nodes names rest part is sound deep more flat named pends passed next closes = absurd (subst (λ p. IsParenthesis (top p)) pends tt)
@@ -332,12 +332,12 @@ grouped_before (opened before) whole old left lexeme depth deeper nodes names re
   flat = ap (λ front. front ++ node.Group ∷ []) flat ∙ append_assoc (before_nodes before) (raw_postfix part) (node.Group ∷ []);
   named = named;
   pends = ap below pends;
-  passed = passed_next whole old left lexeme _ _ _ passed next closes (enclosed_list (before_symbols before) (spelled part) (sign kind.OpenParenthesis) (sign kind.CloseParenthesis));
+  passed = passed_next whole old left lexeme _ _ _ passed next closes (enclosed_list (before_symbols before) (label_symbols part) (sign kind.OpenParenthesis) (sign kind.CloseParenthesis));
 }
 
 pub has_grouped : (whole old left : List (Lexeme HoaKind)) (lexeme : Lexeme HoaKind) (depth deeper : ℕ) (nodes all : List LabelNode) (names : List ℕ) (pending rest : List Pending)
     → pending ≡ Open ∷ rest → all ≡ nodes ++ node.Group ∷ [] → deeper ≡ min (depth + 1) 257
-    → old ≡ lexeme ∷ left → symbol_of lexeme ≡ sign kind.CloseParenthesis
+    → old ≡ lexeme ∷ left → expression_symbol_of lexeme ≡ sign kind.CloseParenthesis
     → Has disjunctive whole old depth nodes names pending → Has unary whole left deeper all names rest
 has_grouped whole old left lexeme depth deeper nodes all names pending rest waits ended more next closes has =
     subst (λ final. Has unary whole left deeper final names rest) (sym ended)
@@ -353,7 +353,7 @@ pub record IsRead (whole left : List (Lexeme HoaKind)) (depth : ℕ) (nodes : Li
 
 read_before : (before : Before) (whole left : List (Lexeme HoaKind)) (depth : ℕ) (nodes : List LabelNode) (names : List ℕ) (part : RawLabelTree)
     → IsOf disjunctive part → depth ≡ capped part → nodes ≡ before_nodes before ++ raw_postfix part
-    → names ≡ before_names before ++ alias_names part → [] ≡ before_pending before → Passed whole (before_symbols before ++ spelled part) left → EndsThere left
+    → names ≡ before_names before ++ alias_names part → [] ≡ before_pending before → Passed whole (before_symbols before ++ label_symbols part) left → EndsThere left
     → IsRead whole left depth nodes names
 read_before (opened before) whole left depth nodes names part is deep flat named pends passed ends = absurd (subst (λ p. IsNothing (top p)) pends tt)
 read_before (denied before) whole left depth nodes names part is deep flat named pends passed ends = absurd (subst (λ p. IsNothing (top p)) pends tt)
@@ -379,7 +379,7 @@ pub data State : Type 0 where
   ended : State
   failed : State
 
-abbrev go : State → Symbol → State
+abbrev go : State → ExpressionSymbol → State
 go (wanted count) (number value) = had count
 go (wanted count) (name text) = had count
 go (wanted count) (sign kind.True) = had count
@@ -395,37 +395,37 @@ go (had (suc count)) other = failed
 go ended other = ended
 go failed other = failed
 
-abbrev run : State → List Symbol → State
+abbrev run : State → List ExpressionSymbol → State
 run state [] = state
 run state (symbol ∷ symbols) = run (go state symbol) symbols
 
-run-append : (state : State) (symbols more : List Symbol) → run state (symbols ++ more) ≡ run (run state symbols) more
+run-append : (state : State) (symbols more : List ExpressionSymbol) → run state (symbols ++ more) ≡ run (run state symbols) more
 run-append state [] more = refl
 run-append state (symbol ∷ symbols) more = run-append (go state symbol) symbols more
 
-run-failed : (symbols : List Symbol) → run failed symbols ≡ failed
+run-failed : (symbols : List ExpressionSymbol) → run failed symbols ≡ failed
 run-failed [] = refl
 run-failed (symbol ∷ symbols) = run-failed symbols
 
-run-ended : (symbols : List Symbol) → run ended symbols ≡ ended
+run-ended : (symbols : List ExpressionSymbol) → run ended symbols ≡ ended
 run-ended [] = refl
 run-ended (symbol ∷ symbols) = run-ended symbols
 
 -- a label is gone through as an atom is
-run-label : (count : ℕ) (tree : RawLabelTree) → run (wanted count) (spelled tree) ≡ had count
+run-label : (count : ℕ) (tree : RawLabelTree) → run (wanted count) (label_symbols tree) ≡ had count
 run-label count (constant true) = refl
 run-label count (constant false) = refl
 run-label count (proposition value) = refl
 run-label count (alias text) = refl
 run-label count (negation part) = run-label count part
 run-label count (conjunction left right) =
-    run-append (wanted count) (spelled left) (sign kind.And ∷ spelled right)
-    ∙ (ap (λ state. run state (sign kind.And ∷ spelled right)) (run-label count left) ∙ run-label count right)
+    run-append (wanted count) (label_symbols left) (sign kind.And ∷ label_symbols right)
+    ∙ (ap (λ state. run state (sign kind.And ∷ label_symbols right)) (run-label count left) ∙ run-label count right)
 run-label count (disjunction left right) =
-    run-append (wanted count) (spelled left) (sign kind.Or ∷ spelled right)
-    ∙ (ap (λ state. run state (sign kind.Or ∷ spelled right)) (run-label count left) ∙ run-label count right)
+    run-append (wanted count) (label_symbols left) (sign kind.Or ∷ label_symbols right)
+    ∙ (ap (λ state. run state (sign kind.Or ∷ label_symbols right)) (run-label count left) ∙ run-label count right)
 run-label count (group part) =
-    run-append (wanted (suc count)) (spelled part) (sign kind.CloseParenthesis ∷ [])
+    run-append (wanted (suc count)) (label_symbols part) (sign kind.CloseParenthesis ∷ [])
     ∙ ap (λ state. run state (sign kind.CloseParenthesis ∷ [])) (run-label (suc count) part)
 
 -- how many parentheses are open
@@ -445,24 +445,24 @@ run-before (denied before) =
     run-append (wanted 0) (before_symbols before) (sign kind.Not ∷ [])
     ∙ ap (λ state. run state (sign kind.Not ∷ [])) (run-before before)
 run-before (anded before left) =
-    run-append (wanted 0) (before_symbols before) (spelled left ++ sign kind.And ∷ [])
-    ∙ (ap (λ state. run state (spelled left ++ sign kind.And ∷ [])) (run-before before)
-    ∙ (run-append (wanted (opens before)) (spelled left) (sign kind.And ∷ [])
+    run-append (wanted 0) (before_symbols before) (label_symbols left ++ sign kind.And ∷ [])
+    ∙ (ap (λ state. run state (label_symbols left ++ sign kind.And ∷ [])) (run-before before)
+    ∙ (run-append (wanted (opens before)) (label_symbols left) (sign kind.And ∷ [])
     ∙ ap (λ state. run state (sign kind.And ∷ [])) (run-label (opens before) left)))
 run-before (ored before left) =
-    run-append (wanted 0) (before_symbols before) (spelled left ++ sign kind.Or ∷ [])
-    ∙ (ap (λ state. run state (spelled left ++ sign kind.Or ∷ [])) (run-before before)
-    ∙ (run-append (wanted (opens before)) (spelled left) (sign kind.Or ∷ [])
+    run-append (wanted 0) (before_symbols before) (label_symbols left ++ sign kind.Or ∷ [])
+    ∙ (ap (λ state. run state (label_symbols left ++ sign kind.Or ∷ [])) (run-before before)
+    ∙ (run-append (wanted (opens before)) (label_symbols left) (sign kind.Or ∷ [])
     ∙ ap (λ state. run state (sign kind.Or ∷ [])) (run-label (opens before) left)))
 
 -- what was passed has been gone through
-run-passed : (whole left : List (Lexeme HoaKind)) (symbols : List Symbol) → Passed whole symbols left
-    → run (wanted 0) (map symbol_of whole) ≡ run (run (wanted 0) symbols) (map symbol_of left)
+run-passed : (whole left : List (Lexeme HoaKind)) (symbols : List ExpressionSymbol) → Passed whole symbols left
+    → run (wanted 0) (map expression_symbol_of whole) ≡ run (run (wanted 0) symbols) (map expression_symbol_of left)
 run-passed whole left symbols passed =
-    ap (λ all. run (wanted 0) (map symbol_of all)) passed.split
-    ∙ (ap (run (wanted 0)) (map-append symbol_of passed.front left)
-    ∙ (run-append (wanted 0) (map symbol_of passed.front) (map symbol_of left)
-    ∙ ap (λ front. run (run (wanted 0) front) (map symbol_of left)) passed.spells))
+    ap (λ all. run (wanted 0) (map expression_symbol_of all)) passed.split
+    ∙ (ap (run (wanted 0)) (map-append expression_symbol_of passed.front left)
+    ∙ (run-append (wanted 0) (map expression_symbol_of passed.front) (map expression_symbol_of left)
+    ∙ ap (λ front. run (run (wanted 0) front) (map expression_symbol_of left)) passed.spells))
 
 -- a label has been gone through
 abbrev IsThrough : State → Type 0
@@ -475,16 +475,16 @@ ended-kind kind.And value text none = absurd none
 ended-kind kind.Or value text none = absurd none
 ended-kind other value text none = refl
 
-through-rest : (rest : List (Lexeme HoaKind)) → EndsThere rest → IsThrough (run (had 0) (map symbol_of rest))
+through-rest : (rest : List (Lexeme HoaKind)) → EndsThere rest → IsThrough (run (had 0) (map expression_symbol_of rest))
 through-rest [] ends = tt
 through-rest (lexeme ∷ rest) ends =
-    subst IsThrough (sym (ap (λ state. run state (map symbol_of rest)) (ended-kind lexeme.kind lexeme.value lexeme.text ends) ∙ run-ended (map symbol_of rest))) tt
+    subst IsThrough (sym (ap (λ state. run state (map expression_symbol_of rest)) (ended-kind lexeme.kind lexeme.value lexeme.text ends) ∙ run-ended (map expression_symbol_of rest))) tt
 
 through-reads : (tokens : List (Lexeme HoaKind)) (tree : RawLabelTree) (rest : List (Lexeme HoaKind)) → Reads tokens tree rest
-    → IsThrough (run (wanted 0) (map symbol_of tokens))
+    → IsThrough (run (wanted 0) (map expression_symbol_of tokens))
 through-reads tokens tree rest reads =
     subst IsThrough
-    (sym (run-passed tokens rest (spelled tree) (record { front = reads.front; split = reads.split; spells = reads.spells }) ∙ ap (λ state. run state (map symbol_of rest)) (run-label 0 tree)))
+    (sym (run-passed tokens rest (label_symbols tree) (record { front = reads.front; split = reads.split; spells = reads.spells }) ∙ ap (λ state. run state (map expression_symbol_of rest)) (run-label 0 tree)))
     (through-rest rest reads.ends)
 
 -- no part begins with a token of this kind
@@ -517,25 +517,25 @@ abbrev pub BeginNone : List (Lexeme HoaKind) → Type 0
 BeginNone [] = Unit {0}
 BeginNone (lexeme ∷ rest) = BeginsNone lexeme.kind
 
-not-through-wanted : (left : List (Lexeme HoaKind)) (count : ℕ) → BeginNone left → IsThrough (run (wanted count) (map symbol_of left)) → ⊥
+not-through-wanted : (left : List (Lexeme HoaKind)) (count : ℕ) → BeginNone left → IsThrough (run (wanted count) (map expression_symbol_of left)) → ⊥
 not-through-wanted [] count none through = through
 not-through-wanted (lexeme ∷ rest) count none through =
-    subst IsThrough (ap (λ state. run state (map symbol_of rest)) (failed-kind lexeme.kind count lexeme.value lexeme.text none) ∙ run-failed (map symbol_of rest)) through
+    subst IsThrough (ap (λ state. run state (map expression_symbol_of rest)) (failed-kind lexeme.kind count lexeme.value lexeme.text none) ∙ run-failed (map expression_symbol_of rest)) through
 
-not-through-had : (left : List (Lexeme HoaKind)) (count : ℕ) → GoOnNone left → IsThrough (run (had (suc count)) (map symbol_of left)) → ⊥
+not-through-had : (left : List (Lexeme HoaKind)) (count : ℕ) → GoOnNone left → IsThrough (run (had (suc count)) (map expression_symbol_of left)) → ⊥
 not-through-had [] count none through = through
 not-through-had (lexeme ∷ rest) count none through =
-    subst IsThrough (ap (λ state. run state (map symbol_of rest)) (stuck-kind lexeme.kind count lexeme.value lexeme.text none) ∙ run-failed (map symbol_of rest)) through
+    subst IsThrough (ap (λ state. run state (map expression_symbol_of rest)) (stuck-kind lexeme.kind count lexeme.value lexeme.text none) ∙ run-failed (map expression_symbol_of rest)) through
 
 -- where a part is wanted and none begins, nothing is read
 pub none_wanted : (whole left : List (Lexeme HoaKind)) (nodes : List LabelNode) (names : List ℕ) (pending : List Pending)
-    → Wants whole left nodes names pending → BeginNone left → ReadsNone whole
+    → Wants whole left nodes names pending → BeginNone left → ReadsNoLabel whole
 none_wanted whole left nodes names pending wants none tree rest reads =
     not-through-wanted left (opens wants.before) none
-    (subst IsThrough (run-passed whole left (before_symbols wants.before) wants.passed ∙ ap (λ state. run state (map symbol_of left)) (run-before wants.before)) (through-reads whole tree rest reads))
+    (subst IsThrough (run-passed whole left (before_symbols wants.before) wants.passed ∙ ap (λ state. run state (map expression_symbol_of left)) (run-before wants.before)) (through-reads whole tree rest reads))
 
 unclosed_before : (before : Before) (whole left : List (Lexeme HoaKind)) (rest : List Pending) (part : RawLabelTree)
-    → Open ∷ rest ≡ before_pending before → Passed whole (before_symbols before ++ spelled part) left → GoOnNone left → ReadsNone whole
+    → Open ∷ rest ≡ before_pending before → Passed whole (before_symbols before ++ label_symbols part) left → GoOnNone left → ReadsNoLabel whole
 unclosed_before start whole left rest part pends passed none tree behind reads = absurd (subst (λ p. IsParenthesis (top p)) pends tt)
 unclosed_before (denied before) whole left rest part pends passed none tree behind reads = absurd (subst (λ p. IsParenthesis (top p)) pends tt)
 unclosed_before (anded before other) whole left rest part pends passed none tree behind reads = absurd (subst (λ p. IsParenthesis (top p)) pends tt)
@@ -543,15 +543,15 @@ unclosed_before (ored before other) whole left rest part pends passed none tree 
 unclosed_before (opened before) whole left rest part pends passed none tree behind reads =
     not-through-had left (opens before) none
     (subst IsThrough
-    (run-passed whole left (before_symbols (opened before) ++ spelled part) passed
-    ∙ ap (λ state. run state (map symbol_of left))
-    (run-append (wanted 0) (before_symbols (opened before)) (spelled part)
-    ∙ (ap (λ state. run state (spelled part)) (run-before (opened before)) ∙ run-label (suc (opens before)) part)))
+    (run-passed whole left (before_symbols (opened before) ++ label_symbols part) passed
+    ∙ ap (λ state. run state (map expression_symbol_of left))
+    (run-append (wanted 0) (before_symbols (opened before)) (label_symbols part)
+    ∙ (ap (λ state. run state (label_symbols part)) (run-before (opened before)) ∙ run-label (suc (opens before)) part)))
     (through-reads whole tree behind reads))
 
 -- where a parenthesis is open and neither an operator nor `)` follows, nothing is read
 pub none_closed : (whole left : List (Lexeme HoaKind)) (depth : ℕ) (nodes : List LabelNode) (names : List ℕ) (rest : List Pending)
-    → Has disjunctive whole left depth nodes names (Open ∷ rest) → GoOnNone left → ReadsNone whole
+    → Has disjunctive whole left depth nodes names (Open ∷ rest) → GoOnNone left → ReadsNoLabel whole
 none_closed whole left depth nodes names rest has none =
     unclosed_before has.before whole left rest has.part has.pends has.passed none
 
@@ -592,7 +592,7 @@ whole_read whole old same left depth nodes names pending stays not_and rests not
 -- a parenthesis waits, and nothing that goes on follows
 pub unclosed_none : (whole old same left : List (Lexeme HoaKind)) (depth : ℕ) (nodes : List LabelNode) (names : List ℕ) (pending : List Pending) (first : Pending) (rest : List Pending)
     → same ≡ old → NextIsNot kind.And old → left ≡ same → NextIsNot kind.Or same → NextIsNot kind.CloseParenthesis left → pending ≡ first ∷ rest
-    → Has disjunctive whole old depth nodes names pending → ReadsNone whole
+    → Has disjunctive whole old depth nodes names pending → ReadsNoLabel whole
 unclosed_none whole old same left depth nodes names pending first rest stays not_and rests not_or not_close waits has =
     let free = subst IsFree waits (has_is_free whole old depth nodes names pending has) in
     none_closed whole old depth nodes names rest

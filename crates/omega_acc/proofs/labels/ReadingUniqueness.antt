@@ -3,9 +3,9 @@ use Rattle.std.proofs.Common.{◌≡◌, ℕ, true, false, List, [], ◌∷◌, 
 use Rattle.std.proofs.lemmas.List.{map-append, length-map}
 use Rattle.std.proofs.Math.Seq.{drop-append_seam}
 use Rattle.omega_acc.specs.label.Raw.{RawLabelTree, alias, conjunction, constant, disjunction, group, negation, proposition}
-use Rattle.omega_acc.specs.label.Reading.{IsOf, Reads, spelled}
-use Rattle.omega_acc.specs.Symbols.{EndsThere, IsNoOperator, Symbol, conjunctive, disjunctive, name, number, seen_as, sign, symbol_of, unary}
-use Rattle.omega_acc.specs.layout.label.Building.{Before, Fits, anded, denied, opened, ored, start}
+use Rattle.omega_acc.specs.label.Reading.{IsOf, Reads, label_symbols}
+use Rattle.omega_acc.specs.Symbols.{EndsThere, IsNoOperator, ExpressionSymbol, conjunctive, disjunctive, name, number, seen_as, sign, expression_symbol_of, unary}
+use Rattle.omega_acc.specs.layout.label.Building.{Before, FitsBehind, anded, denied, opened, ored, start}
 use Rattle.omega_text.specs.Lexeme.{Lexeme}
 use Rattle.omega_text.specs.declared.hoa.kind.HoaKind.{HoaKind}
 use Rattle.omega_text.specs.declared.hoa.kind.HoaKind.TheVariants as kind
@@ -46,7 +46,7 @@ abbrev finished : Before → RawLabelTree → Stage
 finished start part = whole part
 finished before part = failed
 
-abbrev step : Stage → Symbol → Stage
+abbrev step : Stage → ExpressionSymbol → Stage
 step (wanted before) (number value) = bound before (proposition value)
 step (wanted before) (name text) = bound before (alias text)
 step (wanted before) (sign kind.True) = bound before (constant true)
@@ -61,41 +61,41 @@ step (had before part) other = finished (outside before) (joined before part)
 step (whole part) other = whole part
 step failed other = failed
 
-abbrev steps : Stage → List Symbol → Stage
+abbrev steps : Stage → List ExpressionSymbol → Stage
 steps stage [] = stage
 steps stage (symbol ∷ symbols) = steps (step stage symbol) symbols
 
-steps-append : (stage : Stage) (symbols more : List Symbol) → steps stage (symbols ++ more) ≡ steps (steps stage symbols) more
+steps-append : (stage : Stage) (symbols more : List ExpressionSymbol) → steps stage (symbols ++ more) ≡ steps (steps stage symbols) more
 steps-append stage [] more = refl
 steps-append stage (symbol ∷ symbols) more = steps-append (step stage symbol) symbols more
 
-steps-whole : (part : RawLabelTree) (symbols : List Symbol) → steps (whole part) symbols ≡ whole part
+steps-whole : (part : RawLabelTree) (symbols : List ExpressionSymbol) → steps (whole part) symbols ≡ whole part
 steps-whole part [] = refl
 steps-whole part (symbol ∷ symbols) = steps-whole part symbols
 
 -- a unary part is read as far as it is bound
-bound-fits : (before : Before) (part : RawLabelTree) → Fits conjunctive before → bound before part ≡ had before part
+bound-fits : (before : Before) (part : RawLabelTree) → FitsBehind conjunctive before → bound before part ≡ had before part
 bound-fits start part fits = refl
 bound-fits (opened before) part fits = refl
 bound-fits (denied before) part fits = absurd fits
 bound-fits (anded before left) part fits = absurd fits
 bound-fits (ored before left) part fits = refl
 
-fits-outside : (before : Before) → Fits disjunctive before → outside before ≡ before
+fits-outside : (before : Before) → FitsBehind disjunctive before → outside before ≡ before
 fits-outside start fits = refl
 fits-outside (opened before) fits = refl
 fits-outside (denied before) fits = absurd fits
 fits-outside (anded before left) fits = absurd fits
 fits-outside (ored before left) fits = absurd fits
 
-fits-joined : (before : Before) (part : RawLabelTree) → Fits disjunctive before → joined before part ≡ part
+fits-joined : (before : Before) (part : RawLabelTree) → FitsBehind disjunctive before → joined before part ≡ part
 fits-joined start part fits = refl
 fits-joined (opened before) part fits = refl
 fits-joined (denied before) part fits = absurd fits
 fits-joined (anded before left) part fits = absurd fits
 fits-joined (ored before left) part fits = absurd fits
 
-fits-more : (before : Before) → Fits disjunctive before → Fits conjunctive before
+fits-more : (before : Before) → FitsBehind disjunctive before → FitsBehind conjunctive before
 fits-more start fits = tt
 fits-more (opened before) fits = tt
 fits-more (denied before) fits = fits
@@ -110,7 +110,7 @@ pub record IsReadBehind (before : Before) (part : RawLabelTree) (stage : Stage) 
   pub around : outside inner ≡ before
   pub all : joined inner last ≡ part
 
-behind-alone : (before : Before) (part : RawLabelTree) (stage : Stage) → Fits disjunctive before → stage ≡ had before part → IsReadBehind before part stage
+behind-alone : (before : Before) (part : RawLabelTree) (stage : Stage) → FitsBehind disjunctive before → stage ≡ had before part → IsReadBehind before part stage
 behind-alone before part stage fits is = record {
   inner = before;
   last = part;
@@ -121,7 +121,7 @@ behind-alone before part stage fits is = record {
 
 -- a unary label, an and-expression and an or-expression are read
 mutual
-  steps-unary : (part : RawLabelTree) (before : Before) → IsOf unary part → steps (wanted before) (spelled part) ≡ bound before part
+  steps-unary : (part : RawLabelTree) (before : Before) → IsOf unary part → steps (wanted before) (label_symbols part) ≡ bound before part
   steps-unary (constant true) before is = refl
   steps-unary (constant false) before is = refl
   steps-unary (proposition value) before is = refl
@@ -131,27 +131,27 @@ mutual
   steps-unary (disjunction left right) before is = absurd is.0
   steps-unary (group part) before is =
       let read = steps-disjunctive part (opened before) is tt in
-      steps-append (wanted (opened before)) (spelled part) (sign kind.CloseParenthesis ∷ [])
+      steps-append (wanted (opened before)) (label_symbols part) (sign kind.CloseParenthesis ∷ [])
       ∙ (ap (λ stage. step stage (sign kind.CloseParenthesis)) read.is
       ∙ (ap (λ outer. closed outer (joined read.inner read.last)) read.around ∙ ap (λ more. bound before (group more)) read.all))
 
-  steps-conjunctive : (part : RawLabelTree) (before : Before) → IsOf conjunctive part → Fits conjunctive before → steps (wanted before) (spelled part) ≡ had before part
+  steps-conjunctive : (part : RawLabelTree) (before : Before) → IsOf conjunctive part → FitsBehind conjunctive before → steps (wanted before) (label_symbols part) ≡ had before part
   steps-conjunctive (constant true) before is fits = bound-fits before _ fits
   steps-conjunctive (constant false) before is fits = bound-fits before _ fits
   steps-conjunctive (proposition value) before is fits = bound-fits before _ fits
   steps-conjunctive (alias text) before is fits = bound-fits before _ fits
   steps-conjunctive (negation part) before is fits = steps-unary part (denied before) is ∙ bound-fits before (negation part) fits
   steps-conjunctive (conjunction left right) before is fits =
-      steps-append (wanted before) (spelled left) (sign kind.And ∷ spelled right)
-      ∙ (ap (λ stage. steps stage (sign kind.And ∷ spelled right)) (steps-conjunctive left before is.1.0 fits) ∙ steps-unary right (anded before left) is.1.1)
+      steps-append (wanted before) (label_symbols left) (sign kind.And ∷ label_symbols right)
+      ∙ (ap (λ stage. steps stage (sign kind.And ∷ label_symbols right)) (steps-conjunctive left before is.1.0 fits) ∙ steps-unary right (anded before left) is.1.1)
   steps-conjunctive (disjunction left right) before is fits = absurd is.0
   steps-conjunctive (group part) before is fits =
       let read = steps-disjunctive part (opened before) is tt in
-      steps-append (wanted (opened before)) (spelled part) (sign kind.CloseParenthesis ∷ [])
+      steps-append (wanted (opened before)) (label_symbols part) (sign kind.CloseParenthesis ∷ [])
       ∙ (ap (λ stage. step stage (sign kind.CloseParenthesis)) read.is
       ∙ (ap (λ outer. closed outer (joined read.inner read.last)) read.around ∙ (ap (λ more. bound before (group more)) read.all ∙ bound-fits before (group part) fits)))
 
-  steps-disjunctive : (part : RawLabelTree) (before : Before) → IsOf disjunctive part → Fits disjunctive before → IsReadBehind before part (steps (wanted before) (spelled part))
+  steps-disjunctive : (part : RawLabelTree) (before : Before) → IsOf disjunctive part → FitsBehind disjunctive before → IsReadBehind before part (steps (wanted before) (label_symbols part))
   steps-disjunctive (constant true) before is fits = behind-alone before _ _ fits (bound-fits before _ (fits-more before fits))
   steps-disjunctive (constant false) before is fits = behind-alone before _ _ fits (bound-fits before _ (fits-more before fits))
   steps-disjunctive (proposition value) before is fits = behind-alone before _ _ fits (bound-fits before _ (fits-more before fits))
@@ -159,22 +159,22 @@ mutual
   steps-disjunctive (negation part) before is fits = behind-alone before _ _ fits (steps-unary part (denied before) is ∙ bound-fits before (negation part) (fits-more before fits))
   steps-disjunctive (conjunction left right) before is fits =
       behind-alone before _ _ fits
-      (steps-append (wanted before) (spelled left) (sign kind.And ∷ spelled right)
-      ∙ (ap (λ stage. steps stage (sign kind.And ∷ spelled right)) (steps-conjunctive left before is.1.0 (fits-more before fits)) ∙ steps-unary right (anded before left) is.1.1))
+      (steps-append (wanted before) (label_symbols left) (sign kind.And ∷ label_symbols right)
+      ∙ (ap (λ stage. steps stage (sign kind.And ∷ label_symbols right)) (steps-conjunctive left before is.1.0 (fits-more before fits)) ∙ steps-unary right (anded before left) is.1.1))
   steps-disjunctive (group part) before is fits =
       let read = steps-disjunctive part (opened before) is tt in
       behind-alone before _ _ fits
-      (steps-append (wanted (opened before)) (spelled part) (sign kind.CloseParenthesis ∷ [])
+      (steps-append (wanted (opened before)) (label_symbols part) (sign kind.CloseParenthesis ∷ [])
       ∙ (ap (λ stage. step stage (sign kind.CloseParenthesis)) read.is
       ∙ (ap (λ outer. closed outer (joined read.inner read.last)) read.around ∙ (ap (λ more. bound before (group more)) read.all ∙ bound-fits before (group part) (fits-more before fits)))))
   steps-disjunctive (disjunction left right) before is fits =
       let read = steps-disjunctive left before is.1.0 fits in record {
         inner = ored before left;
         last = right;
-        is = steps-append (wanted before) (spelled left) (sign kind.Or ∷ spelled right)
-            ∙ (ap (λ stage. steps stage (sign kind.Or ∷ spelled right)) read.is
-            ∙ (ap (λ outer. steps (wanted (ored outer (joined read.inner read.last))) (spelled right)) read.around
-            ∙ (ap (λ more. steps (wanted (ored before more)) (spelled right)) read.all ∙ steps-conjunctive right (ored before left) is.1.1 tt)));
+        is = steps-append (wanted before) (label_symbols left) (sign kind.Or ∷ label_symbols right)
+            ∙ (ap (λ stage. steps stage (sign kind.Or ∷ label_symbols right)) read.is
+            ∙ (ap (λ outer. steps (wanted (ored outer (joined read.inner read.last))) (label_symbols right)) read.around
+            ∙ (ap (λ more. steps (wanted (ored before more)) (label_symbols right)) read.all ∙ steps-conjunctive right (ored before left) is.1.1 tt)));
         around = refl;
         all = refl;
       }
@@ -194,33 +194,33 @@ step-ends kind.CloseParenthesis value text inner last none around = ap (λ outer
 step-ends other value text inner last none around = ap (λ outer. finished outer (joined inner last)) around
 
 rest-ends : (rest : List (Lexeme HoaKind)) (inner : Before) (last : RawLabelTree) → EndsThere rest → outside inner ≡ start
-    → label_of (steps (had inner last) (map symbol_of rest)) ≡ joined inner last
+    → label_of (steps (had inner last) (map expression_symbol_of rest)) ≡ joined inner last
 rest-ends [] inner last ends around = refl
 rest-ends (lexeme ∷ rest) inner last ends around =
     ap label_of
-    (ap (λ stage. steps stage (map symbol_of rest)) (step-ends lexeme.kind lexeme.value lexeme.text inner last ends around) ∙ steps-whole (joined inner last) (map symbol_of rest))
+    (ap (λ stage. steps stage (map expression_symbol_of rest)) (step-ends lexeme.kind lexeme.value lexeme.text inner last ends around) ∙ steps-whole (joined inner last) (map expression_symbol_of rest))
 
 -- what is read is what the steps read
 reads-is : (tokens : List (Lexeme HoaKind)) (tree : RawLabelTree) (rest : List (Lexeme HoaKind)) → Reads tokens tree rest
-    → label_of (steps (wanted start) (map symbol_of tokens)) ≡ tree
+    → label_of (steps (wanted start) (map expression_symbol_of tokens)) ≡ tree
 reads-is tokens tree rest reads =
     let read = steps-disjunctive tree start reads.is tt in
-    ap (λ all. label_of (steps (wanted start) (map symbol_of all))) reads.split
-    ∙ (ap (λ all. label_of (steps (wanted start) all)) (map-append symbol_of reads.front rest)
-    ∙ (ap label_of (steps-append (wanted start) (map symbol_of reads.front) (map symbol_of rest))
-    ∙ (ap (λ front. label_of (steps (steps (wanted start) front) (map symbol_of rest))) reads.spells
-    ∙ (ap (λ stage. label_of (steps stage (map symbol_of rest))) read.is
+    ap (λ all. label_of (steps (wanted start) (map expression_symbol_of all))) reads.split
+    ∙ (ap (λ all. label_of (steps (wanted start) all)) (map-append expression_symbol_of reads.front rest)
+    ∙ (ap label_of (steps-append (wanted start) (map expression_symbol_of reads.front) (map expression_symbol_of rest))
+    ∙ (ap (λ front. label_of (steps (steps (wanted start) front) (map expression_symbol_of rest))) reads.spells
+    ∙ (ap (λ stage. label_of (steps stage (map expression_symbol_of rest))) read.is
     ∙ (rest-ends rest read.inner read.last reads.ends read.around ∙ read.all)))))
 
 rest-is : (tokens : List (Lexeme HoaKind)) (tree : RawLabelTree) (rest : List (Lexeme HoaKind)) → Reads tokens tree rest
-    → rest ≡ drop (length (spelled tree)) tokens
+    → rest ≡ drop (length (label_symbols tree)) tokens
 rest-is tokens tree rest reads =
-    sym (ap (drop (length (spelled tree))) reads.split
-    ∙ (ap (λ count. drop count (reads.front ++ rest)) (sym (sym (length-map reads.front symbol_of) ∙ ap length reads.spells)) ∙ drop-append_seam reads.front rest))
+    sym (ap (drop (length (label_symbols tree))) reads.split
+    ∙ (ap (λ count. drop count (reads.front ++ rest)) (sym (sym (length-map reads.front expression_symbol_of) ∙ ap length reads.spells)) ∙ drop-append_seam reads.front rest))
 
 -- the label and the rest are one
 pub reads-one : (tokens : List (Lexeme HoaKind)) (one other : RawLabelTree) (rest left : List (Lexeme HoaKind))
     → Reads tokens one rest → Reads tokens other left → (one ≡ other) × (rest ≡ left)
 reads-one tokens one other rest left reads again =
     let same : one ≡ other = sym (reads-is tokens one rest reads) ∙ reads-is tokens other left again in
-    (same, rest-is tokens one rest reads ∙ (ap (λ tree. drop (length (spelled tree)) tokens) same ∙ sym (rest-is tokens other left again)))
+    (same, rest-is tokens one rest reads ∙ (ap (λ tree. drop (length (label_symbols tree)) tokens) same ∙ sym (rest-is tokens other left again)))

@@ -3,7 +3,7 @@
 use Rattle.std.proofs.Common.{◌≡◌, ◌≢◌, ℕ, ◌+◌, ◌≤◌, Bool, true, false, List, [], ◌∷◌, ◌++◌, Some, codes, decimal, drop, length, nat_le, nat_lt, ap, refl, sym, ◌∙◌, subst, arith, lit<}
 use Rattle.std.proofs.lemmas.List.Sums.{AllPass-from_list_all}
 use Rattle.omega_acc.specs.formula.Meaning.{acc_meant, both_meant}
-use Rattle.omega_acc.specs.formula.Reading.{IsAccOf, acc_spelled, set_spelled}
+use Rattle.omega_acc.specs.formula.Reading.{IsAccOf, formula_symbols, mark_symbols}
 use Rattle.omega_acc.specs.formula.Acceptance.{AccTree, conjunction, constant, disjunction, fin, inf}
 use Rattle.omega_acc.specs.formula.Acceptance as acc
 use Rattle.omega_acc.specs.formula.Raw.{RawAccTree}
@@ -90,7 +90,7 @@ there-closed laws set source behind from fit stands =
 -- the tokens of a set in parentheses
 there-set : Tokens → (negated : Bool) (set : ℕ) (source behind : List ℕ) (from : ℕ) → set ≤ most_number
     → drop from source ≡ set_text negated set ++ behind
-    → AreThere source from (from + length (set_text negated set)) (sign kind.OpenParenthesis ∷ (set_spelled negated set ++ sign kind.CloseParenthesis ∷ []))
+    → AreThere source from (from + length (set_text negated set)) (sign kind.OpenParenthesis ∷ (mark_symbols negated set ++ sign kind.CloseParenthesis ∷ []))
 there-set laws true set source behind from fit stands =
     there-then laws source (40 ∷ []) (33 ∷ (decimal set ++ 41 ∷ [])) behind from (sign kind.OpenParenthesis ∷ []) (sign kind.Not ∷ number set ∷ sign kind.CloseParenthesis ∷ []) stands
     (λ here. there-token source _ (40 ∷ []) from 0 kind.OpenParenthesis here (refl, refl) (laws.closed kind.OpenParenthesis (40 ∷ []) _ refl refl))
@@ -104,38 +104,38 @@ there-set laws false set source behind from fit stands =
 
 -- the tokens of a formula as it is written
 there-raw : Tokens → (part : RawAccTree) (source behind : List ℕ) (from : ℕ) → IsWritable part → StandsApart behind
-    → drop from source ≡ raw_text part ++ behind → AreThere source from (from + length (raw_text part)) (acc_spelled part)
+    → drop from source ≡ raw_text part ++ behind → AreThere source from (from + length (raw_text part)) (formula_symbols part)
 there-raw laws (raw.constant value) source behind from fit apart stands = there-truth laws value source behind from apart stands
 there-raw laws (raw.atom name negated set) source behind from fit apart stands =
-    there-then laws source name (set_text negated set) behind from (word name ∷ []) (sign kind.OpenParenthesis ∷ (set_spelled negated set ++ sign kind.CloseParenthesis ∷ [])) stands
+    there-then laws source name (set_text negated set) behind from (word name ∷ []) (sign kind.OpenParenthesis ∷ (mark_symbols negated set ++ sign kind.CloseParenthesis ∷ [])) stands
     (λ here. there-token source _ name from 0 kind.Identifier here (refl, fit.0)
     (laws.words name _ fit.0.0 (apart-set negated set behind).ends (apart-set negated set behind).closes))
     (λ place here. there-set laws negated set source behind place fit.1 here)
 there-raw laws (raw.conjunction left right) source behind from fit apart stands =
-    there-then laws source (raw_text left) (38 ∷ raw_text right) behind from (acc_spelled left) (sign kind.And ∷ acc_spelled right) stands
+    there-then laws source (raw_text left) (38 ∷ raw_text right) behind from (formula_symbols left) (sign kind.And ∷ formula_symbols right) stands
     (λ here. there-raw laws left source _ from fit.0 (apart-sign 38 (raw_text right ++ behind) apart-and) here)
-    (λ place here. there-then laws source (38 ∷ []) (raw_text right) behind place (sign kind.And ∷ []) (acc_spelled right) here
+    (λ place here. there-then laws source (38 ∷ []) (raw_text right) behind place (sign kind.And ∷ []) (formula_symbols right) here
     (λ there. there-token source _ (38 ∷ []) place 0 kind.And there (refl, refl) (laws.closed kind.And (38 ∷ []) _ refl refl))
     (λ next there. there-raw laws right source behind next fit.1 apart there))
 there-raw laws (raw.disjunction left right) source behind from fit apart stands =
-    there-then laws source (raw_text left) (124 ∷ raw_text right) behind from (acc_spelled left) (sign kind.Or ∷ acc_spelled right) stands
+    there-then laws source (raw_text left) (124 ∷ raw_text right) behind from (formula_symbols left) (sign kind.Or ∷ formula_symbols right) stands
     (λ here. there-raw laws left source _ from fit.0 (apart-sign 124 (raw_text right ++ behind) apart-or) here)
-    (λ place here. there-then laws source (124 ∷ []) (raw_text right) behind place (sign kind.Or ∷ []) (acc_spelled right) here
+    (λ place here. there-then laws source (124 ∷ []) (raw_text right) behind place (sign kind.Or ∷ []) (formula_symbols right) here
     (λ there. there-token source _ (124 ∷ []) place 0 kind.Or there (refl, refl) (laws.closed kind.Or (124 ∷ []) _ refl refl))
     (λ next there. there-raw laws right source behind next fit.1 apart there))
 there-raw laws (raw.group part) source behind from fit apart stands =
-    there-then laws source (40 ∷ []) (raw_text part ++ 41 ∷ []) behind from (sign kind.OpenParenthesis ∷ []) (acc_spelled part ++ sign kind.CloseParenthesis ∷ []) stands
+    there-then laws source (40 ∷ []) (raw_text part ++ 41 ∷ []) behind from (sign kind.OpenParenthesis ∷ []) (formula_symbols part ++ sign kind.CloseParenthesis ∷ []) stands
     (λ here. there-token source _ (40 ∷ []) from 0 kind.OpenParenthesis here (refl, refl) (laws.closed kind.OpenParenthesis (40 ∷ []) _ refl refl))
-    (λ place here. there-then laws source (raw_text part) (41 ∷ []) behind place (acc_spelled part) (sign kind.CloseParenthesis ∷ []) here
+    (λ place here. there-then laws source (raw_text part) (41 ∷ []) behind place (formula_symbols part) (sign kind.CloseParenthesis ∷ []) here
     (λ there. there-raw laws part source _ place fit (apart-sign 41 behind apart-close) there)
     (λ next there. there-token source _ (41 ∷ []) next 0 kind.CloseParenthesis there (refl, refl) (laws.closed kind.CloseParenthesis (41 ∷ []) _ refl refl)))
 
 -- the tokens of the canonical text
 pub there-formula : Tokens → (tree : AccTree) (source behind : List ℕ) (from : ℕ) → SetsFit tree → StandsApart behind
-    → drop from source ≡ (acc_text tree).bytes ++ behind → AreThere source from (from + length (acc_text tree).bytes) (acc_spelled (acc_written tree))
+    → drop from source ≡ (acc_text tree).bytes ++ behind → AreThere source from (from + length (acc_text tree).bytes) (formula_symbols (acc_written tree))
 there-formula laws tree source behind from fit apart stands =
     let same = text-written tree in
-    subst (λ bytes. AreThere source from (from + length bytes) (acc_spelled (acc_written tree))) (sym same)
+    subst (λ bytes. AreThere source from (from + length bytes) (formula_symbols (acc_written tree))) (sym same)
     (there-raw laws (acc_written tree) source behind from (writable-written tree fit) apart (stands ∙ ap (λ bytes. bytes ++ behind) same))
 
 -- ---- the cases of the grammar

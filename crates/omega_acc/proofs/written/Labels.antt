@@ -6,7 +6,7 @@ use Rattle.omega_acc.specs.label.Label.{LabelTree, conjunction, constant, disjun
 use Rattle.omega_acc.specs.label.Label as label
 use Rattle.omega_acc.specs.label.Raw.{RawLabelTree, raw_depth}
 use Rattle.omega_acc.specs.label.Raw as raw
-use Rattle.omega_acc.specs.label.Reading.{IsOf, spelled}
+use Rattle.omega_acc.specs.label.Reading.{IsOf, label_symbols}
 use Rattle.omega_acc.specs.Symbols.{conjunctive, disjunctive, number, sign, truth_kind, unary}
 use Rattle.omega_acc.specs.Writing.{bracketed, label_text, truth_text}
 use Rattle.omega_acc.specs.WritingLaws.{AreThere, MeansItself, NumbersFit, StandsApart, grouped, label_written}
@@ -94,39 +94,39 @@ there-number laws value source behind from fits apart stands =
 
 -- the tokens of a label as it is written
 there-raw : Tokens → (part : RawLabelTree) (source behind : List ℕ) (from : ℕ) → IsWritable part → StandsApart behind
-    → drop from source ≡ raw_text part ++ behind → AreThere source from (from + length (raw_text part)) (spelled part)
+    → drop from source ≡ raw_text part ++ behind → AreThere source from (from + length (raw_text part)) (label_symbols part)
 there-raw laws (raw.constant value) source behind from fit apart stands = there-truth laws value source behind from apart stands
 there-raw laws (raw.proposition value) source behind from fit apart stands = there-number laws value source behind from fit apart stands
 there-raw laws (raw.alias name) source behind from fit apart stands = absurd fit
 there-raw laws (raw.negation part) source behind from fit apart stands =
-    there-then laws source (33 ∷ []) (raw_text part) behind from (sign kind.Not ∷ []) (spelled part) stands
+    there-then laws source (33 ∷ []) (raw_text part) behind from (sign kind.Not ∷ []) (label_symbols part) stands
     (λ here. there-token source _ (33 ∷ []) from 0 kind.Not here (refl, refl) (laws.closed kind.Not (33 ∷ []) _ refl refl))
     (λ place here. there-raw laws part source behind place fit apart here)
 there-raw laws (raw.conjunction left right) source behind from fit apart stands =
-    there-then laws source (raw_text left) (38 ∷ raw_text right) behind from (spelled left) (sign kind.And ∷ spelled right) stands
+    there-then laws source (raw_text left) (38 ∷ raw_text right) behind from (label_symbols left) (sign kind.And ∷ label_symbols right) stands
     (λ here. there-raw laws left source _ from fit.0 (apart-sign 38 (raw_text right ++ behind) apart-and) here)
-    (λ place here. there-then laws source (38 ∷ []) (raw_text right) behind place (sign kind.And ∷ []) (spelled right) here
+    (λ place here. there-then laws source (38 ∷ []) (raw_text right) behind place (sign kind.And ∷ []) (label_symbols right) here
     (λ there. there-token source _ (38 ∷ []) place 0 kind.And there (refl, refl) (laws.closed kind.And (38 ∷ []) _ refl refl))
     (λ next there. there-raw laws right source behind next fit.1 apart there))
 there-raw laws (raw.disjunction left right) source behind from fit apart stands =
-    there-then laws source (raw_text left) (124 ∷ raw_text right) behind from (spelled left) (sign kind.Or ∷ spelled right) stands
+    there-then laws source (raw_text left) (124 ∷ raw_text right) behind from (label_symbols left) (sign kind.Or ∷ label_symbols right) stands
     (λ here. there-raw laws left source _ from fit.0 (apart-sign 124 (raw_text right ++ behind) apart-or) here)
-    (λ place here. there-then laws source (124 ∷ []) (raw_text right) behind place (sign kind.Or ∷ []) (spelled right) here
+    (λ place here. there-then laws source (124 ∷ []) (raw_text right) behind place (sign kind.Or ∷ []) (label_symbols right) here
     (λ there. there-token source _ (124 ∷ []) place 0 kind.Or there (refl, refl) (laws.closed kind.Or (124 ∷ []) _ refl refl))
     (λ next there. there-raw laws right source behind next fit.1 apart there))
 there-raw laws (raw.group part) source behind from fit apart stands =
-    there-then laws source (40 ∷ []) (raw_text part ++ 41 ∷ []) behind from (sign kind.OpenParenthesis ∷ []) (spelled part ++ sign kind.CloseParenthesis ∷ []) stands
+    there-then laws source (40 ∷ []) (raw_text part ++ 41 ∷ []) behind from (sign kind.OpenParenthesis ∷ []) (label_symbols part ++ sign kind.CloseParenthesis ∷ []) stands
     (λ here. there-token source _ (40 ∷ []) from 0 kind.OpenParenthesis here (refl, refl) (laws.closed kind.OpenParenthesis (40 ∷ []) _ refl refl))
-    (λ place here. there-then laws source (raw_text part) (41 ∷ []) behind place (spelled part) (sign kind.CloseParenthesis ∷ []) here
+    (λ place here. there-then laws source (raw_text part) (41 ∷ []) behind place (label_symbols part) (sign kind.CloseParenthesis ∷ []) here
     (λ there. there-raw laws part source _ place fit (apart-sign 41 behind apart-close) there)
     (λ next there. there-token source _ (41 ∷ []) next 0 kind.CloseParenthesis there (refl, refl) (laws.closed kind.CloseParenthesis (41 ∷ []) _ refl refl)))
 
 -- the tokens of the canonical text
 pub there-label : Tokens → (tree : LabelTree) (source behind : List ℕ) (from : ℕ) → NumbersFit tree → StandsApart behind
-    → drop from source ≡ (label_text tree).bytes ++ behind → AreThere source from (from + length (label_text tree).bytes) (spelled (label_written tree))
+    → drop from source ≡ (label_text tree).bytes ++ behind → AreThere source from (from + length (label_text tree).bytes) (label_symbols (label_written tree))
 there-label laws tree source behind from fit apart stands =
     let same = text-written tree in
-    subst (λ bytes. AreThere source from (from + length bytes) (spelled (label_written tree))) (sym same)
+    subst (λ bytes. AreThere source from (from + length bytes) (label_symbols (label_written tree))) (sym same)
     (there-raw laws (label_written tree) source behind from (writable-written tree fit) apart (stands ∙ ap (λ bytes. bytes ++ behind) same))
 
 -- ---- the cases of the grammar

@@ -73,9 +73,9 @@ abbrev pub priority_of : ParityKind → List ℕ → ℕ
 priority_of kind marks = priority_by kind.order kind.parity kind.count marks
 
 -- the greatest of some numbers, 0 if there are none
-abbrev pub greatest : List ℕ → ℕ
-greatest [] = 0
-greatest (number ∷ numbers) = max number (greatest numbers)
+abbrev pub greatest_number : List ℕ → ℕ
+greatest_number [] = 0
+greatest_number (number ∷ numbers) = max number (greatest_number numbers)
 
 -- the generalized Büchi formula of a count of sets: every set occurs, grouped to the left
 abbrev pub buchi_formula : ℕ → AccTree

@@ -2,7 +2,7 @@
 -- and generalized Büchi formulas exactly where every set occurs.
 use Rattle.std.specs.Prelude.{◌≡◌, ℕ, ◌<◌, ◌%◌, ◌↔◌, false, IsTrue, All, List, length, map}
 use Rattle.omega_acc.specs.formula.Acceptance.{accepts, occurs}
-use Rattle.omega_acc.specs.formula.Kind.{buchi_formula, greatest, parity_formula, priority_of}
+use Rattle.omega_acc.specs.formula.Kind.{buchi_formula, greatest_number, parity_formula, priority_of}
 use Rattle.omega_acc.specs.declared.formula.kind.ParityKind.{ParityKind}
 
 -- for each kind and each list of mark sets that is not empty,
@@ -10,7 +10,7 @@ use Rattle.omega_acc.specs.declared.formula.kind.ParityKind.{ParityKind}
 abbrev pub ParityIsPriority : Type 0
 ParityIsPriority = (kind : ParityKind) (forever : List (List ℕ)) → 0 < length forever
     → All (λ marks. All (λ mark. mark < kind.count) marks) forever
-    → (IsTrue (accepts forever (parity_formula kind)) ↔ (greatest (map (priority_of kind) forever) % 2 ≡ 0))
+    → (IsTrue (accepts forever (parity_formula kind)) ↔ (greatest_number (map (priority_of kind) forever) % 2 ≡ 0))
 
 -- for each count of sets and each list of mark sets, the generalized Büchi formula holds exactly if every set occurs
 abbrev pub BuchiIsEverySet : Type 0

@@ -2,27 +2,27 @@
 -- and equal operators group to the left (HOA v1).
 use Rattle.std.specs.Prelude.{◌≡◌, ℕ, Bool, true, false, List, [], ◌∷◌, ◌++◌, map}
 use Rattle.omega_acc.specs.formula.Raw.{RawAccTree, atom, conjunction, constant, disjunction, group}
-use Rattle.omega_acc.specs.Symbols.{EndsThere, Rank, Symbol, TakesAnd, TakesOr, conjunctive, disjunctive, number, sign, symbol_of, truth_kind, unary, word}
+use Rattle.omega_acc.specs.Symbols.{EndsThere, Rank, ExpressionSymbol, TakesAnd, TakesOr, conjunctive, disjunctive, number, sign, expression_symbol_of, truth_kind, unary, word}
 use Rattle.omega_text.specs.Lexeme.{Lexeme}
 use Rattle.omega_text.specs.declared.hoa.kind.HoaKind.{HoaKind}
 use Rattle.omega_text.specs.declared.hoa.kind.HoaKind.TheVariants as kind
 
 -- the symbols of a set, with `!` before it or without
-abbrev pub set_spelled : Bool → ℕ → List Symbol
-set_spelled true set = sign kind.Not ∷ number set ∷ []
-set_spelled false set = number set ∷ []
+abbrev pub mark_symbols : Bool → ℕ → List ExpressionSymbol
+mark_symbols true set = sign kind.Not ∷ number set ∷ []
+mark_symbols false set = number set ∷ []
 
 -- the symbols of an atom
-abbrev pub atom_spelled : List ℕ → Bool → ℕ → List Symbol
-atom_spelled name negated set = word name ∷ sign kind.OpenParenthesis ∷ (set_spelled negated set ++ sign kind.CloseParenthesis ∷ [])
+abbrev pub atom_symbols : List ℕ → Bool → ℕ → List ExpressionSymbol
+atom_symbols name negated set = word name ∷ sign kind.OpenParenthesis ∷ (mark_symbols negated set ++ sign kind.CloseParenthesis ∷ [])
 
 -- the symbols of an acceptance formula
-abbrev pub acc_spelled : RawAccTree → List Symbol
-acc_spelled (constant value) = sign (truth_kind value) ∷ []
-acc_spelled (atom name negated set) = atom_spelled name negated set
-acc_spelled (conjunction left right) = acc_spelled left ++ sign kind.And ∷ acc_spelled right
-acc_spelled (disjunction left right) = acc_spelled left ++ sign kind.Or ∷ acc_spelled right
-acc_spelled (group part) = sign kind.OpenParenthesis ∷ (acc_spelled part ++ sign kind.CloseParenthesis ∷ [])
+abbrev pub formula_symbols : RawAccTree → List ExpressionSymbol
+formula_symbols (constant value) = sign (truth_kind value) ∷ []
+formula_symbols (atom name negated set) = atom_symbols name negated set
+formula_symbols (conjunction left right) = formula_symbols left ++ sign kind.And ∷ formula_symbols right
+formula_symbols (disjunction left right) = formula_symbols left ++ sign kind.Or ∷ formula_symbols right
+formula_symbols (group part) = sign kind.OpenParenthesis ∷ (formula_symbols part ++ sign kind.CloseParenthesis ∷ [])
 
 -- the formula is of this case: an or-expression is an and-expression or an or-expression, `|` and an and-expression; an
 -- and-expression is a unary one or an and-expression, `&` and a unary one; a unary one is a constant, an atom, or an
@@ -38,7 +38,7 @@ IsAccOf rank (group part) = IsAccOf disjunctive part
 pub record ReadsAcc (tokens : List (Lexeme HoaKind)) (tree : RawAccTree) (rest : List (Lexeme HoaKind)) : Type 0 where
   pub front : List (Lexeme HoaKind)
   pub split : tokens ≡ front ++ rest
-  pub spells : map symbol_of front ≡ acc_spelled tree
+  pub spells : map expression_symbol_of front ≡ formula_symbols tree
   pub is : IsAccOf disjunctive tree
   pub ends : EndsThere rest
 

@@ -3,7 +3,7 @@
 use Rattle.std.specs.Prelude.{◌≡◌, ◌<◌, List, [], ◌∷◌, ◌++◌, map}
 use Rattle.omega_acc.specs.label.Raw.{RawLabelTree, alias, conjunction, constant, disjunction, group, negation, proposition, raw_depth}
 use Rattle.omega_acc.specs.Limits.{most_depth}
-use Rattle.omega_acc.specs.Symbols.{EndsThere, IsSyntax, Rank, Symbol, TakesAnd, TakesOr, conjunctive, disjunctive, name, number, sign, symbol_of, truth_kind, unary}
+use Rattle.omega_acc.specs.Symbols.{EndsThere, IsSyntax, Rank, ExpressionSymbol, TakesAnd, TakesOr, conjunctive, disjunctive, name, number, sign, expression_symbol_of, truth_kind, unary}
 use Rattle.omega_text.specs.Cases.{never, or_automaton, or_memory, or_text}
 use Rattle.omega_text.specs.Lexeme.{Lexeme}
 use Rattle.omega_text.specs.declared.hoa.kind.HoaKind.{HoaKind}
@@ -12,14 +12,14 @@ use Rattle.omega_text.specs.declared.refusal.Refusal.{Refusal}
 use Rattle.omega_text.specs.declared.refusal.automaton.AutomatonFault.TheVariants.{TooDeep}
 
 -- the symbols of a label
-abbrev pub spelled : RawLabelTree → List Symbol
-spelled (constant value) = sign (truth_kind value) ∷ []
-spelled (proposition value) = number value ∷ []
-spelled (alias text) = name text ∷ []
-spelled (negation part) = sign kind.Not ∷ spelled part
-spelled (conjunction left right) = spelled left ++ sign kind.And ∷ spelled right
-spelled (disjunction left right) = spelled left ++ sign kind.Or ∷ spelled right
-spelled (group part) = sign kind.OpenParenthesis ∷ (spelled part ++ sign kind.CloseParenthesis ∷ [])
+abbrev pub label_symbols : RawLabelTree → List ExpressionSymbol
+label_symbols (constant value) = sign (truth_kind value) ∷ []
+label_symbols (proposition value) = number value ∷ []
+label_symbols (alias text) = name text ∷ []
+label_symbols (negation part) = sign kind.Not ∷ label_symbols part
+label_symbols (conjunction left right) = label_symbols left ++ sign kind.And ∷ label_symbols right
+label_symbols (disjunction left right) = label_symbols left ++ sign kind.Or ∷ label_symbols right
+label_symbols (group part) = sign kind.OpenParenthesis ∷ (label_symbols part ++ sign kind.CloseParenthesis ∷ [])
 
 -- the label is of this case: an or-expression is an and-expression or an or-expression, `|` and an and-expression; an
 -- and-expression is a unary one or an and-expression, `&` and a unary one; a unary one is an atom, `!` and a unary one,
@@ -37,13 +37,13 @@ IsOf rank (group part) = IsOf disjunctive part
 pub record Reads (tokens : List (Lexeme HoaKind)) (tree : RawLabelTree) (rest : List (Lexeme HoaKind)) : Type 0 where
   pub front : List (Lexeme HoaKind)
   pub split : tokens ≡ front ++ rest
-  pub spells : map symbol_of front ≡ spelled tree
+  pub spells : map expression_symbol_of front ≡ label_symbols tree
   pub is : IsOf disjunctive tree
   pub ends : EndsThere rest
 
 -- no front of the tokens is a label with no operator behind it
-abbrev pub ReadsNone : List (Lexeme HoaKind) → Type 0
-ReadsNone tokens = (tree : RawLabelTree) (rest : List (Lexeme HoaKind)) → Reads tokens tree rest → ⊥
+abbrev pub ReadsNoLabel : List (Lexeme HoaKind) → Type 0
+ReadsNoLabel tokens = (tree : RawLabelTree) (rest : List (Lexeme HoaKind)) → Reads tokens tree rest → ⊥
 
 -- a label is read that is too deep
 pub record ReadsDeep (tokens rest : List (Lexeme HoaKind)) : Type 0 where

@@ -1,6 +1,6 @@
 -- How tokens are passed while an expression is read.
 use Rattle.std.specs.Prelude.{◌≡◌, ℕ, List, [], ◌∷◌, ◌++◌, map}
-use Rattle.omega_acc.specs.Symbols.{Rank, Symbol, conjunctive, disjunctive, symbol_of, unary}
+use Rattle.omega_acc.specs.Symbols.{Rank, ExpressionSymbol, conjunctive, disjunctive, expression_symbol_of, unary}
 use Rattle.omega_text.specs.Lexeme.{Lexeme}
 use Rattle.omega_text.specs.declared.hoa.kind.HoaKind.{HoaKind}
 use Rattle.omega_text.specs.declared.hoa.kind.HoaKind.TheVariants as kind
@@ -18,10 +18,10 @@ FitsOr conjunctive = Unit {0}
 FitsOr disjunctive = ⊥
 
 -- the whole tokens are these symbols, and then those that are left
-pub record Passed (whole : List (Lexeme HoaKind)) (symbols : List Symbol) (left : List (Lexeme HoaKind)) : Type 0 where
+pub record Passed (whole : List (Lexeme HoaKind)) (symbols : List ExpressionSymbol) (left : List (Lexeme HoaKind)) : Type 0 where
   pub front : List (Lexeme HoaKind)
   pub split : whole ≡ front ++ left
-  pub spells : map symbol_of front ≡ symbols
+  pub spells : map expression_symbol_of front ≡ symbols
 
 -- the next token is not of this kind
 abbrev pub NextIsNot : HoaKind → List (Lexeme HoaKind) → Type 0

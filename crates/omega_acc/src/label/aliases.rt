@@ -47,13 +47,13 @@ impl Model for Aliases {
     ghost use Rattle.std.specs.Prelude.{List};
     ghost use Rattle.std.specs.Coded.{coded_list};
     ghost use Rattle.omega_acc.specs.label.Expanding.{Defined};
-    ghost use Rattle.omega_acc.specs.layout.label.Aliases.{IsAliases, defined_code, definitions_of};
+    ghost use Rattle.omega_acc.specs.layout.label.Aliases.{IsAliases, defined_code, definitions_held};
 
     ghost Value = { List Defined };
 
     ghost coded = { coded_list defined_code };
 
-    ghost view = { definitions_of };
+    ghost view = { definitions_held };
 
     ghost invariant = { IsAliases };
 }

@@ -1,7 +1,7 @@
 //! Labels read from tokens.
 
 ghost use Rattle.std.specs.Prelude.{◌≡◌, ◌<◌, ◌≤◌, List, length, IfErr, IfOk, MatchBool, OnOk};
-ghost use Rattle.omega_acc.specs.label.Reading.{IsUnreadLabel, Reads, ReadsDeep, ReadsNone};
+ghost use Rattle.omega_acc.specs.label.Reading.{IsUnreadLabel, Reads, ReadsDeep, ReadsNoLabel};
 ghost use Rattle.omega_acc.specs.Symbols.{IsUnread, conjunctive, unary};
 ghost use Rattle.omega_acc.specs.Limits.{most_depth};
 ghost use Rattle.omega_acc.specs.label.Raw.{raw_depth};
@@ -27,7 +27,7 @@ pub fn read_raw_label<'a, S: TokenSource<'a, HoaKind>>(
     source: &mut S,
 ) -> Result<RawLabel, Refusal>
     ensures ok { IfOk result (λ label. Reads (S.left source.old) label (S.left source.new)) }
-    ensures err { IfErr result (IsUnread (ReadsNone (S.left source.old))) }
+    ensures err { IfErr result (IsUnread (ReadsNoLabel (S.left source.old))) }
     ensures length { S.length source.new ≡ S.length source.old }
 {
     let mut unfinished = Unfinished::new(alloc);
@@ -52,7 +52,7 @@ pub fn read_label<'a, S: TokenSource<'a, HoaKind>>(
 ) -> Result<RawLabel, Refusal>
     ensures ok { IfOk result (λ label. Reads (S.left source.old) label (S.left source.new)) }
     ensures shallow { IfOk result (λ label. raw_depth label ≤ most_depth) }
-    ensures err { IfErr result (IsUnreadLabel (ReadsNone (S.left source.old)) (ReadsDeep (S.left source.old) (S.left source.new))) }
+    ensures err { IfErr result (IsUnreadLabel (ReadsNoLabel (S.left source.old)) (ReadsDeep (S.left source.old) (S.left source.new))) }
     ensures length { S.length source.new ≡ S.length source.old }
 {
     let label = read_raw_label(alloc, source)?;
@@ -68,7 +68,7 @@ fn operand<'a, S: TokenSource<'a, HoaKind>>(
     source: &mut S,
 ) -> Result<(), Refusal>
     ensures ok { OnOk result ((whole : List (Lexeme Kind)) → WantsIn whole (S.left source.old) unfinished.old → HasIn conjunctive whole (S.left source.new) unfinished.new) }
-    ensures err { IfErr result (λ refusal. (whole : List (Lexeme Kind)) → WantsIn whole (S.left source.old) unfinished.old → IsUnread (ReadsNone whole) refusal) }
+    ensures err { IfErr result (λ refusal. (whole : List (Lexeme Kind)) → WantsIn whole (S.left source.old) unfinished.old → IsUnread (ReadsNoLabel whole) refusal) }
     ensures less { OnOk result (length (S.left source.new) < length (S.left source.old)) }
     ensures length { S.length source.new ≡ S.length source.old }
 {
@@ -83,7 +83,7 @@ fn is_prefix<'a, S: TokenSource<'a, HoaKind>>(
 ) -> Result<bool, Refusal>
     ensures wants { IfOk result (λ more. (whole : List (Lexeme Kind)) → WantsIn whole (S.left source.old) unfinished.old
         → MatchBool more (WantsIn whole (S.left source.new) unfinished.new) (HasIn unary whole (S.left source.new) unfinished.new)) }
-    ensures err { IfErr result (λ refusal. (whole : List (Lexeme Kind)) → WantsIn whole (S.left source.old) unfinished.old → IsUnread (ReadsNone whole) refusal) }
+    ensures err { IfErr result (λ refusal. (whole : List (Lexeme Kind)) → WantsIn whole (S.left source.old) unfinished.old → IsUnread (ReadsNoLabel whole) refusal) }
     ensures less { OnOk result (length (S.left source.new) < length (S.left source.old)) }
     ensures length { S.length source.new ≡ S.length source.old }
 {
@@ -122,7 +122,7 @@ fn goes_on<'a, S: TokenSource<'a, HoaKind>>(
 ) -> Result<bool, Refusal>
     ensures more { IfOk result (λ more. (whole : List (Lexeme Kind)) → HasIn conjunctive whole (S.left source.old) unfinished.old
         → MatchBool more (HasIn conjunctive whole (S.left source.new) unfinished.new) (IsWhole whole (S.left source.new) unfinished.new)) }
-    ensures err { IfErr result (λ refusal. (whole : List (Lexeme Kind)) → HasIn conjunctive whole (S.left source.old) unfinished.old → IsUnread (ReadsNone whole) refusal) }
+    ensures err { IfErr result (λ refusal. (whole : List (Lexeme Kind)) → HasIn conjunctive whole (S.left source.old) unfinished.old → IsUnread (ReadsNoLabel whole) refusal) }
     ensures less { IfOk result (λ more. MatchBool more (length (S.left source.new) < length (S.left source.old)) (Unit {0})) }
     ensures length { S.length source.new ≡ S.length source.old }
 {
@@ -156,7 +156,7 @@ fn conjunct<'a, S: TokenSource<'a, HoaKind>>(
     source: &mut S,
 ) -> Result<(), Refusal>
     ensures ok { OnOk result ((whole : List (Lexeme Kind)) (before : List (Lexeme Kind)) → PassesOne kinds.And before (S.left source.old) → HasIn conjunctive whole before unfinished.old → HasIn conjunctive whole (S.left source.new) unfinished.new) }
-    ensures err { IfErr result (λ refusal. (whole : List (Lexeme Kind)) (before : List (Lexeme Kind)) → PassesOne kinds.And before (S.left source.old) → HasIn conjunctive whole before unfinished.old → IsUnread (ReadsNone whole) refusal) }
+    ensures err { IfErr result (λ refusal. (whole : List (Lexeme Kind)) (before : List (Lexeme Kind)) → PassesOne kinds.And before (S.left source.old) → HasIn conjunctive whole before unfinished.old → IsUnread (ReadsNoLabel whole) refusal) }
     ensures less { OnOk result (length (S.left source.new) < length (S.left source.old)) }
     ensures length { S.length source.new ≡ S.length source.old }
 {

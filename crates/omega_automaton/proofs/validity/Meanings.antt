@@ -14,7 +14,7 @@ use Rattle.omega_raw.specs.declared.raw_automaton.RawAutomaton.{RawAutomaton}
 use Rattle.omega_raw.specs.declared.raw_edge.RawEdge.{RawEdge}
 use Rattle.omega_raw.specs.declared.raw_state.RawState.{RawState}
 use Rattle.omega_automaton.specs.Automaton.{Description}
-use Rattle.omega_automaton.specs.Faults.{applies, definitions_of, fault_of, has_deep_expression, has_large_expression, has_wrong_alias, has_wrong_atom, is_deep, is_labelled, is_large, lacks_acceptance, names_of, passes, set_count, state_count}
+use Rattle.omega_automaton.specs.Faults.{applies, definitions_of, automaton_fault_of, has_deep_expression, has_large_expression, has_wrong_alias, has_wrong_atom, is_deep, is_labelled, is_large, lacks_acceptance, names_of, passes, set_count, state_count}
 use Rattle.omega_automaton.specs.Items.{Accepted, acc_name_in, acceptance_in, first_said, name_in, properties_in, start_in, tool_in, unknown_in}
 use Rattle.omega_automaton.specs.Meaning.{IsEdgeOf, IsLabelOf, IsStateOf, Means, written_marks}
 use Rattle.omega_automaton.specs.declared.edge.Edge.{Edge}
@@ -210,7 +210,7 @@ automaton_of raw tree = record {
 }
 
 -- an automaton that is written without a fault means one
-pub meaning_there : (raw : RawAutomaton) → fault_of raw ≡ None → (a : Description) × Means raw a
+pub meaning_there : (raw : RawAutomaton) → automaton_fault_of raw ≡ None → (a : Description) × Means raw a
 meaning_there raw faultless =
     let there = labels_there raw (no_fault_passes (applies raw) Alias faultless) in
     let shallow = labels_shallow raw (no_fault_passes (applies raw) TooDeep faultless) in

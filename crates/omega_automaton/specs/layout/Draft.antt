@@ -8,17 +8,17 @@ use Rattle.omega_acc.specs.Limits.{most_depth}
 use Rattle.omega_acc.specs.formula.Raw.{RawAccTree, raw_acc_depth}
 use Rattle.omega_raw.specs.declared.raw_automaton.RawAutomaton.{RawAutomaton}
 use Rattle.omega_automaton.specs.Automaton.{Description}
-use Rattle.omega_automaton.specs.Faults.{definitions_of, fault_of, passes, set_count, state_count}
+use Rattle.omega_automaton.specs.Faults.{definitions_of, automaton_fault_of, passes, set_count, state_count}
 use Rattle.omega_automaton.specs.Items.{acceptance_in}
 use Rattle.omega_automaton.specs.declared.making.definitions.Definitions.{Definitions}
 use Rattle.omega_automaton.specs.declared.making.gathered.Gathered.{Gathered}
-use Rattle.omega_automaton.specs.declared.making.outline.Outline.{Outline}
+use Rattle.omega_automaton.specs.declared.making.outline.HeaderOutline.{HeaderOutline}
 use Rattle.omega_automaton.specs.declared.state.State.{State}
 use Rattle.omega_automaton.specs.layout.Gathered.{HasGathered}
 use Rattle.omega_automaton.specs.layout.Order.{early_fault, late_fault}
 
 -- what is said of an automaton that is written, where none of the faults before that of aliases applies
-pub record IsOutlineOf (raw : RawAutomaton) (outline : Outline) : Type 0 where
+pub record IsOutlineOf (raw : RawAutomaton) (outline : HeaderOutline) : Type 0 where
   pub early : early_fault raw ≡ None
   pub late : outline.late ≡ late_fault raw
   pub deep : outline.deep ≡ list_any (λ item. passes (λ accepted. nat_lt most_depth (raw_acc_depth accepted.formula)) (acceptance_in item)) raw.items
@@ -27,7 +27,7 @@ pub record IsOutlineOf (raw : RawAutomaton) (outline : Outline) : Type 0 where
 
 -- what is written has no fault, and its items are gathered
 pub record IsDraftOf (raw : RawAutomaton) (all : Gathered) (definitions : Definitions) : Type 0 where
-  pub faultless : fault_of raw ≡ None
+  pub faultless : automaton_fault_of raw ≡ None
   pub gathered : HasGathered raw.items all
   pub aliases : definitions.aliases ≡ definitions_of raw
 

@@ -29,7 +29,7 @@ pub record AreFound (some : (Option Meaning → Bool) → Bool) (size : ℕ) (fo
   pub within : found.size ≤ most_total_size + 1
 
 -- what is found of labels and of others, put together
-pub record AreJoined (one other both : Findings) : Type 0 where
+pub record AreJoinedFindings (one other both : Findings) : Type 0 where
   pub undefined : both.undefined ≡ (one.undefined || other.undefined)
   pub deep : both.deep ≡ (one.deep || other.deep)
   pub large : both.large ≡ (one.large || other.large)

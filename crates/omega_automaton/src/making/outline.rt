@@ -13,7 +13,7 @@ use std::alloc::Global;
 
 /// What is said of an automaton that is written before its aliases are asked for.
 #[derive(Clone, Copy)]
-pub(crate) struct Outline {
+pub(crate) struct HeaderOutline {
     /// The least of the faults 28 to 31 that applies.
     pub late: Option<AutomatonFault>,
     /// Whether an acceptance is too deep.
@@ -23,7 +23,7 @@ pub(crate) struct Outline {
 }
 
 /// Judges an automaton that is written up to its aliases. Refusals 20 to 26 by its least fault, and 60.
-pub(crate) fn outline_of(alloc: Global, raw: &RawAutomaton) -> Result<Outline, Refusal>
+pub(crate) fn outline_of(alloc: Global, raw: &RawAutomaton) -> Result<HeaderOutline, Refusal>
     ensures ok { IfOk result (IsOutlineOf raw.now) }
     ensures err { IfErr result (IsMeaningless raw.now) }
 {
@@ -42,7 +42,7 @@ fn later_outline(
     raw: &RawAutomaton,
     counts: Counts,
     found: BodyFound,
-) -> Result<Outline, Refusal>
+) -> Result<HeaderOutline, Refusal>
     requires early { earliest raw.now ≡ None }
     requires counts { AreCountsOf raw.now counts }
     requires found { IsFoundOfStates counts raw.now.states found }
@@ -50,7 +50,7 @@ fn later_outline(
     ensures err { IfErr result (IsMeaningless raw.now) }
 {
     let late = late_fault(alloc, raw, counts, found)?;
-    Ok(Outline {
+    Ok(HeaderOutline {
         late,
         deep: has_deep_acceptance(raw.items.as_slice()),
         state_count: counts.states,

@@ -20,14 +20,14 @@ use Rattle.omega_raw.specs.declared.raw_edge.RawEdge.{RawEdge}
 use Rattle.omega_raw.specs.declared.raw_state.RawState.{RawState}
 use Rattle.omega_automaton.specs.Automaton.{Description, IsAutomaton, has_repeat, sets_of, size_of, total_size}
 use Rattle.omega_automaton.specs.Automaton as automaton
-use Rattle.omega_automaton.specs.Faults.{applies, begins_capital, definitions_of, fault_of, faults, has_deep_expression, has_label, has_large_expression, has_mixed_labels, has_other_version, has_repeated_item, has_set_beyond, has_set_out_of_range, has_state_out_of_range, has_state_twice, has_unknown_capital, has_wrong_alias, has_wrong_atom, has_wrong_edge_count, has_wrong_proposition, are_out_of_range, is_beyond, is_deep, is_labelled, is_large, is_marked, is_miscounted, is_misnamed, is_mixed, label_total, lacks_acceptance, is_out_of_range, mentioned_count, passes, proposition_count, set_count, size_of_meaning, size_under, some_meaning, state_count}
+use Rattle.omega_automaton.specs.Faults.{applies, begins_capital, definitions_of, automaton_fault_of, faults, has_deep_expression, has_label, has_large_expression, has_mixed_labels, has_other_version, has_repeated_item, has_set_beyond, has_set_out_of_range, has_state_out_of_range, has_state_twice, has_unknown_capital, has_wrong_alias, has_wrong_atom, has_wrong_edge_count, has_wrong_proposition, are_out_of_range, is_beyond, is_deep, is_labelled, is_large, is_marked, is_miscounted, is_misnamed, is_mixed, label_total, lacks_acceptance, is_out_of_range, mentioned_count, passes, proposition_count, set_count, size_of_meaning, size_under, some_meaning, state_count}
 use Rattle.omega_automaton.specs.Items.{Accepted, Named, acc_name_in, acceptance_in, alias_in, name_in, propositions_in, start_in, states_in, tool_in, unknown_in}
 use Rattle.omega_automaton.specs.Limits.{most_propositions, most_total_size}
 use Rattle.omega_automaton.specs.Meaning.{IsEdgeOf, IsLabelOf, IsStateOf, Means}
 use Rattle.omega_automaton.specs.declared.edge.Edge.{Edge}
 use Rattle.omega_automaton.specs.declared.state.State.{State}
 use Rattle.omega_automaton.specs.declared.tool.Tool.{Tool}
-use Rattle.omega_canon.specs.Written.{acc_name_item, edge_written, items_written, marks_written, name_item, state_written, tool_item, written}
+use Rattle.omega_canon.specs.Written.{acc_name_item, edge_written, items_written, marks_written, name_item, state_written, tool_item, written_automaton}
 use Rattle.omega_canon.proofs.meanings.Expressions.{propositions-written, sets-written}
 use Rattle.omega_canon.proofs.meanings.Said.{acc_name-said, acceptance-said, aliases-said, name-said, propositions-said, starts-said, states-said, tool-said, unknown-said}
 use Rattle.omega_canon.proofs.meanings.Tests.{all-under, any-passes, any-some, none-beyond, none-pass, not-twice, same-any, sum-made}
@@ -124,18 +124,18 @@ module _ (label_means : WrittenLabelsMean) (formula_means : WrittenFormulasMean)
   labels-fail test each = none-pass (is_labelled test) state_written (IsFineState a) (state-fails test each) a.defined fine
 
   meanings-fail : (test : Option Meaning → Bool) → ((tree : LabelTree) → IsFine a tree → test (Some (record { tree = tree; depth = raw_depth (label_written tree) })) ≡ false)
-      → some_meaning test (written a) ≡ false
+      → some_meaning test (written_automaton a) ≡ false
   meanings-fail test each =
       ap (λ known. list_any (λ entry. test entry.meaning) (entries_of [] known) || list_any (is_labelled (λ label. test (expansion known label))) (map state_written a.defined)) (aliases-said a)
       ∙ labels-fail (λ label. test (expansion [] label)) (λ tree here. ap test (label_means [] tree).means ∙ each tree here)
 
   -- 20
-  same-version : has_other_version (written a) ≡ false
+  same-version : has_other_version (written_automaton a) ≡ false
   unfolding has_other_version
   same-version = refl
 
   -- 21
-  unrepeated : has_repeated_item (written a) ≡ false
+  unrepeated : has_repeated_item (written_automaton a) ≡ false
   unfolding has_repeated_item
   unrepeated =
       let counts = ap length (states-said a) in
@@ -156,12 +156,12 @@ module _ (label_means : WrittenLabelsMean) (formula_means : WrittenFormulasMean)
       (not-twice name_in (items_written a) (omega (arith, titles, title)))
 
   -- 22
-  accepted : lacks_acceptance (written a) ≡ false
+  accepted : lacks_acceptance (written_automaton a) ≡ false
   unfolding lacks_acceptance
   accepted = ap not (any-some acceptance_in (items_written a) ∙ ap (list_any (λ (it : Accepted). true)) (acceptance-said a))
 
   -- 23
-  small : has_unknown_capital (written a) ≡ false
+  small : has_unknown_capital (written_automaton a) ≡ false
   unfolding has_unknown_capital
   small =
       any-passes unknown_in (λ header. begins_capital header.name) (items_written a)
@@ -178,10 +178,10 @@ module _ (label_means : WrittenLabelsMean) (formula_means : WrittenFormulasMean)
       ∙ ap (λ rest. nat_le count state.number || rest)
       (same-any (λ (edge : RawEdge). are_out_of_range count edge.targets) edge_written (IsEdgeOf definitions) (edge-range count) read.edges state.edges of.edges)
 
-  count-written : state_count (written a) ≡ a.states
-  count-written = ap (λ said. unwrap_or (slice_get said 0) (mentioned_count (written a))) (states-said a)
+  count-written : state_count (written_automaton a) ≡ a.states
+  count-written = ap (λ said. unwrap_or (slice_get said 0) (mentioned_count (written_automaton a))) (states-said a)
 
-  states-in-range : has_state_out_of_range (written a) ≡ false
+  states-in-range : has_state_out_of_range (written_automaton a) ≡ false
   unfolding has_state_out_of_range
   states-in-range =
       ap (λ count. list_any (λ item. passes (are_out_of_range count) (start_in item)) (items_written a) || list_any (is_out_of_range count) (map state_written a.defined)) (count-written ∙ means.states)
@@ -193,7 +193,7 @@ module _ (label_means : WrittenLabelsMean) (formula_means : WrittenFormulasMean)
       ∙ fails StateRange))
 
   -- 25
-  sets-written-count : set_count (written a) ≡ a.sets
+  sets-written-count : set_count (written_automaton a) ≡ a.sets
   sets-written-count = ap (λ said. unwrap_or (option_map (λ accepted. accepted.count) (slice_get said 0)) 0) (acceptance-said a)
 
   formula-range : has_set_beyond a.sets (record { count = a.sets; formula = acc_written a.acceptance }) ≡ false
@@ -207,7 +207,7 @@ module _ (label_means : WrittenLabelsMean) (formula_means : WrittenFormulasMean)
       (none-pass (λ (edge : RawEdge). passes (list_any (nat_le a.sets)) edge.marks) edge_written (automaton.IsEdge a)
       (λ edge one. marks-fail a.sets edge.marks one.marks.below) state.edges (recursion_from_All (automaton.IsEdge a) state.edges here.edges))
 
-  sets-in-range : has_set_out_of_range (written a) ≡ false
+  sets-in-range : has_set_out_of_range (written_automaton a) ≡ false
   unfolding has_set_out_of_range
   sets-in-range =
       ap (λ count. list_any (λ item. passes (has_set_beyond count) (acceptance_in item)) (items_written a) || list_any (is_marked (nat_le count)) (map state_written a.defined)) sets-written-count
@@ -216,7 +216,7 @@ module _ (label_means : WrittenLabelsMean) (formula_means : WrittenFormulasMean)
       (none-pass (is_marked (nat_le a.sets)) state_written (automaton.IsState a) state-marks a.defined (recursion_from_All (automaton.IsState a) a.defined is.states))
 
   -- 26
-  names-count : proposition_count (written a) ≡ length a.propositions
+  names-count : proposition_count (written_automaton a) ≡ length a.propositions
   names-count = ap (λ said. unwrap_or (option_map (λ named. named.count) (slice_get said 0)) 0) (propositions-said a)
 
   named-well : is_misnamed (record { count = length a.propositions; names = a.propositions }) ≡ false
@@ -228,7 +228,7 @@ module _ (label_means : WrittenLabelsMean) (formula_means : WrittenFormulasMean)
       ap not (ap (list_all (λ number. nat_lt number (length a.propositions))) (propositions-written tree)
       ∙ all-under (length a.propositions) (propositions tree) (recursion_from_All (λ number. number < length a.propositions) (propositions tree) here.label.below))
 
-  propositions-in-range : has_wrong_proposition (written a) ≡ false
+  propositions-in-range : has_wrong_proposition (written_automaton a) ≡ false
   unfolding has_wrong_proposition
   propositions-in-range =
       ap (λ count. list_any (λ item. passes is_misnamed (propositions_in item)) (items_written a)
@@ -241,13 +241,13 @@ module _ (label_means : WrittenLabelsMean) (formula_means : WrittenFormulasMean)
       (labels-fail (is_beyond (length a.propositions)) label-range)
 
   -- 27
-  aliases-known : has_wrong_alias (written a) ≡ false
+  aliases-known : has_wrong_alias (written_automaton a) ≡ false
   unfolding has_wrong_alias
   aliases-known =
       or_from _ _ (ap (λ known. has_repeat bytes_eq (map (λ (defined : Defined). defined.name) known)) (aliases-said a)) (meanings-fail is_none (λ tree here. refl))
 
   -- 28
-  states-once : has_state_twice (written a) ≡ false
+  states-once : has_state_twice (written_automaton a) ≡ false
   unfolding has_state_twice
   states-once = ap (has_repeat nat_eq) (numbers-same a.defined) ∙ is.once
 
@@ -270,7 +270,7 @@ module _ (label_means : WrittenLabelsMean) (formula_means : WrittenFormulasMean)
       ∙ (ap (λ one. list_any has_label (map edge_written state.edges) && (one || list_any (λ edge. not (has_label edge)) read.edges)) there
       ∙ ap (λ one. list_any has_label (map edge_written state.edges) && (is_some (option_map label_written state.label) || one)) unlabelled)
 
-  labels-unmixed : has_mixed_labels (written a) ≡ false
+  labels-unmixed : has_mixed_labels (written_automaton a) ≡ false
   unfolding has_mixed_labels
   labels-unmixed = sym (same-any is_mixed state_written (IsStateOf definitions) mixed-same raw.states a.defined means.defined) ∙ fails MixedLabels
 
@@ -297,7 +297,7 @@ module _ (label_means : WrittenLabelsMean) (formula_means : WrittenFormulasMean)
       length_all_zip-made (one ∷ reads) [] zip = absurd zip
       length_all_zip-made (one ∷ reads) (edge ∷ edges) zip = ap suc (length_all_zip-made reads edges zip.1)
 
-  edges-counted : has_wrong_edge_count (written a) ≡ false
+  edges-counted : has_wrong_edge_count (written_automaton a) ≡ false
   unfolding has_wrong_edge_count
   edges-counted =
       ap (λ count. list_any (is_miscounted count) (map state_written a.defined)) (names-count ∙ sym count-same)
@@ -305,14 +305,14 @@ module _ (label_means : WrittenLabelsMean) (formula_means : WrittenFormulasMean)
       ∙ fails ImplicitCount)
 
   -- 31
-  atoms-known : has_wrong_atom (written a) ≡ false
+  atoms-known : has_wrong_atom (written_automaton a) ≡ false
   unfolding has_wrong_atom
   atoms-known =
       any-passes acceptance_in (λ accepted. is_none (acc_meant accepted.formula)) (items_written a)
       ∙ (ap (list_any (λ accepted. is_none (acc_meant accepted.formula))) (acceptance-said a) ∙ or_from _ _ (ap is_none (formula_means a.acceptance).means) refl)
 
   -- 32
-  none-deep : has_deep_expression (written a) ≡ false
+  none-deep : has_deep_expression (written_automaton a) ≡ false
   unfolding has_deep_expression
   none-deep =
       or_from _ _
@@ -332,21 +332,21 @@ module _ (label_means : WrittenLabelsMean) (formula_means : WrittenFormulasMean)
       ∙ ap (λ sizes. size_of state.label + sizes)
       (sum-made (λ (edge : RawEdge). size_under [] edge.label) (λ (edge : Edge). size_of edge.label) edge_written (λ edge. size-same edge.label) state.edges)
 
-  total-small : nat_lt most_total_size (sum_by (label_total (definitions_of (written a))) (map state_written a.defined)) ≡ false
+  total-small : nat_lt most_total_size (sum_by (label_total (definitions_of (written_automaton a))) (map state_written a.defined)) ≡ false
   total-small =
       ap (λ known. nat_lt most_total_size (sum_by (label_total known) (map state_written a.defined))) (aliases-said a)
       ∙ (ap (nat_lt most_total_size) (sum-made (label_total []) total_size state_written total-same a.defined)
       ∙ le-ltb most_total_size (sum_by total_size a.defined) is.small)
 
-  none-large : has_large_expression (written a) ≡ false
+  none-large : has_large_expression (written_automaton a) ≡ false
   unfolding has_large_expression
   none-large =
       or_from _ _ (meanings-fail is_large (λ tree here. and-right _ _ (le-ltb most_size (label_size tree) here.label.small))) total-small
 
   -- no fault
-  pub faultless : fault_of (written a) ≡ None
+  pub faultless : automaton_fault_of (written_automaton a) ≡ None
   faultless =
-      none-found (applies (written a)) faults (
+      none-found (applies (written_automaton a)) faults (
         same-version,
         (
           unrepeated,

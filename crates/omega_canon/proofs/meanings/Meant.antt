@@ -28,7 +28,7 @@ use Rattle.omega_automaton.specs.Meaning.{AreMarksOf, IsEdgeOf, IsLabelOf, IsSta
 use Rattle.omega_automaton.specs.declared.edge.Edge.{Edge}
 use Rattle.omega_automaton.specs.declared.state.State.{State}
 use Rattle.omega_text.specs.declared.refusal.automaton.AutomatonFault.TheVariants as fault
-use Rattle.omega_canon.specs.Written.{edge_written, marks_written, state_written, written}
+use Rattle.omega_canon.specs.Written.{edge_written, marks_written, state_written, written_automaton}
 use Rattle.omega_canon.proofs.meanings.Expressions.{formula-shallow, label-shallow}
 use Rattle.omega_canon.proofs.meanings.Faultless.{IsFine, IsFineState, faultless}
 use Rattle.omega_canon.proofs.meanings.Said.{acc_name-said, acceptance-said, aliases-said, first-acc_name, first-name, first-tool, name-said, properties-said, propositions-said, starts-said, states-said, tool-said, unknown-said}
@@ -127,7 +127,7 @@ state-of known a state is = record {
 }
 
 -- the automaton as it is written means the automaton
-pub written-means : Meanings → (raw : RawAutomaton) (a : Description) → IsReadAutomaton raw → Means raw a → IsAutomaton a → Means (written a) a
+pub written-means : Meanings → (raw : RawAutomaton) (a : Description) → IsReadAutomaton raw → Means raw a → IsAutomaton a → Means (written_automaton a) a
 written-means known raw a read means is =
     let fine = fine-states known raw a read means is in
     let states : AllZip (IsStateOf []) (map state_written a.defined) a.defined =
@@ -137,7 +137,7 @@ written-means known raw a read means is =
       faultless = faultless known.label_means known.formula_means raw a means (λ one. known.no_fault raw a one means) is fine (formula-fits known raw a read means);
       tool = sym (ap (λ said. slice_get said 0) (tool-said a) ∙ first-tool a.tool);
       name = sym (ap (λ said. slice_get said 0) (name-said a) ∙ first-name a.name);
-      states = sym (ap (λ said. unwrap_or (slice_get said 0) (mentioned_count (written a))) (states-said a));
+      states = sym (ap (λ said. unwrap_or (slice_get said 0) (mentioned_count (written_automaton a))) (states-said a));
       starts = sym (starts-said a);
       propositions = sym (ap (λ said. unwrap_or (option_map (λ named. named.names) (slice_get said 0)) []) (propositions-said a));
       acc_name = sym (ap (λ said. slice_get said 0) (acc_name-said a) ∙ first-acc_name a.acc_name);

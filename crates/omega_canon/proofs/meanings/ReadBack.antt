@@ -6,7 +6,7 @@ use Rattle.omega_text.specs.Limits.{most_text}
 use Rattle.omega_text.specs.Reading.{IsTokenOf}
 use Rattle.omega_text.specs.declared.hoa.kind.HoaKind.TheVariants.{End}
 use Rattle.omega_text.specs.hoa.Format.{hoa_format}
-use Rattle.omega_raw.specs.Grammar.{spelled}
+use Rattle.omega_raw.specs.Grammar.{automaton_symbols}
 use Rattle.omega_raw.specs.Symbols.{Tokens}
 use Rattle.omega_automaton.specs.Automaton.{Description}
 use Rattle.omega_automaton.specs.Laws.{MeaningsAreAutomata}
@@ -15,9 +15,9 @@ use Rattle.omega_hoa.specs.Alone.{IsAutomatonText}
 use Rattle.omega_hoa.specs.Laws.{AutomataFillSegments}
 use Rattle.omega_hoa.specs.Segment.{IsAutomatonOf}
 use Rattle.omega_hoa.specs.Stream.{IsSegment}
-use Rattle.omega_canon.specs.Canonical.{canonical}
-use Rattle.omega_canon.specs.Writable.{IsWritable}
-use Rattle.omega_canon.specs.Written.{written}
+use Rattle.omega_canon.specs.Canonical.{canonical_automaton}
+use Rattle.omega_canon.specs.Writable.{IsWritableAutomaton}
+use Rattle.omega_canon.specs.Written.{written_automaton}
 use Rattle.omega_canon.proofs.meanings.Meant.{Meanings, written-means}
 use Rattle.omega_canon.proofs.texts.Lists.{all-then}
 use Rattle.omega_canon.proofs.texts.Spelled.{Known}
@@ -38,14 +38,14 @@ formed tokens all = all-then (IsTokenOf hoa_format) IsFormed (λ lexeme of. of.2
 
 -- what an automaton keeps that was read
 kept : (a : Description) (of : IsOfTokens a) → IsReadAutomaton of.is.raw
-kept a of = automaton-says of.is.raw (said (spelled of.is.raw) of.tokens [] (formed of.tokens of.of_text) of.is.written.spells)
+kept a of = automaton-says of.is.raw (said (automaton_symbols of.is.raw) of.tokens [] (formed of.tokens of.of_text) of.is.written.spells)
 
 -- an automaton that was read can be written
-pub read-writable : MeaningsAreAutomata → (a : Description) → IsOfTokens a → IsWritable a
+pub read-writable : MeaningsAreAutomata → (a : Description) → IsOfTokens a → IsWritableAutomaton a
 read-writable automata a of = means-writable of.is.raw a (kept a of) of.is.written.items of.is.means (automata of.is.raw a of.is.means)
 
 -- as it is written it means itself
-pub read-means : Meanings → MeaningsAreAutomata → (a : Description) → IsOfTokens a → Means (written a) a
+pub read-means : Meanings → MeaningsAreAutomata → (a : Description) → IsOfTokens a → Means (written_automaton a) a
 read-means meanings automata a of = written-means meanings of.is.raw a (kept a of) of.is.means (automata of.is.raw a of.is.means)
 
 -- tokens of a cut are tokens of some text
@@ -54,15 +54,15 @@ cut-tokens source from end [] cuts = tt
 cut-tokens source from end (lexeme ∷ tokens) cuts = ((source, from, cuts.0), cut-tokens source lexeme.span.end end tokens cuts.1)
 
 -- the canonical text of an automaton that was read is a text of that automaton
-pub canonical-read : Known → Meanings → MeaningsAreAutomata → AutomataFillSegments → (a : Description) → IsOfTokens a → length (canonical a) ≤ most_text
-    → IsAutomatonText (canonical a) a
+pub canonical-read : Known → Meanings → MeaningsAreAutomata → AutomataFillSegments → (a : Description) → IsOfTokens a → length (canonical_automaton a) ≤ most_text
+    → IsAutomatonText (canonical_automaton a) a
 canonical-read known meanings automata fill a of short =
     let text = canonical-spelled known a (read-writable automata a of) in
-    let filled = fill text.lexemes [] (written a) (cut-tokens (canonical a) 0 text.cut.end text.lexemes text.cut.cuts) text.written in
+    let filled = fill text.lexemes [] (written_automaton a) (cut-tokens (canonical_automaton a) 0 text.cut.end text.lexemes text.cut.cuts) text.written in
     record {
       short = short;
       lexemes = text.lexemes;
       cut = text.cut;
       segment = subst (IsSegment End) (sym (filled.split ∙ append-nil filled.segment)) filled.whole;
-      value = record { raw = written a; written = text.written; means = read-means meanings automata a of };
+      value = record { raw = written_automaton a; written = text.written; means = read-means meanings automata a of };
     }

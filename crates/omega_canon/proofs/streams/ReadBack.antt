@@ -5,8 +5,8 @@ use Rattle.std.proofs.lemmas.List.Elements.{All-contains, All-from_recursion}
 use Rattle.omega_text.specs.Limits.{most_text}
 use Rattle.omega_text.specs.Reading.{IsTokenOf}
 use Rattle.omega_text.specs.hoa.Format.{hoa_format}
-use Rattle.omega_raw.specs.Grammar.{spelled}
-use Rattle.omega_raw.specs.Symbols.{Spells, Symbol, Tokens}
+use Rattle.omega_raw.specs.Grammar.{automaton_symbols}
+use Rattle.omega_raw.specs.Symbols.{ReadsSymbols, AutomatonSymbol, Tokens}
 use Rattle.omega_automaton.specs.Automaton.{Description}
 use Rattle.omega_automaton.specs.Laws.{MeaningsAreAutomata}
 use Rattle.omega_automaton.specs.Meaning.{Means}
@@ -14,11 +14,11 @@ use Rattle.omega_hoa.specs.Laws.{AutomataFillSegments}
 use Rattle.omega_hoa.specs.Stream.{IsStream, IsStreamText}
 use Rattle.omega_hoa.specs.declared.item.Item.{Item}
 use Rattle.omega_hoa.specs.declared.item.Item.TheVariants.{Aborted, Automaton}
-use Rattle.omega_canon.specs.Canonical.{canonical}
+use Rattle.omega_canon.specs.Canonical.{canonical_automaton}
 use Rattle.omega_canon.specs.Laws.{WasRead}
 use Rattle.omega_canon.specs.Stream.{automata_in, canonical_stream}
-use Rattle.omega_canon.specs.Writable.{IsWritable}
-use Rattle.omega_canon.specs.Written.{written}
+use Rattle.omega_canon.specs.Writable.{IsWritableAutomaton}
+use Rattle.omega_canon.specs.Written.{written_automaton}
 use Rattle.omega_canon.proofs.meanings.Meant.{Meanings}
 use Rattle.omega_canon.proofs.meanings.ReadBack.{IsOfTokens, cut-tokens, read-means, read-writable}
 use Rattle.omega_canon.proofs.streams.Behind.{spelled_behind}
@@ -65,22 +65,22 @@ read-tokens a was = elim was [
 ]
 
 -- the symbols of the automata of a stream
-abbrev symbols_in : List Item → List Symbol
+abbrev symbols_in : List Item → List AutomatonSymbol
 symbols_in [] = []
-symbols_in (Automaton a ∷ items) = spelled (written a) ++ symbols_in items
+symbols_in (Automaton a ∷ items) = automaton_symbols (written_automaton a) ++ symbols_in items
 symbols_in (Aborted ∷ items) = symbols_in items
 
 -- the canonical text of a stream is their tokens
-stream-spelled : Known → (items : List Item) → AllByRecursion (OfAutomaton IsWritable) items → IsSpelled (canonical_stream items) (symbols_in items)
+stream-spelled : Known → (items : List Item) → AllByRecursion (OfAutomaton IsWritableAutomaton) items → IsSpelled (canonical_stream items) (symbols_in items)
 stream-spelled known [] all = nothing-spelled
 stream-spelled known (Automaton a ∷ items) all =
-    subst (IsSpelled (canonical a ++ canonical_stream items)) (spelled_behind (written a) (symbols_in items))
+    subst (IsSpelled (canonical_automaton a ++ canonical_stream items)) (spelled_behind (written_automaton a) (symbols_in items))
     (whole-spelled known a all.0 (canonical_stream items) (symbols_in items) (stream-spelled known items all.1))
 stream-spelled known (Aborted ∷ items) all = stream-spelled known items all.1
 
 -- the tokens of some symbols and of others behind them
-spelled-front : (front back : List Symbol) (tokens rest : Tokens) → Spells tokens (front ++ back) rest
-    → (middle : Tokens) × Spells tokens front middle × Spells middle back rest
+spelled-front : (front back : List AutomatonSymbol) (tokens rest : Tokens) → ReadsSymbols tokens (front ++ back) rest
+    → (middle : Tokens) × ReadsSymbols tokens front middle × ReadsSymbols middle back rest
 spelled-front [] back tokens rest spells = (tokens, refl, spells)
 spelled-front (symbol ∷ front) back tokens rest spells =
     let more = spelled-front front back spells.middle rest spells.back in
@@ -88,21 +88,21 @@ spelled-front (symbol ∷ front) back tokens rest spells =
 
 -- an automaton as it is written can be written and means the automaton
 record IsBack (a : Description) : Type 0 where
-  writable : IsWritable a
-  means : Means (written a) a
+  writable : IsWritableAutomaton a
+  means : Means (written_automaton a) a
 
 -- the tokens are a stream of the automata
 stream-filled : AutomataFillSegments → (items : List Item) (tokens : Tokens) → AllByRecursion (IsTokenOf hoa_format) tokens → AllByRecursion (OfAutomaton IsBack) items
-    → Spells tokens (symbols_in items) [] → IsStream tokens (automata_in items)
+    → ReadsSymbols tokens (symbols_in items) [] → IsStream tokens (automata_in items)
 stream-filled fill [] tokens all back spells = spells
 stream-filled fill (Automaton a ∷ items) tokens all back spells =
-    let parts = spelled-front (spelled (written a)) (symbols_in items) tokens [] spells in
+    let parts = spelled-front (automaton_symbols (written_automaton a)) (symbols_in items) tokens [] spells in
     let reads = written-reads a tokens parts.0 back.0.writable parts.1 in
-    let filled = fill tokens parts.0 (written a) all reads in (
+    let filled = fill tokens parts.0 (written_automaton a) all reads in (
       filled.segment,
       parts.0,
       filled.split,
-      (filled.whole, record { raw = written a; written = filled.written; means = back.0.means }),
+      (filled.whole, record { raw = written_automaton a; written = filled.written; means = back.0.means }),
       stream-filled fill items parts.0 (back-tokens filled.segment parts.0 (subst (AllByRecursion (IsTokenOf hoa_format)) filled.split all)) back.1 parts.2,
     )
 stream-filled fill (Aborted ∷ items) tokens all back spells = stream-filled fill items tokens all back.1 spells
@@ -118,7 +118,7 @@ pub stream-read : Known → Meanings → MeaningsAreAutomata → AutomataFillSeg
     → length (canonical_stream items) ≤ most_text → IsStreamText (canonical_stream items) (automata_in items)
 stream-read known meanings automata fill source items is short =
     let read = text-items source items is in
-    let writable = all-automata IsOfTokens IsWritable (read-writable automata) items read in
+    let writable = all-automata IsOfTokens IsWritableAutomaton (read-writable automata) items read in
     let back = all-automata IsOfTokens IsBack (λ a of. record { writable = read-writable automata a of; means = read-means meanings automata a of }) items read in
     let there = (stream-spelled known items writable).there (canonical_stream items) 0 (omega arith) refl in
     record {

@@ -9,17 +9,17 @@ use Rattle.omega_acc.specs.Symbols.{EndsThere, IsNoOperator}
 use Rattle.omega_acc.specs.Writing.{acc_text, label_text}
 use Rattle.omega_acc.specs.WritingLaws.{NumbersFit, SetsFit, StandsApart, acc_written, label_written}
 use Rattle.omega_raw.specs.Symbols.{FirstIs}
-use Rattle.omega_raw.specs.Symbols.{IsNext, Shows, Spells, Symbol, Tokens, alias, formula, header, label, number, sign, text, word}
+use Rattle.omega_raw.specs.Symbols.{IsNext, Shows, ReadsSymbols, AutomatonSymbol, Tokens, alias, formula, header, label, number, sign, text, word}
 use Rattle.omega_canon.proofs.texts.Spelled.{IsSpelled, Known, drop-first, first-within}
 
 -- a symbol of such a kind comes next
-ends-next : (symbol : Symbol) (tokens middle : Tokens) (sort : HoaKind) → IsNoOperator sort → IsNext symbol tokens middle
+ends-next : (symbol : AutomatonSymbol) (tokens middle : Tokens) (sort : HoaKind) → IsNoOperator sort → IsNext symbol tokens middle
     → ((lexeme : Lexeme HoaKind) → Shows symbol lexeme → lexeme.kind ≡ sort) → EndsThere tokens
 ends-next symbol tokens middle sort is next shown =
     subst EndsThere (sym next.next) (subst IsNoOperator (sym (shown next.lexeme next.shows)) is)
 
 -- the tokens of symbols that begin with no operator do not either
-ends-there : (symbols : List Symbol) (tokens : Tokens) → FirstIs IsNoOperator symbols → Spells tokens symbols [] → EndsThere tokens
+ends-there : (symbols : List AutomatonSymbol) (tokens : Tokens) → FirstIs IsNoOperator symbols → ReadsSymbols tokens symbols [] → EndsThere tokens
 ends-there [] tokens first spells = absurd first
 ends-there (number n ∷ others) tokens first spells = ends-next (number n) tokens spells.middle kind.Int first spells.front (λ lexeme shows. shows.0)
 ends-there (word bytes ∷ others) tokens first spells = ends-next (word bytes) tokens spells.middle kind.Identifier first spells.front (λ lexeme shows. shows.0)
@@ -31,7 +31,7 @@ ends-there (label tree ∷ others) tokens first spells = absurd first
 ends-there (formula tree ∷ others) tokens first spells = absurd first
 
 -- a label
-pub label-spelled : Known → (tree : LabelTree) (behind : List ℕ) (others : List Symbol) → NumbersFit tree → StandsApart behind → FirstIs IsNoOperator others
+pub label-spelled : Known → (tree : LabelTree) (behind : List ℕ) (others : List AutomatonSymbol) → NumbersFit tree → StandsApart behind → FirstIs IsNoOperator others
     → IsSpelled behind others → IsSpelled ((label_text tree).bytes ++ behind) (label (label_written tree) ∷ others)
 label-spelled known tree behind others fit apart first spelled = record {
   there = λ source from within is.
@@ -58,7 +58,7 @@ label-spelled known tree behind others fit apart first spelled = record {
 }
 
 -- an acceptance formula
-pub formula-spelled : Known → (tree : AccTree) (behind : List ℕ) (others : List Symbol) → SetsFit tree → StandsApart behind → FirstIs IsNoOperator others
+pub formula-spelled : Known → (tree : AccTree) (behind : List ℕ) (others : List AutomatonSymbol) → SetsFit tree → StandsApart behind → FirstIs IsNoOperator others
     → IsSpelled behind others → IsSpelled ((acc_text tree).bytes ++ behind) (formula (acc_written tree) ∷ others)
 formula-spelled known tree behind others fit apart first spelled = record {
   there = λ source from within is.

@@ -2,7 +2,7 @@
 use Rattle.std.proofs.Common.{◌≡◌, ℕ, List, [], ◌∷◌, ◌++◌, map, ap, append_assoc, refl, sym, subst}
 use Rattle.std.specs.List.{AllByRecursion, flat_map}
 use Rattle.omega_raw.specs.Grammar.{each}
-use Rattle.omega_raw.specs.Symbols.{Symbol}
+use Rattle.omega_raw.specs.Symbols.{AutomatonSymbol}
 use Rattle.omega_canon.proofs.texts.Spelled.{IsSpelled}
 
 -- nothing is asked of the bytes behind a line
@@ -18,10 +18,10 @@ each-behind part May keeps (first ∷ others) behind may =
     (keeps first (flat_map part others ++ behind) (each-behind part May keeps others behind may))
 
 -- the parts of a list are the rows of its values
-pub each-spelled : {X : Type 0} (part : X → List ℕ) (row : X → List Symbol → List Symbol) (Is : X → Type 0) (May : List ℕ → Type 0)
+pub each-spelled : {X : Type 0} (part : X → List ℕ) (row : X → List AutomatonSymbol → List AutomatonSymbol) (Is : X → Type 0) (May : List ℕ → Type 0)
     → ((it : X) (behind : List ℕ) → May behind → May (part it ++ behind))
-    → ((it : X) (behind : List ℕ) (symbols : List Symbol) → Is it → May behind → IsSpelled behind symbols → IsSpelled (part it ++ behind) (row it symbols))
-    → (items : List X) (behind : List ℕ) (symbols : List Symbol) → AllByRecursion Is items → May behind
+    → ((it : X) (behind : List ℕ) (symbols : List AutomatonSymbol) → Is it → May behind → IsSpelled behind symbols → IsSpelled (part it ++ behind) (row it symbols))
+    → (items : List X) (behind : List ℕ) (symbols : List AutomatonSymbol) → AllByRecursion Is items → May behind
     → IsSpelled behind symbols → IsSpelled (flat_map part items ++ behind) (each row items symbols)
 each-spelled part row Is May keeps spells [] behind symbols all may spelled = spelled
 each-spelled part row Is May keeps spells (first ∷ others) behind symbols all may spelled =
@@ -30,13 +30,13 @@ each-spelled part row Is May keeps spells (first ∷ others) behind symbols all 
     (each-spelled part row Is May keeps spells others behind symbols all.1 may spelled))
 
 -- the rows of two lists, one behind the other
-pub each-append : {X : Type 0} (row : X → List Symbol → List Symbol) (first second : List X) (symbols : List Symbol)
+pub each-append : {X : Type 0} (row : X → List AutomatonSymbol → List AutomatonSymbol) (first second : List X) (symbols : List AutomatonSymbol)
     → each row (first ++ second) symbols ≡ each row first (each row second symbols)
 each-append row [] second symbols = refl
 each-append row (it ∷ first) second symbols = ap (row it) (each-append row first second symbols)
 
 -- the rows of values that are made of others
-pub each-map : {X Y : Type 0} (row : Y → List Symbol → List Symbol) (made : X → Y) (items : List X) (symbols : List Symbol)
+pub each-map : {X Y : Type 0} (row : Y → List AutomatonSymbol → List AutomatonSymbol) (made : X → Y) (items : List X) (symbols : List AutomatonSymbol)
     → each row (map made items) symbols ≡ each (λ it. row (made it)) items symbols
 each-map row made [] symbols = refl
 each-map row made (it ∷ items) symbols = ap (row (made it)) (each-map row made items symbols)

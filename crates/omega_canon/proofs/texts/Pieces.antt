@@ -9,13 +9,13 @@ use Rattle.omega_acc.specs.Writing.{label_text}
 use Rattle.omega_acc.specs.WritingLaws.{NumbersFit, StandsApart, label_written}
 use Rattle.omega_acc.specs.declared.formula.name.Parameter.{Parameter}
 use Rattle.omega_acc.specs.declared.formula.name.Parameter.TheVariants as parameter
-use Rattle.omega_raw.specs.Grammar.{conj_row, each, int_row, joined_row, label_row, optional, parameter_row, sig_row, string_row, value_row, word_row}
-use Rattle.omega_raw.specs.Symbols.{Symbol, sign}
+use Rattle.omega_raw.specs.Grammar.{conj_row, each, int_row, joined_row, label_row, optional_row, parameter_row, sig_row, string_row, value_row, word_row}
+use Rattle.omega_raw.specs.Symbols.{AutomatonSymbol, sign}
 use Rattle.omega_raw.specs.declared.header_value.HeaderValue.{HeaderValue}
 use Rattle.omega_raw.specs.declared.header_value.HeaderValue.TheVariants as value
 use Rattle.omega_canon.specs.HeaderText.{parameter_part, value_part}
-use Rattle.omega_canon.specs.Parts.{conjunction, label_part, marks_part, numbers_behind, quoted, spaced, string_part, strings, words}
-use Rattle.omega_canon.specs.Writable.{AreJoined, Fits, IsIdentifier, IsWritableParameter, IsWritableValue}
+use Rattle.omega_canon.specs.Parts.{conjunction, label_part, marks_part, numbers_behind, quoted_string, spaced, string_part, strings, words}
+use Rattle.omega_canon.specs.Writable.{AreJoined, IsWritableNumber, IsIdentifier, IsWritableParameter, IsWritableValue}
 use Rattle.omega_canon.specs.Written.{marks_written}
 use Rattle.omega_canon.proofs.texts.Expressions.{label-spelled}
 use Rattle.omega_canon.proofs.texts.Lists.{each-behind, each-spelled}
@@ -64,7 +64,7 @@ apart-value (value.Text bytes) behind apart = apart-space _
 apart-value (value.Word bytes) behind apart = apart-space _
 
 pub apart-strings : (texts : List (List ℕ)) (behind : List ℕ) → StandsApart behind → StandsApart (strings texts ++ behind)
-apart-strings texts behind apart = each-behind (λ bytes. spaced (quoted bytes)) StandsApart (λ it. apart-spaced (quoted it)) texts behind apart
+apart-strings texts behind apart = each-behind (λ bytes. spaced (quoted_string bytes)) StandsApart (λ it. apart-spaced (quoted_string it)) texts behind apart
 
 pub apart-words : (texts : List (List ℕ)) (behind : List ℕ) → StandsApart behind → StandsApart (words texts ++ behind)
 apart-words texts behind apart = each-behind spaced StandsApart apart-spaced texts behind apart
@@ -75,38 +75,38 @@ apart-parameters items behind apart = each-behind parameter_part StandsApart apa
 -- ---- parts
 
 -- a string that may be there
-pub string_part-spelled : Known → (it : Option (List ℕ)) (behind : List ℕ) (symbols : List Symbol) → IfSome it IsQuotable
-    → IsSpelled behind symbols → IsSpelled (string_part it ++ behind) (optional string_row it symbols)
+pub string_part-spelled : Known → (it : Option (List ℕ)) (behind : List ℕ) (symbols : List AutomatonSymbol) → IfSome it IsQuotable
+    → IsSpelled behind symbols → IsSpelled (string_part it ++ behind) (optional_row string_row it symbols)
 string_part-spelled known None behind symbols is spelled = spelled
 string_part-spelled known (Some bytes) behind symbols is spelled = space-spelled (string-spelled known bytes behind symbols is spelled)
 
 -- strings
-pub strings-spelled : Known → (texts : List (List ℕ)) (behind : List ℕ) (symbols : List Symbol) → AllByRecursion IsQuotable texts → StandsApart behind
+pub strings-spelled : Known → (texts : List (List ℕ)) (behind : List ℕ) (symbols : List AutomatonSymbol) → AllByRecursion IsQuotable texts → StandsApart behind
     → IsSpelled behind symbols → IsSpelled (strings texts ++ behind) (each string_row texts symbols)
 strings-spelled known texts behind symbols all apart spelled =
-    each-spelled (λ bytes. spaced (quoted bytes)) string_row IsQuotable StandsApart (λ it. apart-spaced (quoted it))
+    each-spelled (λ bytes. spaced (quoted_string bytes)) string_row IsQuotable StandsApart (λ it. apart-spaced (quoted_string it))
     (λ it rest others is may then. space-spelled (string-spelled known it rest others is then)) texts behind symbols all apart spelled
 
 -- identifiers
-pub words-spelled : Known → (texts : List (List ℕ)) (behind : List ℕ) (symbols : List Symbol) → AllByRecursion IsIdentifier texts → StandsApart behind
+pub words-spelled : Known → (texts : List (List ℕ)) (behind : List ℕ) (symbols : List AutomatonSymbol) → AllByRecursion IsIdentifier texts → StandsApart behind
     → IsSpelled behind symbols → IsSpelled (words texts ++ behind) (each word_row texts symbols)
 words-spelled known texts behind symbols all apart spelled =
     each-spelled spaced word_row IsIdentifier StandsApart apart-spaced
     (λ it rest others is may then. space-spelled (word-spelled known it rest others is may then)) texts behind symbols all apart spelled
 
-parameter-spelled : Known → (it : Parameter) (behind : List ℕ) (symbols : List Symbol) → IsWritableParameter it → StandsApart behind
+parameter-spelled : Known → (it : Parameter) (behind : List ℕ) (symbols : List AutomatonSymbol) → IsWritableParameter it → StandsApart behind
     → IsSpelled behind symbols → IsSpelled (parameter_part it ++ behind) (parameter_row it symbols)
 parameter-spelled known (parameter.Boolean truth) behind symbols is apart spelled = space-spelled (truth-spelled known truth behind symbols apart spelled)
 parameter-spelled known (parameter.Number number) behind symbols is apart spelled = space-spelled (number-spelled known number behind symbols is apart spelled)
 parameter-spelled known (parameter.Word bytes) behind symbols is apart spelled = space-spelled (word-spelled known bytes behind symbols is apart spelled)
 
 -- the parameters of the name of an acceptance
-pub parameters-spelled : Known → (items : List Parameter) (behind : List ℕ) (symbols : List Symbol) → AllByRecursion IsWritableParameter items → StandsApart behind
+pub parameters-spelled : Known → (items : List Parameter) (behind : List ℕ) (symbols : List AutomatonSymbol) → AllByRecursion IsWritableParameter items → StandsApart behind
     → IsSpelled behind symbols → IsSpelled (flat_map parameter_part items ++ behind) (each parameter_row items symbols)
 parameters-spelled known items behind symbols all apart spelled =
     each-spelled parameter_part parameter_row IsWritableParameter StandsApart apart-parameter (parameter-spelled known) items behind symbols all apart spelled
 
-value-spelled : Known → (it : HeaderValue) (behind : List ℕ) (symbols : List Symbol) → IsWritableValue it → StandsApart behind
+value-spelled : Known → (it : HeaderValue) (behind : List ℕ) (symbols : List AutomatonSymbol) → IsWritableValue it → StandsApart behind
     → IsSpelled behind symbols → IsSpelled (value_part it ++ behind) (value_row it symbols)
 value-spelled known (value.Boolean truth) behind symbols is apart spelled = space-spelled (truth-spelled known truth behind symbols apart spelled)
 value-spelled known (value.Number number) behind symbols is apart spelled = space-spelled (number-spelled known number behind symbols is apart spelled)
@@ -114,48 +114,48 @@ value-spelled known (value.Text bytes) behind symbols is apart spelled = space-s
 value-spelled known (value.Word bytes) behind symbols is apart spelled = space-spelled (word-spelled known bytes behind symbols is apart spelled)
 
 -- the values of a header
-pub values-spelled : Known → (items : List HeaderValue) (behind : List ℕ) (symbols : List Symbol) → AllByRecursion IsWritableValue items → StandsApart behind
+pub values-spelled : Known → (items : List HeaderValue) (behind : List ℕ) (symbols : List AutomatonSymbol) → AllByRecursion IsWritableValue items → StandsApart behind
     → IsSpelled behind symbols → IsSpelled (flat_map value_part items ++ behind) (each value_row items symbols)
 values-spelled known items behind symbols all apart spelled =
     each-spelled value_part value_row IsWritableValue StandsApart apart-value (value-spelled known) items behind symbols all apart spelled
 
 -- states joined by `&`
-pub conjunction-spelled : Known → (states : List ℕ) (behind : List ℕ) (symbols : List Symbol) → AreJoined states → StandsApart behind
+pub conjunction-spelled : Known → (states : List ℕ) (behind : List ℕ) (symbols : List AutomatonSymbol) → AreJoined states → StandsApart behind
     → IsSpelled behind symbols → IsSpelled (conjunction states ++ behind) (conj_row states symbols)
 conjunction-spelled known [] behind symbols are apart spelled = absurd (omega (arith, are.listed))
 conjunction-spelled known (first ∷ others) behind symbols are apart spelled =
     subst (λ bytes. IsSpelled bytes (conj_row (first ∷ others) symbols)) (sym (append_assoc (decimal first) (numbers_behind (codes "&") others) behind))
     (number-spelled known first _ (each joined_row others symbols) are.fit.0
     (each-behind (λ number. codes "&" ++ decimal number) StandsApart (λ it rest may. apart-and _) others behind apart)
-    (each-spelled (λ number. codes "&" ++ decimal number) joined_row Fits StandsApart (λ it rest may. apart-and _)
+    (each-spelled (λ number. codes "&" ++ decimal number) joined_row IsWritableNumber StandsApart (λ it rest may. apart-and _)
     (λ it rest others is may then.
     sign-spelled kind.And (38 ∷ []) (decimal it ++ rest) _ (refl, refl) (known.closed kind.And (38 ∷ []) _ refl refl) (number-spelled known it rest others is may then))
     others behind symbols are.fit.1 apart spelled))
 
 -- marks between braces
-braces-spelled : Known → (first : ℕ) (others : List ℕ) (behind : List ℕ) (symbols : List Symbol) → AllByRecursion Fits (first ∷ others)
+braces-spelled : Known → (first : ℕ) (others : List ℕ) (behind : List ℕ) (symbols : List AutomatonSymbol) → AllByRecursion IsWritableNumber (first ∷ others)
     → IsSpelled behind symbols → IsSpelled (decimal first ++ (numbers_behind (codes " ") others ++ (125 ∷ behind))) (each int_row (first ∷ others) (sign kind.CloseBrace ∷ symbols))
 braces-spelled known first others behind symbols fit spelled =
     let closed : IsSpelled (125 ∷ behind) (sign kind.CloseBrace ∷ symbols) =
     sign-spelled kind.CloseBrace (125 ∷ []) behind symbols (refl, refl) (known.closed kind.CloseBrace (125 ∷ []) _ refl refl) spelled in
     number-spelled known first _ (each int_row others (sign kind.CloseBrace ∷ symbols)) fit.0
     (each-behind (λ number. codes " " ++ decimal number) StandsApart (λ it rest may. apart-space _) others _ (apart-brace behind))
-    (each-spelled (λ number. codes " " ++ decimal number) int_row Fits StandsApart (λ it rest may. apart-space _)
+    (each-spelled (λ number. codes " " ++ decimal number) int_row IsWritableNumber StandsApart (λ it rest may. apart-space _)
     (λ it rest more is may then. space-spelled (number-spelled known it rest more is may then)) others _ _ fit.1 (apart-brace behind) closed)
 
 -- marks
-pub marks-spelled : Known → (marks : List ℕ) (behind : List ℕ) (symbols : List Symbol) → AllByRecursion Fits marks
-    → IsSpelled behind symbols → IsSpelled (marks_part marks ++ behind) (optional sig_row (marks_written marks) symbols)
+pub marks-spelled : Known → (marks : List ℕ) (behind : List ℕ) (symbols : List AutomatonSymbol) → AllByRecursion IsWritableNumber marks
+    → IsSpelled behind symbols → IsSpelled (marks_part marks ++ behind) (optional_row sig_row (marks_written marks) symbols)
 marks-spelled known [] behind symbols fit spelled = spelled
 marks-spelled known (first ∷ others) behind symbols fit spelled =
     let apart : ((decimal first ++ numbers_behind (codes " ") others) ++ 125 ∷ []) ++ behind ≡ decimal first ++ (numbers_behind (codes " ") others ++ (125 ∷ behind)) = simp append_assoc in
-    subst (λ bytes. IsSpelled (32 ∷ 123 ∷ bytes) (optional sig_row (marks_written (first ∷ others)) symbols)) (sym apart)
+    subst (λ bytes. IsSpelled (32 ∷ 123 ∷ bytes) (optional_row sig_row (marks_written (first ∷ others)) symbols)) (sym apart)
     (space-spelled (sign-spelled kind.OpenBrace (123 ∷ []) _ _ (refl, refl) (known.closed kind.OpenBrace (123 ∷ []) _ refl refl)
     (braces-spelled known first others behind symbols fit spelled)))
 
 -- a label between brackets, and a space
-pub label_part-spelled : Known → (it : Option LabelTree) (behind : List ℕ) (symbols : List Symbol) → IfSome it NumbersFit
-    → IsSpelled behind symbols → IsSpelled (label_part it ++ behind) (optional label_row (option_map label_written it) symbols)
+pub label_part-spelled : Known → (it : Option LabelTree) (behind : List ℕ) (symbols : List AutomatonSymbol) → IfSome it NumbersFit
+    → IsSpelled behind symbols → IsSpelled (label_part it ++ behind) (optional_row label_row (option_map label_written it) symbols)
 label_part-spelled known None behind symbols fit spelled = spelled
 label_part-spelled known (Some tree) behind symbols fit spelled =
     let closed : IsSpelled (93 ∷ 32 ∷ behind) (sign kind.CloseBracket ∷ symbols) =

@@ -5,7 +5,7 @@ use Rattle.std.proofs.lemmas.List.Sums.{AllPass-from_list_all}
 use Rattle.std.proofs.Math.Seq.{drop-append_seam}
 use Rattle.omega_text.specs.Bytes.{is_digit, is_white, is_word_byte}
 use Rattle.omega_text.specs.Cut.{Cuts, CutsJoin}
-use Rattle.omega_text.specs.Forms.{IsWord}
+use Rattle.omega_text.specs.Forms.{IsWord, between_quotes}
 use Rattle.omega_text.specs.Lexeme.{Lexeme, lexeme_at}
 use Rattle.omega_text.specs.Limits.{most_number}
 use Rattle.omega_text.specs.declared.hoa.kind.HoaKind.{HoaKind}
@@ -19,8 +19,8 @@ use Rattle.omega_text.specs.hoa.Laws.{ClosedAreLongest, NumbersAreLongest, Numbe
 use Rattle.omega_acc.specs.Writing.{truth_text}
 use Rattle.omega_acc.specs.WritingLaws.{AccTextsAreFormulas, LabelTextsAreLabels, StandsApart, WrittenFormulasMean, WrittenLabelsMean}
 use Rattle.omega_raw.specs.Grammar.{boolean_row}
-use Rattle.omega_raw.specs.Symbols.{Begins, Spells, Symbol, Tokens, between_quotes, header, number, sign, text, without_last, word}
-use Rattle.omega_canon.specs.Parts.{quoted}
+use Rattle.omega_raw.specs.Symbols.{ReadsSymbol, ReadsSymbols, AutomatonSymbol, Tokens, header, number, sign, text, without_last, word}
+use Rattle.omega_canon.specs.Parts.{quoted_string}
 
 -- what is known of the tokens of every text, and of the texts of expressions
 pub record Known : Type 0 where
@@ -35,15 +35,15 @@ pub record Known : Type 0 where
   pub formula_means : WrittenFormulasMean
 
 -- from a place on a text is the tokens of these symbols, and nothing more
-pub record Stands (source : List ℕ) (from : ℕ) (symbols : List Symbol) : Type 0 where
+pub record Stands (source : List ℕ) (from : ℕ) (symbols : List AutomatonSymbol) : Type 0 where
   pub tokens : Tokens
   pub end : ℕ
   pub cuts : Cuts hoa_format source from tokens end
   pub rest : Ends source end
-  pub spells : Spells tokens symbols []
+  pub spells : ReadsSymbols tokens symbols []
 
 -- wherever these bytes are the end of a text, they are the tokens of these symbols
-pub record IsSpelled (bytes : List ℕ) (symbols : List Symbol) : Type 0 where
+pub record IsSpelled (bytes : List ℕ) (symbols : List AutomatonSymbol) : Type 0 where
   pub there : (source : List ℕ) (from : ℕ) → from ≤ length source → drop from source ≡ bytes → Stands source from symbols
 
 -- no bytes are no symbols
@@ -87,8 +87,8 @@ follows-white source bytes from byte lexeme white is follows =
       end = follows.end;
     }
 
-stands-white : (source bytes : List ℕ) (from byte end : ℕ) (tokens : Tokens) (symbols : List Symbol) → is_white byte ≡ true → from ≤ length source
-    → drop from source ≡ byte ∷ bytes → Cuts hoa_format source (from + 1) tokens end → Ends source end → Spells tokens symbols [] → Stands source from symbols
+stands-white : (source bytes : List ℕ) (from byte end : ℕ) (tokens : Tokens) (symbols : List AutomatonSymbol) → is_white byte ≡ true → from ≤ length source
+    → drop from source ≡ byte ∷ bytes → Cuts hoa_format source (from + 1) tokens end → Ends source end → ReadsSymbols tokens symbols [] → Stands source from symbols
 stands-white source bytes from byte end [] symbols white within is cuts rest spells =
     let passed : IsGap (drop (from + 1) source) = subst (λ place. IsGap (drop place source)) (sym cuts) rest.passed in
     let behind : drop (from + 1) source ≡ bytes = drop-first source (byte ∷ []) bytes from is in
@@ -111,7 +111,7 @@ stands-white source bytes from byte end (lexeme ∷ tokens) symbols white within
 }
 
 -- a white byte before bytes changes nothing
-white-spelled : (byte : ℕ) → is_white byte ≡ true → {bytes : List ℕ} {symbols : List Symbol} → IsSpelled bytes symbols → IsSpelled (byte ∷ bytes) symbols
+white-spelled : (byte : ℕ) → is_white byte ≡ true → {bytes : List ℕ} {symbols : List AutomatonSymbol} → IsSpelled bytes symbols → IsSpelled (byte ∷ bytes) symbols
 white-spelled byte white {bytes} {symbols} spelled = record {
   there = λ source from within is.
       let next = spelled.there source (from + 1) (first-within source (byte ∷ []) bytes from within is) (drop-first source (byte ∷ []) bytes from is) in
@@ -119,19 +119,19 @@ white-spelled byte white {bytes} {symbols} spelled = record {
 }
 
 -- a space
-pub space-spelled : {bytes : List ℕ} {symbols : List Symbol} → IsSpelled bytes symbols → IsSpelled (32 ∷ bytes) symbols
+pub space-spelled : {bytes : List ℕ} {symbols : List AutomatonSymbol} → IsSpelled bytes symbols → IsSpelled (32 ∷ bytes) symbols
 space-spelled spelled = white-spelled 32 refl spelled
 
 -- a line feed
-pub line-spelled : {bytes : List ℕ} {symbols : List Symbol} → IsSpelled bytes symbols → IsSpelled (10 ∷ bytes) symbols
+pub line-spelled : {bytes : List ℕ} {symbols : List AutomatonSymbol} → IsSpelled bytes symbols → IsSpelled (10 ∷ bytes) symbols
 line-spelled spelled = white-spelled 10 refl spelled
 
 -- ---- tokens
 
 -- a token before bytes
-token-spelled : (symbol : Symbol) (sort : HoaKind) (value : ℕ) (bytes behind : List ℕ) (others : List Symbol)
+token-spelled : (symbol : AutomatonSymbol) (sort : HoaKind) (value : ℕ) (bytes behind : List ℕ) (others : List AutomatonSymbol)
     → forms.Spells sort value bytes → IsLongest bytes behind
-    → ((lexeme : Lexeme HoaKind) (rest : Tokens) → lexeme.kind ≡ sort → lexeme.value ≡ value → lexeme.text ≡ bytes → Begins symbol (lexeme ∷ rest) rest)
+    → ((lexeme : Lexeme HoaKind) (rest : Tokens) → lexeme.kind ≡ sort → lexeme.value ≡ value → lexeme.text ≡ bytes → ReadsSymbol symbol (lexeme ∷ rest) rest)
     → IsSpelled behind others → IsSpelled (bytes ++ behind) (symbol ∷ others)
 token-spelled symbol sort value bytes behind others spells longest begins spelled = record {
   there = λ source from within is.
@@ -158,7 +158,7 @@ no-digit : (byte : ℕ) → is_word_byte byte ≡ false → is_digit byte ≡ fa
 no-digit byte is = or-left (is_digit byte) _ (or-left _ _ (or-left _ (byte == 95) (or-left _ (byte == 45) is)))
 
 -- a number
-pub number-spelled : Known → (n : ℕ) (behind : List ℕ) (others : List Symbol) → n ≤ most_number → StandsApart behind
+pub number-spelled : Known → (n : ℕ) (behind : List ℕ) (others : List AutomatonSymbol) → n ≤ most_number → StandsApart behind
     → IsSpelled behind others → IsSpelled (decimal n ++ behind) (number n ∷ others)
 number-spelled known n behind others fits apart spelled =
     token-spelled (number n) kind.Int n (decimal n) behind others (fits, refl)
@@ -167,7 +167,7 @@ number-spelled known n behind others fits apart spelled =
     spelled
 
 -- an identifier
-pub word-spelled : Known → (bytes behind : List ℕ) (others : List Symbol) → IsForm kind.Identifier bytes → StandsApart behind
+pub word-spelled : Known → (bytes behind : List ℕ) (others : List AutomatonSymbol) → IsForm kind.Identifier bytes → StandsApart behind
     → IsSpelled behind others → IsSpelled (bytes ++ behind) (word bytes ∷ others)
 word-spelled known bytes behind others form apart spelled =
     token-spelled (word bytes) kind.Identifier 0 bytes behind others (refl, form) (known.words bytes behind form.0 apart.ends apart.closes)
@@ -175,7 +175,7 @@ word-spelled known bytes behind others form apart spelled =
     spelled
 
 -- the name of a header, and the colon behind it
-pub header-spelled : Known → (name behind : List ℕ) (others : List Symbol) → IsWord name
+pub header-spelled : Known → (name behind : List ℕ) (others : List AutomatonSymbol) → IsWord name
     → IsSpelled behind others → IsSpelled (name ++ 58 ∷ behind) (header name ∷ others)
 header-spelled known name behind others is spelled =
     let form : IsForm kind.HeaderName (name ++ 58 ∷ []) = (name, refl, is) in
@@ -186,8 +186,8 @@ header-spelled known name behind others is spelled =
     spelled)
 
 -- a string
-pub string-spelled : Known → (bytes behind : List ℕ) (others : List Symbol) → IsQuotable bytes
-    → IsSpelled behind others → IsSpelled (quoted bytes ++ behind) (text bytes ∷ others)
+pub string-spelled : Known → (bytes behind : List ℕ) (others : List AutomatonSymbol) → IsQuotable bytes
+    → IsSpelled behind others → IsSpelled (quoted_string bytes ++ behind) (text bytes ∷ others)
 string-spelled known bytes behind others is spelled =
     let form : IsForm kind.String (34 ∷ (bytes ++ 34 ∷ [])) = (bytes, refl, is) in
     let bare : between_quotes (34 ∷ (bytes ++ 34 ∷ [])) ≡ bytes = take_at bytes (34 ∷ []) _ (omega (arith, length-append bytes (34 ∷ []))) in
@@ -196,7 +196,7 @@ string-spelled known bytes behind others is spelled =
     spelled
 
 -- a sign, a mark or a constant
-pub sign-spelled : (sort : HoaKind) (bytes behind : List ℕ) (others : List Symbol) → forms.Spells sort 0 bytes → IsLongest bytes behind
+pub sign-spelled : (sort : HoaKind) (bytes behind : List ℕ) (others : List AutomatonSymbol) → forms.Spells sort 0 bytes → IsLongest bytes behind
     → IsSpelled behind others → IsSpelled (bytes ++ behind) (sign sort ∷ others)
 sign-spelled sort bytes behind others spells longest spelled =
     token-spelled (sign sort) sort 0 bytes behind others spells longest
@@ -204,7 +204,7 @@ sign-spelled sort bytes behind others spells longest spelled =
     spelled
 
 -- `t` or `f`
-pub truth-spelled : Known → (is : Bool) (behind : List ℕ) (others : List Symbol) → StandsApart behind
+pub truth-spelled : Known → (is : Bool) (behind : List ℕ) (others : List AutomatonSymbol) → StandsApart behind
     → IsSpelled behind others → IsSpelled (truth_text is ++ behind) (boolean_row is others)
 truth-spelled known true behind others apart spelled =
     sign-spelled kind.True (codes "t") behind others (refl, refl)

@@ -4,7 +4,7 @@ use Rattle.std.specs.List.{AllByRecursion, flat_map}
 use Rattle.std.proofs.lemmas.List.Sums.{AllPass-from_list_all}
 use Rattle.omega_text.specs.Bytes.{is_word_byte}
 use Rattle.omega_raw.specs.Grammar.{edge_row, each, state_row}
-use Rattle.omega_raw.specs.Symbols.{Symbol}
+use Rattle.omega_raw.specs.Symbols.{AutomatonSymbol}
 use Rattle.omega_automaton.specs.declared.edge.Edge.{Edge}
 use Rattle.omega_automaton.specs.declared.state.State.{State}
 use Rattle.omega_canon.specs.BodyText.{edge_line, state_text}
@@ -16,7 +16,7 @@ use Rattle.omega_canon.proofs.texts.Pieces.{apart-line, apart-marks, apart-strin
 use Rattle.omega_canon.proofs.texts.Spelled.{IsSpelled, Known, header-spelled, line-spelled, number-spelled, space-spelled}
 
 -- an edge
-edge-spelled : Known → (edge : Edge) (behind : List ℕ) (symbols : List Symbol) → IsWritableEdge edge
+edge-spelled : Known → (edge : Edge) (behind : List ℕ) (symbols : List AutomatonSymbol) → IsWritableEdge edge
     → IsSpelled behind symbols → IsSpelled (edge_line edge ++ behind) (edge_row (edge_written edge) symbols)
 edge-spelled known edge behind symbols is spelled =
     let apart : (label_part edge.label ++ (conjunction edge.targets ++ (marks_part edge.marks ++ 10 ∷ []))) ++ behind
@@ -27,7 +27,7 @@ edge-spelled known edge behind symbols is spelled =
     (marks-spelled known edge.marks (10 ∷ behind) symbols is.marks (line-spelled spelled))))
 
 -- edges
-edges-spelled : Known → (edges : List Edge) (behind : List ℕ) (symbols : List Symbol) → AllByRecursion IsWritableEdge edges
+edges-spelled : Known → (edges : List Edge) (behind : List ℕ) (symbols : List AutomatonSymbol) → AllByRecursion IsWritableEdge edges
     → IsSpelled behind symbols → IsSpelled (flat_map edge_line edges ++ behind) (each edge_row (map edge_written edges) symbols)
 edges-spelled known edges behind symbols all spelled =
     subst (IsSpelled (flat_map edge_line edges ++ behind)) (sym (each-map edge_row edge_written edges symbols))
@@ -35,7 +35,7 @@ edges-spelled known edges behind symbols all spelled =
     (λ it rest others is may then. edge-spelled known it rest others is then) edges behind symbols all tt spelled)
 
 -- a state and its edges
-state-spelled : Known → (state : State) (behind : List ℕ) (symbols : List Symbol) → IsWritableState state
+state-spelled : Known → (state : State) (behind : List ℕ) (symbols : List AutomatonSymbol) → IsWritableState state
     → IsSpelled behind symbols → IsSpelled (state_text state ++ behind) (state_row (state_written state) symbols)
 state-spelled known state behind symbols is spelled =
     let edges = flat_map edge_line state.edges ++ behind in
@@ -50,7 +50,7 @@ state-spelled known state behind symbols is spelled =
     (line-spelled (edges-spelled known state.edges behind symbols is.edges spelled))))))))
 
 -- the states that are defined
-pub states-spelled : Known → (states : List State) (behind : List ℕ) (symbols : List Symbol) → AllByRecursion IsWritableState states
+pub states-spelled : Known → (states : List State) (behind : List ℕ) (symbols : List AutomatonSymbol) → AllByRecursion IsWritableState states
     → IsSpelled behind symbols → IsSpelled (flat_map state_text states ++ behind) (each state_row (map state_written states) symbols)
 states-spelled known states behind symbols all spelled =
     subst (IsSpelled (flat_map state_text states ++ behind)) (sym (each-map state_row state_written states symbols))

@@ -9,7 +9,7 @@ use Rattle.omega_acc.specs.formula.Acceptance as acc
 use Rattle.omega_acc.specs.label.Expanding.{Defined}
 use Rattle.omega_acc.specs.label.Label.{LabelTree, conjunction, constant, disjunction, negation, proposition, propositions}
 use Rattle.omega_acc.specs.WritingLaws.{NumbersFit, SetsFit}
-use Rattle.omega_raw.specs.Grammar.{IsItem}
+use Rattle.omega_raw.specs.Grammar.{IsRawItem}
 use Rattle.omega_raw.specs.declared.raw_automaton.RawAutomaton.{RawAutomaton}
 use Rattle.omega_raw.specs.declared.raw_item.RawItem.{RawItem}
 use Rattle.omega_raw.specs.declared.raw_item.RawItem.TheVariants as item
@@ -21,7 +21,7 @@ use Rattle.omega_automaton.specs.Items.{Accepted, Named, acc_name_in, acceptance
 use Rattle.omega_automaton.specs.Meaning.{IsStateOf, Means}
 use Rattle.omega_automaton.specs.declared.edge.Edge.{Edge}
 use Rattle.omega_automaton.specs.declared.state.State.{State}
-use Rattle.omega_canon.specs.Writable.{AreJoined, Fits, IsIdentifier, IsWritable, IsWritableEdge, IsWritableHeader, IsWritableName, IsWritableState, IsWritableTool}
+use Rattle.omega_canon.specs.Writable.{AreJoined, IsWritableNumber, IsIdentifier, IsWritableAutomaton, IsWritableEdge, IsWritableHeader, IsWritableName, IsWritableState, IsWritableTool}
 use Rattle.omega_canon.proofs.texts.Lists.{all-append, all-then}
 use Rattle.omega_canon.proofs.values.Rows.{IsReadAutomaton, IsReadItem, IsReadState}
 
@@ -65,7 +65,7 @@ first-kept Such (it ∷ items) all = all.0
 
 -- what an item keeps that was read
 abbrev pub IsKeptItem : RawItem → Type 0
-IsKeptItem it = IsReadItem it × IsItem it
+IsKeptItem it = IsReadItem it × IsRawItem it
 
 tool-kept : (it : RawItem) → IsKeptItem it → IfSome (tool_in it) IsWritableTool
 tool-kept (item.Tool first second) is = record { name = is.0.0; version = is.0.1 }
@@ -75,7 +75,7 @@ name-kept : (it : RawItem) → IsKeptItem it → IfSome (name_in it) IsQuotable
 name-kept (item.Name bytes) is = is.0
 name-kept other is = tt
 
-states-kept : (it : RawItem) → IsKeptItem it → IfSome (states_in it) Fits
+states-kept : (it : RawItem) → IsKeptItem it → IfSome (states_in it) IsWritableNumber
 states-kept (item.States count) is = is.0
 states-kept other is = tt
 
@@ -91,7 +91,7 @@ acc_name-kept : (it : RawItem) → IsKeptItem it → IfSome (acc_name_in it) IsW
 acc_name-kept (item.AccName name) is = is.0
 acc_name-kept other is = tt
 
-acceptance-kept : (it : RawItem) → IsKeptItem it → IfSome (acceptance_in it) (λ accepted. Fits accepted.count)
+acceptance-kept : (it : RawItem) → IsKeptItem it → IfSome (acceptance_in it) (λ accepted. IsWritableNumber accepted.count)
 acceptance-kept (item.Acceptance count tree) is = is.0.0
 acceptance-kept other is = tt
 
@@ -107,21 +107,21 @@ names-kept : (it : Option Named) → IfSome it (λ named. AllByRecursion IsQuota
 names-kept None is = tt
 names-kept (Some named) is = is
 
-count-kept : (it : Option Accepted) → IfSome it (λ accepted. Fits accepted.count) → Fits (unwrap_or (option_map (λ accepted. accepted.count) it) 0)
+count-kept : (it : Option Accepted) → IfSome it (λ accepted. IsWritableNumber accepted.count) → IsWritableNumber (unwrap_or (option_map (λ accepted. accepted.count) it) 0)
 count-kept None is = omega arith
 count-kept (Some accepted) is = is
 
-mentioned-fits : (raw : RawAutomaton) → Fits (mentioned_count raw)
+mentioned-fits : (raw : RawAutomaton) → IsWritableNumber (mentioned_count raw)
 unfolding mentioned_count
 mentioned-fits raw = omega arith
 
-stated-kept : (raw : RawAutomaton) (it : Option ℕ) → IfSome it Fits → Fits (unwrap_or it (mentioned_count raw))
+stated-kept : (raw : RawAutomaton) (it : Option ℕ) → IfSome it IsWritableNumber → IsWritableNumber (unwrap_or it (mentioned_count raw))
 stated-kept raw None is = mentioned-fits raw
 stated-kept raw (Some count) is = is
 
 -- ---- expressions
 
-sets-fit : (count : ℕ) (tree : AccTree) → Fits count → AllByRecursion (λ set. set < count) (sets_of tree) → SetsFit tree
+sets-fit : (count : ℕ) (tree : AccTree) → IsWritableNumber count → AllByRecursion (λ set. set < count) (sets_of tree) → SetsFit tree
 sets-fit count (acc.constant value) fits all = tt
 sets-fit count (acc.inf negated set) fits all = let below : set < count = all.0 in omega arith
 sets-fit count (acc.fin negated set) fits all = let below : set < count = all.0 in omega arith
@@ -130,7 +130,7 @@ sets-fit count (acc.conjunction left right) fits all =
 sets-fit count (acc.disjunction left right) fits all =
     (sets-fit count left fits (all-first (λ set. set < count) (sets_of left) (sets_of right) all), sets-fit count right fits (all-second (λ set. set < count) (sets_of left) (sets_of right) all))
 
-numbers-fit : (count : ℕ) (tree : LabelTree) → Fits count → AllByRecursion (λ number. number < count) (propositions tree) → NumbersFit tree
+numbers-fit : (count : ℕ) (tree : LabelTree) → IsWritableNumber count → AllByRecursion (λ number. number < count) (propositions tree) → NumbersFit tree
 numbers-fit count (constant value) fits all = tt
 numbers-fit count (proposition number) fits all = let below : number < count = all.0 in omega arith
 numbers-fit count (negation part) fits all = numbers-fit count part fits all
@@ -145,11 +145,11 @@ numbers-fit count (disjunction left right) fits all = (
 
 -- ---- states and edges
 
-below-fit : (count : ℕ) (numbers : List ℕ) → Fits count → automaton.AreBelow count numbers → AllByRecursion Fits numbers
+below-fit : (count : ℕ) (numbers : List ℕ) → IsWritableNumber count → automaton.AreBelow count numbers → AllByRecursion IsWritableNumber numbers
 below-fit count numbers fits below =
-    all-then (λ number. number < count) Fits (λ number is. omega arith) numbers (recursion_from_All (λ number. number < count) numbers below)
+    all-then (λ number. number < count) IsWritableNumber (λ number is. omega arith) numbers (recursion_from_All (λ number. number < count) numbers below)
 
-module _ (a : Description) (states : Fits a.states) (sets : Fits a.sets) (count : Fits (length a.propositions)) where
+module _ (a : Description) (states : IsWritableNumber a.states) (sets : IsWritableNumber a.sets) (count : IsWritableNumber (length a.propositions)) where
   label-kept : (it : Option LabelTree) → IfSome it (automaton.IsLabel a) → IfSome it NumbersFit
   label-kept None is = tt
   label-kept (Some tree) is = numbers-fit (length a.propositions) tree count (recursion_from_All (λ number. number < length a.propositions) (propositions tree) is.below)
@@ -179,16 +179,16 @@ module _ (a : Description) (states : Fits a.states) (sets : Fits a.sets) (count 
       (state-kept state (subst (λ it. IfSome it IsQuotable) (sym zip.0.name) read.0.name) all.0, defined-kept definitions raws states zip.1 read.1 all.1)
 
 -- an automaton that is meant by one that was read can be written
-pub means-writable : (raw : RawAutomaton) (a : Description) → IsReadAutomaton raw → AllByRecursion IsItem raw.items → Means raw a → IsAutomaton a → IsWritable a
+pub means-writable : (raw : RawAutomaton) (a : Description) → IsReadAutomaton raw → AllByRecursion IsRawItem raw.items → Means raw a → IsAutomaton a → IsWritableAutomaton a
 means-writable raw a read are means is =
-    let items : AllByRecursion IsKeptItem raw.items = all-both IsReadItem IsItem raw.items read.items are in
-    let states : Fits a.states = subst Fits (sym means.states)
-    (stated-kept raw (first_said states_in raw.items) (first-kept Fits _ (filtered states_in IsKeptItem Fits states-kept raw.items items))) in
-    let sets : Fits a.sets = subst Fits (sym means.sets)
+    let items : AllByRecursion IsKeptItem raw.items = all-both IsReadItem IsRawItem raw.items read.items are in
+    let states : IsWritableNumber a.states = subst IsWritableNumber (sym means.states)
+    (stated-kept raw (first_said states_in raw.items) (first-kept IsWritableNumber _ (filtered states_in IsKeptItem IsWritableNumber states-kept raw.items items))) in
+    let sets : IsWritableNumber a.sets = subst IsWritableNumber (sym means.sets)
     (count-kept (first_said acceptance_in raw.items)
-    (first-kept (λ accepted. Fits accepted.count) _ (filtered acceptance_in IsKeptItem (λ accepted. Fits accepted.count) acceptance-kept raw.items items))) in
+    (first-kept (λ accepted. IsWritableNumber accepted.count) _ (filtered acceptance_in IsKeptItem (λ accepted. IsWritableNumber accepted.count) acceptance-kept raw.items items))) in
     let few : length a.propositions ≤ 1024 = is.few_propositions in
-    let count : Fits (length a.propositions) = omega arith in
+    let count : IsWritableNumber (length a.propositions) = omega arith in
     record {
       tool = subst (λ it. IfSome it IsWritableTool) (sym means.tool) (first-kept IsWritableTool _ (filtered tool_in IsKeptItem IsWritableTool tool-kept raw.items items));
       name = subst (λ it. IfSome it IsQuotable) (sym means.name) (first-kept IsQuotable _ (filtered name_in IsKeptItem IsQuotable name-kept raw.items items));

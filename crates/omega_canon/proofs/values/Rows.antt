@@ -9,28 +9,28 @@ use Rattle.omega_acc.specs.label.Raw.{RawLabelTree}
 use Rattle.omega_acc.specs.label.Reading.{IsOf}
 use Rattle.omega_acc.specs.Symbols.{disjunctive}
 use Rattle.omega_acc.specs.declared.formula.name.Parameter.TheVariants as parameter
-use Rattle.omega_raw.specs.Grammar.{boolean_row, conj_row, each, edge_row, int_row, item_row, joined_row, label_row, optional, parameter_row, sig_row, spelled, state_row, string_row, value_row, word_row}
-use Rattle.omega_raw.specs.Symbols.{Symbol}
+use Rattle.omega_raw.specs.Grammar.{boolean_row, conj_row, each, edge_row, int_row, item_row, joined_row, label_row, optional_row, parameter_row, sig_row, automaton_symbols, state_row, string_row, value_row, word_row}
+use Rattle.omega_raw.specs.Symbols.{AutomatonSymbol}
 use Rattle.omega_raw.specs.declared.header_value.HeaderValue.TheVariants as value
 use Rattle.omega_raw.specs.declared.raw_automaton.RawAutomaton.{RawAutomaton}
 use Rattle.omega_raw.specs.declared.raw_edge.RawEdge.{RawEdge}
 use Rattle.omega_raw.specs.declared.raw_item.RawItem.{RawItem}
 use Rattle.omega_raw.specs.declared.raw_item.RawItem.TheVariants as item
 use Rattle.omega_raw.specs.declared.raw_state.RawState.{RawState}
-use Rattle.omega_canon.specs.Writable.{Fits, IsIdentifier, IsWritableName, IsWritableParameter, IsWritableValue}
+use Rattle.omega_canon.specs.Writable.{IsWritableNumber, IsIdentifier, IsWritableName, IsWritableParameter, IsWritableValue}
 use Rattle.omega_canon.proofs.values.Symbols.{IsSaid}
 
 -- what the symbols say
-abbrev pub AreSaid : List Symbol → Type 0
+abbrev pub AreSaid : List AutomatonSymbol → Type 0
 AreSaid symbols = AllByRecursion IsSaid symbols
 
 -- what an item keeps that was read
 abbrev pub IsReadItem : RawItem → Type 0
-IsReadItem (item.States count) = Fits count
-IsReadItem (item.Start states) = AllByRecursion Fits states
+IsReadItem (item.States count) = IsWritableNumber count
+IsReadItem (item.Start states) = AllByRecursion IsWritableNumber states
 IsReadItem (item.Propositions count names) = AllByRecursion IsQuotable names
 IsReadItem (item.Alias name definition) = IsOf disjunctive definition
-IsReadItem (item.Acceptance count tree) = Fits count × IsAccOf disjunctive tree
+IsReadItem (item.Acceptance count tree) = IsWritableNumber count × IsAccOf disjunctive tree
 IsReadItem (item.AccName name) = IsWritableName name
 IsReadItem (item.Tool first second) = IsQuotable first × IfSome second IsQuotable
 IsReadItem (item.Name bytes) = IsQuotable bytes
@@ -52,21 +52,21 @@ pub record IsReadState (state : RawState) : Type 0 where
   pub edges : AllByRecursion IsReadEdge state.edges
 
 -- a row says this of its value, and the rest of the symbols what they say
-abbrev Says : {X : Type 0} → (X → List Symbol → List Symbol) → (X → Type 0) → Type 0
-Says {X} row Is = (it : X) (others : List Symbol) → AreSaid (row it others) → Is it × AreSaid others
+abbrev Says : {X : Type 0} → (X → List AutomatonSymbol → List AutomatonSymbol) → (X → Type 0) → Type 0
+Says {X} row Is = (it : X) (others : List AutomatonSymbol) → AreSaid (row it others) → Is it × AreSaid others
 
-each-says : {X : Type 0} (row : X → List Symbol → List Symbol) (Is : X → Type 0) → Says row Is → Says (each row) (AllByRecursion Is)
+each-says : {X : Type 0} (row : X → List AutomatonSymbol → List AutomatonSymbol) (Is : X → Type 0) → Says row Is → Says (each row) (AllByRecursion Is)
 each-says row Is says [] others are = (tt, are)
 each-says row Is says (first ∷ more) others are =
     let here = says first (each row more others) are in
     let behind = each-says row Is says more others here.1 in
     ((here.0, behind.0), behind.1)
 
-optional-says : {X : Type 0} (row : X → List Symbol → List Symbol) (Is : X → Type 0) → Says row Is → Says (optional row) (λ it. IfSome it Is)
+optional-says : {X : Type 0} (row : X → List AutomatonSymbol → List AutomatonSymbol) (Is : X → Type 0) → Says row Is → Says (optional_row row) (λ it. IfSome it Is)
 optional-says row Is says None others are = (tt, are)
 optional-says row Is says (Some it) others are = says it others are
 
-int-says : Says int_row Fits
+int-says : Says int_row IsWritableNumber
 int-says it others are = are
 
 string-says : Says string_row IsQuotable
@@ -75,7 +75,7 @@ string-says it others are = are
 word-says : Says word_row IsIdentifier
 word-says it others are = are
 
-joined-says : Says joined_row Fits
+joined-says : Says joined_row IsWritableNumber
 joined-says it others are = are.1
 
 boolean-says : Says boolean_row (λ it. Unit {0})
@@ -93,18 +93,18 @@ value-says (value.Number number) others are = are
 value-says (value.Text bytes) others are = are
 value-says (value.Word bytes) others are = are
 
-conj-says : Says conj_row (AllByRecursion Fits)
+conj-says : Says conj_row (AllByRecursion IsWritableNumber)
 conj-says [] others are = (tt, are)
 conj-says (first ∷ more) others are =
-    let behind = each-says joined_row Fits joined-says more others are.1 in
+    let behind = each-says joined_row IsWritableNumber joined-says more others are.1 in
     ((are.0, behind.0), behind.1)
 
 label-says : Says label_row IsReadLabel
 label-says tree others are = (are.1.0, are.1.1.1)
 
-sig-says : Says sig_row (AllByRecursion Fits)
+sig-says : Says sig_row (AllByRecursion IsWritableNumber)
 sig-says marks others are =
-    let inside = each-says int_row Fits int-says marks _ are.1 in
+    let inside = each-says int_row IsWritableNumber int-says marks _ are.1 in
     (inside.0, inside.1.1)
 
 item-says : Says item_row IsReadItem
@@ -129,14 +129,14 @@ edge-says : Says edge_row IsReadEdge
 edge-says edge others are =
     let guard = optional-says label_row IsReadLabel label-says edge.label _ are in
     let targets = conj-says edge.targets _ guard.1 in
-    let marks = optional-says sig_row (AllByRecursion Fits) sig-says edge.marks others targets.1 in
+    let marks = optional-says sig_row (AllByRecursion IsWritableNumber) sig-says edge.marks others targets.1 in
     (record { label = guard.0 }, marks.1)
 
 state-says : Says state_row IsReadState
 state-says state others are =
     let guard = optional-says label_row IsReadLabel label-says state.label _ are.1 in
     let called = optional-says string_row IsQuotable string-says state.name _ guard.1.1 in
-    let marks = optional-says sig_row (AllByRecursion Fits) sig-says state.marks _ called.1 in
+    let marks = optional-says sig_row (AllByRecursion IsWritableNumber) sig-says state.marks _ called.1 in
     let edges = each-says edge_row IsReadEdge edge-says state.edges others marks.1 in
     (record { label = guard.0; name = called.0; edges = edges.0 }, edges.1)
 
@@ -145,7 +145,7 @@ pub record IsReadAutomaton (raw : RawAutomaton) : Type 0 where
   pub items : AllByRecursion IsReadItem raw.items
   pub states : AllByRecursion IsReadState raw.states
 
-pub automaton-says : (raw : RawAutomaton) → AreSaid (spelled raw) → IsReadAutomaton raw
+pub automaton-says : (raw : RawAutomaton) → AreSaid (automaton_symbols raw) → IsReadAutomaton raw
 automaton-says raw are =
     let items = each-says item_row IsReadItem item-says raw.items _ are.1.1 in
     let states = each-says state_row IsReadState state-says raw.states _ items.1.1 in

@@ -2,7 +2,7 @@
 use Rattle.std.proofs.Common.{◌≡◌, ℕ, List, [], ◌∷◌, ◌++◌, length-append, ap, sym, ◌∙◌, subst, arith}
 use Rattle.std.specs.List.{AllByRecursion}
 use Rattle.std.proofs.lemmas.List.{take_at}
-use Rattle.omega_text.specs.Forms.{IsWord}
+use Rattle.omega_text.specs.Forms.{IsWord, between_quotes}
 use Rattle.omega_text.specs.Lexeme.{Lexeme}
 use Rattle.omega_text.specs.declared.hoa.kind.HoaKind.{HoaKind}
 use Rattle.omega_text.specs.declared.hoa.kind.HoaKind.TheVariants as kind
@@ -11,16 +11,16 @@ use Rattle.omega_text.specs.hoa.Forms as forms
 use Rattle.omega_acc.specs.formula.Reading.{IsAccOf}
 use Rattle.omega_acc.specs.label.Reading.{IsOf}
 use Rattle.omega_acc.specs.Symbols.{disjunctive}
-use Rattle.omega_raw.specs.Symbols.{IsNext, Shows, Spells, Symbol, Tokens, alias, between_quotes, formula, header, label, number, sign, text, without_last, word}
-use Rattle.omega_canon.specs.Writable.{Fits, IsIdentifier}
+use Rattle.omega_raw.specs.Symbols.{IsNext, Shows, ReadsSymbols, AutomatonSymbol, Tokens, alias, formula, header, label, number, sign, text, without_last, word}
+use Rattle.omega_canon.specs.Writable.{IsWritableNumber, IsIdentifier}
 
 -- the token has the form of its kind and value
 abbrev pub IsFormed : Lexeme HoaKind → Type 0
 IsFormed lexeme = forms.Spells lexeme.kind lexeme.value lexeme.text
 
 -- what a symbol says that tokens can show
-abbrev pub IsSaid : Symbol → Type 0
-IsSaid (number n) = Fits n
+abbrev pub IsSaid : AutomatonSymbol → Type 0
+IsSaid (number n) = IsWritableNumber n
 IsSaid (word bytes) = IsIdentifier bytes
 IsSaid (header bytes) = IsWord bytes
 IsSaid (alias bytes) = Unit {0}
@@ -47,8 +47,8 @@ text-said bytes inside is form =
 formed-as : (lexeme : Lexeme HoaKind) (sort : HoaKind) → lexeme.kind ≡ sort → IsFormed lexeme → forms.Spells sort lexeme.value lexeme.text
 formed-as lexeme sort is formed = subst (λ other. forms.Spells other lexeme.value lexeme.text) is formed
 
-number-shown : (n : ℕ) (lexeme : Lexeme HoaKind) → Shows (number n) lexeme → IsFormed lexeme → Fits n
-number-shown n lexeme shows formed = subst Fits shows.1 (formed-as lexeme kind.Int shows.0 formed).0
+number-shown : (n : ℕ) (lexeme : Lexeme HoaKind) → Shows (number n) lexeme → IsFormed lexeme → IsWritableNumber n
+number-shown n lexeme shows formed = subst IsWritableNumber shows.1 (formed-as lexeme kind.Int shows.0 formed).0
 
 word-shown : (bytes : List ℕ) (lexeme : Lexeme HoaKind) → Shows (word bytes) lexeme → IsFormed lexeme → IsIdentifier bytes
 word-shown bytes lexeme shows formed = subst IsIdentifier shows.1 (formed-as lexeme kind.Identifier shows.0 formed).1
@@ -60,7 +60,7 @@ text-shown : (bytes : List ℕ) (lexeme : Lexeme HoaKind) → Shows (text bytes)
 text-shown bytes lexeme shows formed = text-said lexeme.text bytes shows.1 (formed-as lexeme kind.String shows.0 formed).1
 
 -- what holds of the next token and of those behind it
-next-formed : (symbol : Symbol) (tokens middle : Tokens) → AllByRecursion IsFormed tokens → (next : IsNext symbol tokens middle)
+next-formed : (symbol : AutomatonSymbol) (tokens middle : Tokens) → AllByRecursion IsFormed tokens → (next : IsNext symbol tokens middle)
     → IsFormed next.lexeme × AllByRecursion IsFormed middle
 next-formed symbol tokens middle all next = subst (AllByRecursion IsFormed) next.next all
 
@@ -70,7 +70,7 @@ all-behind [] behind all = all
 all-behind (lexeme ∷ front) behind all = all-behind front behind all.1
 
 -- the symbols of formed tokens can be shown by tokens
-pub said : (symbols : List Symbol) (tokens rest : Tokens) → AllByRecursion IsFormed tokens → Spells tokens symbols rest → AllByRecursion IsSaid symbols
+pub said : (symbols : List AutomatonSymbol) (tokens rest : Tokens) → AllByRecursion IsFormed tokens → ReadsSymbols tokens symbols rest → AllByRecursion IsSaid symbols
 said [] tokens rest all spells = tt
 said (number n ∷ others) tokens rest all spells =
     let formed = next-formed (number n) tokens spells.middle all spells.front in

@@ -11,7 +11,7 @@ use Rattle.omega_automaton.specs.declared.edge.Edge.{Edge}
 use Rattle.omega_automaton.specs.declared.state.State.{State}
 use Rattle.omega_game.proofs.building.Duplicates.{no_duplicate}
 use Rattle.omega_game.proofs.parts.PartGames.{memory_alone}
-use Rattle.omega_game.specs.Building.{IsBuildRefusal, fault_of, has_duplicate, has_undefined, listed_successors}
+use Rattle.omega_game.specs.Building.{IsBuildRefusal, game_fault_of, has_duplicate, has_undefined, listed_successors}
 use Rattle.omega_game.specs.Game.{Node}
 use Rattle.omega_game.specs.Limits.{most_nodes, most_successors}
 use Rattle.omega_game.specs.declared.node_spec.NodeSpec.{NodeSpec}
@@ -35,7 +35,7 @@ body_edge a automaton plain edge has =
     (is_edge.targets.below, single_target a plain from.place edge.source edge.edge from.below from.here from.contained)
 
 pub table_faultless : (kind : AccKind) (a : Description) (usable : List Bool) (specs : List NodeSpec) → specs ≡ table kind a usable
-    → IsAutomaton a → has_branch a ≡ false → counters kind * span a + 1 ≤ most_nodes → fault_of specs ≡ None
+    → IsAutomaton a → has_branch a ≡ false → counters kind * span a + 1 ≤ most_nodes → game_fault_of specs ≡ None
 table_faultless kind a usable specs is automaton plain fits =
     let all : List NodeSpec = table kind a usable in
     let edges = All-contains_itself (edges_of a) in
@@ -47,8 +47,8 @@ table_faultless kind a usable specs is automaton plain fits =
     let undefined : has_undefined all ≡ false = table_defined kind a usable below in
     let few : ltb most_nodes (length all) ≡ false = le-ltb most_nodes (length all) (omega (arith, rising_length 0 (counters kind * span a + 1) all (table_rises kind a usable))) in
     let short : ltb most_successors (listed_successors all) ≡ false = le-ltb most_successors (listed_successors all) (omega (arith, table_listed kind a usable single)) in
-    ap fault_of is ∙ rw (duplicate, undefined, few, short) refl
+    ap game_fault_of is ∙ rw (duplicate, undefined, few, short) refl
 
-pub memory_refused : (r : Result (List Node) Refusal) (specs : List NodeSpec) → fault_of specs ≡ None → IfErr r (IsBuildRefusal specs) → IsOkUnless r Memory
+pub memory_refused : (r : Result (List Node) Refusal) (specs : List NodeSpec) → game_fault_of specs ≡ None → IfErr r (IsBuildRefusal specs) → IsOkUnless r Memory
 memory_refused (Ok game) specs none refused = tt
 memory_refused (Err refusal) specs none refused = memory_alone specs refusal none refused

@@ -12,7 +12,7 @@ use Rattle.omega_acc.specs.label.Satisfiable.{mentioned}
 use Rattle.omega_automaton.specs.Automaton.{BodyEdge, Description, edges_from}
 use Rattle.omega_automaton.specs.declared.edge.Edge.{Edge}
 use Rattle.omega_automaton.specs.declared.state.State.{State}
-use Rattle.omega_empty.specs.Refusing.{HasNarrowLabels, HasWideLabel, IsLabelOf}
+use Rattle.omega_empty.specs.Refusing.{HasNarrowLabels, HasWideLabel, IsLabelIn}
 use Rattle.omega_empty.specs.layout.Judging.{HasNarrow, HasWide, IsNarrow, IsWide}
 
 -- an edge that a state lists, as an edge of the body
@@ -82,7 +82,7 @@ narrow_labels a narrow label is_label = go is_label
     at : (o : Option LabelTree) → IsNarrow o → o ≡ Some label → length (mentioned label) ≤ most_mentioned
     at o is same = let P : Option LabelTree → Type 0 = λ x. IsNarrow x in subst P same is
 
-    go : IsLabelOf a label → length (mentioned label) ≤ most_mentioned
+    go : IsLabelIn a label → length (mentioned label) ≤ most_mentioned
     go (inl (state, contained, same)) =
         let P : State → Type 0 = λ s. HasNarrow s in
         let own : HasNarrow state = subst P contained.2 (narrow contained.0 contained.1 state) in

@@ -14,7 +14,7 @@ use Rattle.omega_automaton.specs.declared.state.State.{State}
 use Rattle.omega_game.specs.Limits.{most_nodes}
 use Rattle.omega_empty.specs.Counters.{counters}
 use Rattle.omega_empty.specs.EmptinessGame.{HasKind, has_branch, span, state_branches}
-use Rattle.omega_empty.specs.layout.Marks.{AreMarksOf, IsSmall}
+use Rattle.omega_empty.specs.layout.Marks.{AreMarksBelow, IsSmall}
 use Rattle.omega_empty.specs.layout.Ready.{IsPlainState}
 use Rattle.omega_empty.proofs.making.MarkLists.{count_shallow}
 
@@ -25,7 +25,7 @@ none_passes test (y ∷ ys) zero x none below here = ap test here ∙ (or_parts 
 none_passes test (y ∷ ys) (suc i) x none below here = none_passes test ys i x (or_parts (test y) (list_any test ys) none).1 (omega arith) here
 
 -- marks of the automaton are marks of its kind
-marks_of_kind : (a : Description) (kind : AccKind) (name : AccName) (marks : List ℕ) → IsAcceptanceRow name a.sets a.acceptance kind → AreBelow a.sets marks → AreMarksOf kind marks
+marks_of_kind : (a : Description) (kind : AccKind) (name : AccName) (marks : List ℕ) → IsAcceptanceRow name a.sets a.acceptance kind → AreBelow a.sets marks → AreMarksBelow kind marks
 marks_of_kind a (kinds.Parity kind) name marks row below =
     let P : ℕ → Type 0 = λ count. All (λ mark. mark < count) marks in subst P row.counted below
 marks_of_kind a (kinds.GenBuchi sets) name marks row below = tt

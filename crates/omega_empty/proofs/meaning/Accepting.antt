@@ -5,7 +5,7 @@ use Rattle.std.specs.Prelude.{slice_index_or}
 use Rattle.std.proofs.lemmas.List.{length-map}
 use Rattle.std.proofs.lemmas.List.Elements.{All-contains, All-head, All-map}
 use Rattle.omega_acc.specs.formula.Acceptance.{accepts}
-use Rattle.omega_acc.specs.formula.Kind.{greatest}
+use Rattle.omega_acc.specs.formula.Kind.{greatest_number}
 use Rattle.omega_acc.specs.formula.KindLaws.{BuchiIsEverySet, ParityIsPriority}
 use Rattle.omega_acc.specs.declared.formula.kind.AccKind.{AccKind}
 use Rattle.omega_acc.specs.declared.formula.kind.AccKind.TheVariants as kinds
@@ -83,7 +83,7 @@ module _ (a : Description) (game : List Node) (automaton : IsAutomaton a) (is : 
     module _ (parity : ParityIsPriority) (buchi : BuchiIsEverySet) (counter state : ℕ)
         (at : AtState is.kind a is.usable game automaton is.usable_are is.game_is v counter state) where
       accepted : (numbers : List ℕ) → 0 < length numbers → counter_behind is.kind counter (map (marks_at a) numbers) ≡ counter
-          → greatest (priorities_from is.kind counter (map (marks_at a) numbers)) % 2 ≡ 0 → IsTrue (accepts (map (marks_at a) numbers) a.acceptance)
+          → greatest_number (priorities_from is.kind counter (map (marks_at a) numbers)) % 2 ≡ 0 → IsTrue (accepts (map (marks_at a) numbers) a.acceptance)
       accepted numbers longer back even_is =
           let some : 0 < length (map (marks_at a) numbers) = omega (arith, longer, length-map numbers (marks_at a)) in
           let law = closed_accepts parity buchi is.kind counter (map (marks_at a) numbers) some (within a is.kind automaton is.kind_is numbers) at.counter_below back in

@@ -1,6 +1,6 @@
 -- Walks of an emptiness game from a state's node: edges of the automaton in order, unless they end in the sink.
 use Rattle.std.proofs.Common.{◌≡◌, ℕ, suc, ◌+◌, ◌<◌, ◌⊎◌, inl, inr, Bool, List, [], ◌∷◌, ◌++◌, length, map, max, Option, Some, sym, ap, refl, ◌∙◌, subst, arith}
-use Rattle.omega_acc.specs.formula.Kind.{greatest}
+use Rattle.omega_acc.specs.formula.Kind.{greatest_number}
 use Rattle.omega_acc.specs.declared.formula.kind.AccKind.{AccKind}
 use Rattle.omega_automaton.specs.Automaton.{BodyEdge, Description, IsAutomaton, edge_at}
 use Rattle.omega_game.specs.Building.{IsGameOf}
@@ -26,7 +26,7 @@ module _ (kind : AccKind) (a : Description) (usable : List Bool) (game : List No
     pub to : ℕ
     pub at_end : AtState kind a usable game automaton judged made (end_of v ws) (counter_behind kind counter (map (marks_at a) numbers)) to
     pub leads : Leads a state numbers to
-    pub greatest_is : greatest_on game v ws ≡ greatest (priorities_from kind counter (map (marks_at a) numbers))
+    pub greatest_is : greatest_on game v ws ≡ greatest_number (priorities_from kind counter (map (marks_at a) numbers))
     pub longer : 0 < length ws → 0 < length numbers
 
   -- a walk from a state's node ends at a state's, behind an odd number of steps at an edge's, or at the sink
@@ -63,9 +63,9 @@ module _ (kind : AccKind) (a : Description) (usable : List Bool) (game : List No
         let P : List ℕ → Type 0 = λ m. AtState kind a usable game automaton judged made (end_of u rest)
         (counter_behind kind (counter_after kind counter m) (map (marks_at a) read.numbers)) read.to in
         let Q : List ℕ → Type 0 = λ m. greatest_on game v (w ∷ u ∷ rest)
-        ≡ max (priority_at_counter kind counter m) (greatest (priorities_from kind (counter_after kind counter m) (map (marks_at a) read.numbers))) in
+        ≡ max (priority_at_counter kind counter m) (greatest_number (priorities_from kind (counter_after kind counter m) (map (marks_at a) read.numbers))) in
         let all : max (priority_at game v) (max (priority_at game w) (greatest_on game u rest))
-        ≡ max (priority_at_counter kind counter (marks_of edge)) (greatest (priorities_from kind (counter_after kind counter (marks_of edge)) (map (marks_at a) read.numbers))) =
+        ≡ max (priority_at_counter kind counter (marks_of edge)) (greatest_number (priorities_from kind (counter_after kind counter (marks_of edge)) (map (marks_at a) read.numbers))) =
         omega (arith, first, second, read.greatest_is) in
         record {
           numbers = number ∷ read.numbers;

@@ -10,7 +10,7 @@ use Rattle.std.proofs.lemmas.List.Kept.{AllPairs-from_increasing}
 use Rattle.std.proofs.lemmas.List.Sorted.{Contains-permutation, IsPermutation-sym}
 use Rattle.std.proofs.lemmas.List.{length-map}
 use Rattle.std.proofs.lemmas.Option.{slice_get_within}
-use Rattle.omega_acc.specs.formula.Kind.{greatest}
+use Rattle.omega_acc.specs.formula.Kind.{greatest_number}
 use Rattle.omega_acc.specs.declared.formula.kind.AccKind.{AccKind}
 use Rattle.omega_automaton.specs.Automaton.{AreBelow, BodyEdge, Description, IsAutomaton, IsEdge, IsState, edge_at, edge_count, edges_of}
 use Rattle.omega_automaton.specs.declared.edge.Edge.{Edge}
@@ -195,7 +195,7 @@ module _ (kind : AccKind) (a : Description) (usable : List Bool) (nodes : List N
     pub places : List ℕ
     pub walk : IsWalk nodes One choices v places
     pub stands : Stands (end_of v places) (counter_behind kind counter (map (marks_at a) numbers)) to
-    pub greatest_is : greatest_on nodes v places ≡ greatest (priorities_from kind counter (map (marks_at a) numbers))
+    pub greatest_is : greatest_on nodes v places ≡ greatest_number (priorities_from kind counter (map (marks_at a) numbers))
     pub longer : 0 < length numbers → 0 < length places
 
   unowned : (choices : List (Option ℕ)) (v w : ℕ) → owner_at nodes v ≡ Zero → HasEdge nodes v w → Leaves nodes One choices v w

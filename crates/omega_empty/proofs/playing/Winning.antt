@@ -7,7 +7,7 @@ use Rattle.std.proofs.lemmas.Bool.{eq-eqb}
 use Rattle.std.proofs.lemmas.List.{length-map, map-append}
 use Rattle.std.proofs.lemmas.List.Elements.{All-map}
 use Rattle.omega_acc.specs.formula.Acceptance.{accepts}
-use Rattle.omega_acc.specs.formula.Kind.{greatest}
+use Rattle.omega_acc.specs.formula.Kind.{greatest_number}
 use Rattle.omega_acc.specs.formula.KindLaws.{BuchiIsEverySet, ParityIsPriority}
 use Rattle.omega_acc.specs.declared.formula.kind.AccKind.{AccKind}
 use Rattle.omega_acc.specs.declared.formula.kind.AccKind.TheVariants as kinds
@@ -73,7 +73,7 @@ module _ (parity : ParityIsPriority) (buchi : BuchiIsEverySet) (a : Description)
       let longer : 0 < length round = laps_longer cycle m lasso.lasso.longer some in
       let accepted : accepts (map (marks_at a) round) (formula_of game.kind) ≡ true =
       ap (accepts (map (marks_at a) round)) (sym (formula_is a game.kind game.kind_is)) ∙ laps_accept (marks_at a) cycle m a.acceptance some ∙ lasso.accepted in
-      let even : greatest (priorities_from game.kind c (map (marks_at a) round)) % 2 ≡ 0 =
+      let even : greatest_number (priorities_from game.kind c (map (marks_at a) round)) % 2 ≡ 0 =
       (closed_accepts parity buchi game.kind c (map (marks_at a) round) (omega (arith, length-map round (marks_at a), longer)) (within a game.kind automaton game.kind_is round)
       there.stands.counter_below back).0 accepted in
       wins there.places around.places there.walk (record { walk = around.walk; longer = around.longer longer; closed = closed })

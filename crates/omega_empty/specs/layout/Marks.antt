@@ -5,9 +5,9 @@ use Rattle.omega_acc.specs.declared.formula.kind.AccKind.{AccKind}
 use Rattle.omega_acc.specs.declared.formula.kind.AccKind.TheVariants.{Parity, GenBuchi}
 
 -- marks for which a kind has a priority
-abbrev pub AreMarksOf : AccKind → List ℕ → Type 0
-AreMarksOf (Parity kind) marks = All (λ mark. mark < kind.count) marks
-AreMarksOf (GenBuchi sets) marks = Unit {0}
+abbrev pub AreMarksBelow : AccKind → List ℕ → Type 0
+AreMarksBelow (Parity kind) marks = All (λ mark. mark < kind.count) marks
+AreMarksBelow (GenBuchi sets) marks = Unit {0}
 
 -- the kind has no more sets than a formula of an automaton is deep
 abbrev pub IsSmall : AccKind → Type 0

@@ -8,7 +8,7 @@ use Rattle.omega_game.specs.Limits.{most_nodes}
 use Rattle.omega_empty.specs.Counters.{counters}
 use Rattle.omega_empty.specs.EmptinessGame.{AreUsable, HasKind, has_branch, span}
 use Rattle.omega_empty.specs.declared.edge_ranges.EdgeRange.{EdgeRange}
-use Rattle.omega_empty.specs.layout.Marks.{AreMarksOf, IsSmall}
+use Rattle.omega_empty.specs.layout.Marks.{AreMarksBelow, IsSmall}
 use Rattle.omega_empty.specs.layout.Ranges.{AreRanges}
 
 -- the automaton has the kind, its game fits, and its edges were judged and found by state
@@ -26,9 +26,9 @@ pub record IsReady (a : Description) (kind : AccKind) (usable : List Bool) (rang
 pub record IsPlainEdge (a : Description) (kind : AccKind) (edge : Edge) : Type 0 where
   pub one : length edge.targets ≡ 1
   pub below : slice_index edge.targets 0 < a.states
-  pub marks : AreMarksOf kind edge.marks
+  pub marks : AreMarksBelow kind edge.marks
 
 -- a state with marks of the kind, all of whose edges lead to one state
 pub record IsPlainState (a : Description) (kind : AccKind) (state : State) : Type 0 where
-  pub marks : AreMarksOf kind state.marks
+  pub marks : AreMarksBelow kind state.marks
   pub edges : All (IsPlainEdge a kind) state.edges

@@ -7,7 +7,7 @@ use Rattle.std.proofs.lemmas.List.Sorted.{Contains-permutation, IsPermutation-sy
 use Rattle.std.specs.List.Sorted.{IsStrictlyIncreasing}
 use Rattle.omega_game.specs.declared.node_spec.NodeSpec.{NodeSpec}
 use Rattle.omega_game.specs.Game.{Node, HasEdge, node_at, no_node, identifiers, successors_at}
-use Rattle.omega_game.specs.Building.{IsGameOf, IsWellFormed, specified, specified_times, fault_of}
+use Rattle.omega_game.specs.Building.{IsGameOf, IsWellFormed, specified, specified_times, game_fault_of}
 use Rattle.omega_game.specs.Part.{new_place}
 use Rattle.omega_game.proofs.elements.Counting.{counted_from}
 use Rattle.omega_game.proofs.building.Faults.{faultless_from_none}
@@ -30,7 +30,7 @@ node_of ids spec = record {
   name = spec.name;
 }
 
-module _ (specs : List NodeSpec) (some : 0 < length specs) (formed : All IsWellFormed specs) (faultless : fault_of specs ≡ None) where
+module _ (specs : List NodeSpec) (some : 0 < length specs) (formed : All IsWellFormed specs) (faultless : game_fault_of specs ≡ None) where
   -- the specifications by rising identifier
   abbrev sorted : List NodeSpec
   sorted = sorted_by (λ spec. spec.id) specs

@@ -10,7 +10,7 @@ use Rattle.std.proofs.lemmas.List.Folds.{list_any_none, list_any_at}
 use Rattle.std.proofs.lemmas.List.Sums.{sum_by-cons}
 use Rattle.std.proofs.lemmas.List.Sorted.{length_permutation, sum_by-IsPermutation, list_any-IsPermutation}
 use Rattle.omega_game.specs.declared.node_spec.NodeSpec.{NodeSpec}
-use Rattle.omega_game.specs.Building.{fault_of, has_duplicate, has_undefined, listed_successors, specified_times}
+use Rattle.omega_game.specs.Building.{game_fault_of, has_duplicate, has_undefined, listed_successors, specified_times}
 use Rattle.omega_game.specs.layout.Collected.{ids_of}
 use Rattle.omega_game.specs.layout.Resolving.{is_defined}
 use Rattle.omega_game.proofs.building.Resolutions.{rises_by}
@@ -20,7 +20,7 @@ specified_times-permutation : (specs others : List NodeSpec) → IsPermutation s
 specified_times-permutation specs others moved id = sum_by-IsPermutation (λ (spec : NodeSpec). cond (spec.id == id) 1 0) specs others moved
 
 -- rearranged specifications have the same fault
-pub fault_of-permutation : (specs others : List NodeSpec) → IsPermutation specs others → fault_of others ≡ fault_of specs
+pub fault_of-permutation : (specs others : List NodeSpec) → IsPermutation specs others → game_fault_of others ≡ game_fault_of specs
 fault_of-permutation specs others moved =
     let times : specified_times others ≡ specified_times specs = fun_ext (specified_times-permutation specs others moved) in
     let twice : has_duplicate others ≡ has_duplicate specs =

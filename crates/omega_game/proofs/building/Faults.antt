@@ -8,8 +8,8 @@ use Rattle.omega_game.specs.Limits.{most_nodes, most_successors}
 use Rattle.omega_game.specs.declared.node_spec.NodeSpec.{NodeSpec}
 use Rattle.omega_text.specs.declared.refusal.game.GameFault.{GameFault}
 use Rattle.omega_text.specs.declared.refusal.game.GameFault.TheVariants.{DuplicateNode, UndefinedSuccessor, TooManyEdges, TooManyNodes}
-use Rattle.omega_game.specs.Game.{Node, IsWithinLimits, node_at, no_node, successors_at, edge_count}
-use Rattle.omega_game.specs.Building.{IsGameOf, IsWellFormed, specified, specified_times, has_duplicate, has_undefined, listed_successors, fault_of}
+use Rattle.omega_game.specs.Game.{Node, IsWithinLimits, node_at, no_node, successors_at, successor_count}
+use Rattle.omega_game.specs.Building.{IsGameOf, IsWellFormed, specified, specified_times, has_duplicate, has_undefined, listed_successors, game_fault_of}
 use Rattle.omega_game.proofs.elements.Counting.{counted, sum_by-map, sum_by_same}
 use Rattle.omega_game.proofs.building.Keyed.{once}
 use Rattle.omega_game.proofs.elements.Membership.{map-Contains, none_passes}
@@ -42,7 +42,7 @@ all_fail false false false true none = absurd (cc)
 all_fail false false false false none = record { first = refl; second = refl; third = refl; fourth = refl }
 
 -- the fault of specifications is such a refusal
-fault_is : (specs : List NodeSpec) → fault_of specs ≡
+fault_is : (specs : List NodeSpec) → game_fault_of specs ≡
     first_fault (has_duplicate specs) (has_undefined specs) (nat_lt most_nodes (length specs)) (nat_lt most_successors (listed_successors specs))
 unfolding first_fault
 fault_is specs = refl
@@ -55,7 +55,7 @@ pub record IsFaultless (specs : List NodeSpec) : Type 0 where
   pub few_edges : listed_successors specs ≤ most_successors
 
 -- from the refusal
-pub faultless_from_none : (specs : List NodeSpec) → fault_of specs ≡ None → IsFaultless specs
+pub faultless_from_none : (specs : List NodeSpec) → game_fault_of specs ≡ None → IsFaultless specs
 faultless_from_none specs none =
     let tests = all_fail _ _ _ _ (sym (fault_is specs) ∙ none) in
     record {
@@ -108,18 +108,18 @@ module _ (specs : List NodeSpec) (nodes : List Node) (given : IsGameOf specs nod
       ne_eqb (specified_times specs successor) 0 (λ e. omega arith)))
 
   -- as many successors are listed
-  listed_kept : listed_successors specs ≡ edge_count nodes
+  listed_kept : listed_successors specs ≡ successor_count nodes
   listed_kept =
       let kept : listed_successors ordered ≡ listed_successors specs = sum_by-IsPermutation (λ spec. length spec.successors) specs ordered given.rearranged in
       let mapped : listed_successors ordered ≡ sum_by (λ node. length (specified nodes node).successors) nodes =
       sum_by-map (λ spec. length spec.successors) (specified nodes) nodes in
-      let same : sum_by (λ node. length (specified nodes node).successors) nodes ≡ edge_count nodes =
+      let same : sum_by (λ node. length (specified nodes node).successors) nodes ≡ successor_count nodes =
       sum_by_same (λ node. length (specified nodes node).successors) (λ node. length node.successors) nodes
       (λ node. length-map node.successors (λ w. (node_at nodes w).identifier)) in
       sym kept ∙ mapped ∙ same
 
   -- the specifications of a game within the limits have no fault
-  pub without_fault : IsWithinLimits nodes → fault_of specs ≡ None
+  pub without_fault : IsWithinLimits nodes → game_fault_of specs ≡ None
   without_fault limits =
       fault_is specs ∙ no_fault _ _ _ _ no_duplicate no_undefined
       (le-ltb most_nodes (length specs) (omega (arith, limits.few_nodes, length_permutation specs ordered given.rearranged, length-map nodes (specified nodes))))
@@ -133,7 +133,7 @@ module _ (specs : List NodeSpec) (nodes : List Node) (given : IsGameOf specs nod
       (v, omega (arith, length-map nodes (specified nodes)), get_or-map (specified nodes) nodes v d spec below)
 
   -- well-formed specifications without a fault have a game within the limits
-  pub within_limits : All IsWellFormed specs → fault_of specs ≡ None → IsWithinLimits nodes
+  pub within_limits : All IsWellFormed specs → game_fault_of specs ≡ None → IsWithinLimits nodes
   within_limits formed none =
       let faultless = faultless_from_none specs none in
       record {

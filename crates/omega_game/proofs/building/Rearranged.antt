@@ -7,7 +7,7 @@ use Rattle.omega_text.specs.declared.refusal.Refusal.{Refusal}
 use Rattle.omega_text.specs.declared.refusal.Refusal.TheVariants.{Automaton, Game, Io, Memory, Task, Text}
 use Rattle.omega_game.specs.declared.node_spec.NodeSpec.{NodeSpec}
 use Rattle.omega_game.specs.Game.{Node}
-use Rattle.omega_game.specs.Building.{IsBuildRefusal, IsGameOf, fault_of}
+use Rattle.omega_game.specs.Building.{IsBuildRefusal, IsGameOf, game_fault_of}
 use Rattle.omega_game.proofs.building.Duplicates.{fault_of-permutation}
 
 -- a game of rearranged specifications is one of the specifications
@@ -16,12 +16,12 @@ game_of-rearranged (Ok game) specs sorted moved is = record { game = is.game; re
 game_of-rearranged (Err e) specs sorted moved is = tt
 
 -- rearranged specifications without a fault have none
-pub faultless-rearranged : (r : Result (List Node) Refusal) (specs sorted : List NodeSpec) → IsPermutation specs sorted → OnOk r (fault_of sorted ≡ None) → OnOk r (fault_of specs ≡ None)
+pub faultless-rearranged : (r : Result (List Node) Refusal) (specs sorted : List NodeSpec) → IsPermutation specs sorted → OnOk r (game_fault_of sorted ≡ None) → OnOk r (game_fault_of specs ≡ None)
 faultless-rearranged (Ok game) specs sorted moved none = sym (fault_of-permutation specs sorted moved) ∙ none
 faultless-rearranged (Err e) specs sorted moved none = tt
 
 -- the refusal of rearranged specifications is that of the specifications
-refusal_of-rearranged : (e : Refusal) (specs sorted : List NodeSpec) → fault_of sorted ≡ fault_of specs → IsBuildRefusal sorted e → IsBuildRefusal specs e
+refusal_of-rearranged : (e : Refusal) (specs sorted : List NodeSpec) → game_fault_of sorted ≡ game_fault_of specs → IsBuildRefusal sorted e → IsBuildRefusal specs e
 refusal_of-rearranged (Text fault) specs sorted same is = is
 refusal_of-rearranged (Game fault) specs sorted same is = sym same ∙ is
 refusal_of-rearranged (Automaton fault) specs sorted same is = is

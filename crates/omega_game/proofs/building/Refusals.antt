@@ -11,7 +11,7 @@ use Rattle.omega_text.specs.Limits.{most_number}
 use Rattle.omega_game.specs.Limits.{most_nodes, most_successors}
 use Rattle.omega_game.specs.declared.player.Player.{Player}
 use Rattle.omega_game.specs.declared.node_spec.NodeSpec.{NodeSpec}
-use Rattle.omega_game.specs.Building.{fault_of, has_duplicate, has_undefined, listed_successors}
+use Rattle.omega_game.specs.Building.{game_fault_of, has_duplicate, has_undefined, listed_successors}
 use Rattle.omega_game.specs.layout.Collected.{AreCollected, ids_of}
 use Rattle.omega_game.specs.layout.Columns.{Columns, AreEven, collected, columns_of, identifiers_of, specs_of, spec_in}
 use Rattle.omega_game.specs.layout.Resolving.{is_defined, resolved_in}
@@ -34,10 +34,10 @@ sum_by-places ids lists places placed =
 
 -- the parts of the refusal of specifications whose identifiers rise
 pub record KnowsFault (specs : List NodeSpec) (ids : List ℕ) (lists : List (List ℕ)) : Type 0 where
-  pub undefined : list_all (λ list. list_all (is_defined ids) list) lists ≡ false → fault_of specs ≡ Some UndefinedSuccessor
-  pub nodes : list_all (λ list. list_all (is_defined ids) list) lists ≡ true → most_nodes < length ids → fault_of specs ≡ Some TooManyNodes
-  pub edges : list_all (λ list. list_all (is_defined ids) list) lists ≡ true → length ids ≤ most_nodes → most_successors < sum_by (λ list. length list) lists → fault_of specs ≡ Some TooManyEdges
-  pub none : list_all (λ list. list_all (is_defined ids) list) lists ≡ true → length ids ≤ most_nodes → sum_by (λ list. length list) lists ≤ most_successors → fault_of specs ≡ None
+  pub undefined : list_all (λ list. list_all (is_defined ids) list) lists ≡ false → game_fault_of specs ≡ Some UndefinedSuccessor
+  pub nodes : list_all (λ list. list_all (is_defined ids) list) lists ≡ true → most_nodes < length ids → game_fault_of specs ≡ Some TooManyNodes
+  pub edges : list_all (λ list. list_all (is_defined ids) list) lists ≡ true → length ids ≤ most_nodes → most_successors < sum_by (λ list. length list) lists → game_fault_of specs ≡ Some TooManyEdges
+  pub none : list_all (λ list. list_all (is_defined ids) list) lists ≡ true → length ids ≤ most_nodes → sum_by (λ list. length list) lists ≤ most_successors → game_fault_of specs ≡ None
 
 -- the refusal of specifications whose identifiers rise
 pub knows_fault : (columns : Columns) (specs : List NodeSpec) → specs_of columns ≡ specs → AreEven columns → IsStrictlyIncreasing columns.identifiers → KnowsFault specs columns.identifiers columns.successors
@@ -67,7 +67,7 @@ knows_fault columns specs is even rises = record {
     edge_sum = sym (sum_by-map (λ (list : List ℕ). length list) (λ (spec : NodeSpec). spec.successors) specs) ∙ ap (sum_by (λ list. length list)) lists_are
 
 -- specifications in order of which one identifier is not greater than the one before have a duplicate
-pub duplicate_refused : (specs : List NodeSpec) (none : NodeSpec) → has_duplicate specs ≡ true → fault_of specs ≡ Some DuplicateNode
+pub duplicate_refused : (specs : List NodeSpec) (none : NodeSpec) → has_duplicate specs ≡ true → game_fault_of specs ≡ Some DuplicateNode
 duplicate_refused specs none twice = rw twice refl
 
 -- identifiers within the greatest number that rise are few

@@ -10,7 +10,7 @@ use Rattle.std.proofs.lemmas.List.Sorted.{IsPermutation-refl}
 use Rattle.omega_game.specs.Limits.{most_nodes, most_successors}
 use Rattle.omega_game.specs.declared.player.Player.{Player}
 use Rattle.omega_game.specs.declared.node_spec.NodeSpec.{NodeSpec}
-use Rattle.omega_game.specs.Game.{Node, no_node, IsGame, IsWithinLimits, IsWritable, HasEdge, node_at, successors_at}
+use Rattle.omega_game.specs.Game.{Node, no_node, IsGame, IsWithinLimits, IsWritableNode, HasEdge, node_at, successors_at}
 use Rattle.omega_game.specs.Building.{IsGameOf, IsWellFormed, specified}
 use Rattle.omega_game.specs.layout.Collected.{AreCollected}
 use Rattle.omega_game.specs.layout.Columns.{Columns, AreEven, collected, nodes_of, node_in, specs_of, spec_in}
@@ -142,7 +142,7 @@ limits_of_columns ids ranks owners lists quoted places kept are few_nodes few_ed
   few_nodes = omega (arith, length-nodes_of after);
   few_edges = omega (arith, edge_count-nodes_of after even);
   writable = λ k d h. let within : k < length ids = omega (arith, length-nodes_of after) in
-      subst IsWritable (sym (get_or-nodes_of after k d within))
+      subst IsWritableNode (sym (get_or-nodes_of after k d within))
       (let spec : IsWellFormed (spec_in before k) = subst IsWellFormed (get_or-specs_of before k (spec_in before 0) within) (kept.well_formed k (spec_in before 0) (omega (arith, length-specs_of before))) in
       record { identifier = spec.id; priority = spec.priority; name = spec.name });
 }

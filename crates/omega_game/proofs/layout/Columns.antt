@@ -8,8 +8,8 @@ use Rattle.std.proofs.lemmas.List.Sums.{sum_by-cons, position_or_len_is}
 use Rattle.std.proofs.lemmas.List.FromFn.{length-range_with_len, get_or-range_with_len, length-map-range_with_len, get_or-map-range_with_len}
 use Rattle.omega_game.specs.declared.player.Player.{Player}
 use Rattle.omega_game.specs.declared.player.Player.TheVariants.{Zero}
-use Rattle.omega_game.specs.Game.{Node, no_node, node_at, priority_at, owner_at, successors_at, predecessors_of, identifiers, priorities, edge_count}
-use Rattle.omega_game.specs.layout.Columns.{Columns, AreEven, node_in, nodes_of, name_of, identifiers_of}
+use Rattle.omega_game.specs.Game.{Node, no_node, node_at, priority_at, owner_at, successors_at, predecessors_of, identifiers, priorities, successor_count}
+use Rattle.omega_game.specs.layout.Columns.{Columns, AreEven, node_in, nodes_of, name_in_column, identifiers_of}
 
 -- there is a node for each identifier
 pub length-nodes_of : (columns : Columns) → length (nodes_of columns) ≡ length columns.identifiers
@@ -56,7 +56,7 @@ sum_by-map f g [] = refl
 sum_by-map f g (x ∷ xs) = sum_by-cons f (g x) (map g xs) ∙ ap (λ n. f (g x) + n) (sum_by-map f g xs) ∙ sym (sum_by-cons (λ y. f (g y)) x xs)
 
 -- the successors are listed in the column
-pub edge_count-nodes_of : (columns : Columns) → AreEven columns → edge_count (nodes_of columns) ≡ sum_by (λ list. length list) columns.successors
+pub edge_count-nodes_of : (columns : Columns) → AreEven columns → successor_count (nodes_of columns) ≡ sum_by (λ list. length list) columns.successors
 edge_count-nodes_of columns even =
     sym (sum_by-map (λ list. length list) (λ node. node.successors) (nodes_of columns)) ∙ ap (sum_by (λ list. length list)) (successors-nodes_of columns even)
 
@@ -105,7 +105,7 @@ unfolding node_in
 successors_are columns nodes v xs is h read = read ∙ sym (ap (λ (node : Node). node.successors) (node_is columns nodes v is h))
 
 -- what is read from the names is the node's
-pub name_is : (columns : Columns) (nodes : List Node) (v : ℕ) (x : Option (List ℕ)) → nodes_of columns ≡ nodes → v < length nodes → x ≡ name_of (get_or columns.quoted v []) → x ≡ (node_at nodes v).name
+pub name_is : (columns : Columns) (nodes : List Node) (v : ℕ) (x : Option (List ℕ)) → nodes_of columns ≡ nodes → v < length nodes → x ≡ name_in_column (get_or columns.quoted v []) → x ≡ (node_at nodes v).name
 unfolding node_in
 name_is columns nodes v x is h read = read ∙ sym (ap (λ (node : Node). node.name) (node_is columns nodes v is h))
 

@@ -13,8 +13,8 @@ use Rattle.omega_game.specs.declared.node_spec.NodeSpec.{NodeSpec}
 use Rattle.omega_text.specs.declared.refusal.Refusal.{Refusal}
 use Rattle.omega_text.specs.declared.refusal.Refusal.TheVariants.{Automaton, Game, Io, Memory, Task, Text}
 use Rattle.omega_game.specs.checking.Reaching.{mark_at}
-use Rattle.omega_game.specs.Game.{Node, IsGame, IsWithinLimits, IsWritable, HasEdge, node_at, no_node, identifiers, successors_at, edge_count}
-use Rattle.omega_game.specs.Building.{IsBuildRefusal, IsGameOf, specified, fault_of}
+use Rattle.omega_game.specs.Game.{Node, IsGame, IsWithinLimits, IsWritableNode, HasEdge, node_at, no_node, identifiers, successors_at, successor_count}
+use Rattle.omega_game.specs.Building.{IsBuildRefusal, IsGameOf, specified, game_fault_of}
 use Rattle.omega_game.specs.Part.{IsPart, IsPartAt, Reaches, new_place, restricted}
 use Rattle.omega_game.proofs.elements.Counting.{sum_by-map, sum_by_same}
 use Rattle.omega_game.proofs.building.Faults.{without_fault}
@@ -116,8 +116,8 @@ part_within_limits nodes part v p game is_part limits = record {
   writable = λ k d within.
       let below : k < length kept = omega (arith, within, length_part nodes part v kept game is_part) in
       let node : slice_index kept k < length nodes = kept_is_node nodes part v kept game is_part (slice_index kept k) (contained_at nodes part v kept game is_part k below) in
-      let old : IsWritable (node_at nodes (slice_index kept k)) = limits.writable (slice_index kept k) no_node node in
-      subst IsWritable (sym (get_or_default part k d no_node within ∙ node_at_part nodes part v kept game is_part k below))
+      let old : IsWritableNode (node_at nodes (slice_index kept k)) = limits.writable (slice_index kept k) no_node node in
+      subst IsWritableNode (sym (get_or_default part k d no_node within ∙ node_at_part nodes part v kept game is_part k below))
       (record { identifier = old.identifier; priority = old.priority; name = old.name });
 }
   where
@@ -127,15 +127,15 @@ part_within_limits nodes part v p game is_part limits = record {
     kept : List ℕ
     kept = filter p (range_with_len 0 (length nodes))
 
-    edges_kept : edge_count part ≡ sum_by (λ u. length (successors_at nodes u)) (filter p (range_with_len 0 (length nodes)))
+    edges_kept : successor_count part ≡ sum_by (λ u. length (successors_at nodes u)) (filter p (range_with_len 0 (length nodes)))
     edges_kept =
-        ap edge_count is_part.kept_nodes
+        ap successor_count is_part.kept_nodes
         ∙ sum_by-map (λ node. length node.successors) (moved_node nodes part v (filter p (range_with_len 0 (length nodes))) game is_part) (filter p (range_with_len 0 (length nodes)))
         ∙ sum_by_same _ (λ u. length (successors_at nodes u)) (filter p (range_with_len 0 (length nodes)))
         (λ u. length-map (successors_at nodes u) (new_place (filter p (range_with_len 0 (length nodes)))))
 
-    edges_all : sum_by (λ u. length (successors_at nodes u)) (range_with_len 0 (length nodes)) ≡ edge_count nodes
-    edges_all = sym (ap edge_count (nodes_by_place nodes) ∙ sum_by-map (λ node. length node.successors) (node_at nodes) (range_with_len 0 (length nodes)))
+    edges_all : sum_by (λ u. length (successors_at nodes u)) (range_with_len 0 (length nodes)) ≡ successor_count nodes
+    edges_all = sym (ap successor_count (nodes_by_place nodes) ∙ sum_by-map (λ node. length node.successors) (node_at nodes) (range_with_len 0 (length nodes)))
 
 module _ {X : Type 0} (p : X → Bool) where
   -- what passes a test stands in the filtered list
@@ -190,7 +190,7 @@ module _ (nodes : List Node) (v : ℕ) (marks : List Bool) (game : IsGame nodes)
       omega (arith, found.1, length-map kept_places (λ u. specified nodes (node_at nodes u)))
 
   -- they have no fault
-  pub kept_faultless : IsWithinLimits nodes → fault_of kept_specs ≡ None
+  pub kept_faultless : IsWithinLimits nodes → game_fault_of kept_specs ≡ None
   kept_faultless limits =
       without_fault kept_specs (restricted nodes kept_places)
       (part_is_game_of nodes (restricted nodes kept_places) v kept_places game restricted_is_part node)
@@ -209,7 +209,7 @@ module _ (nodes : List Node) (v : ℕ) (marks : List Bool) (game : IsGame nodes)
   )
 
 -- specifications without a fault are refused for want of memory alone
-pub memory_alone : (specs : List NodeSpec) (refusal : Refusal) → fault_of specs ≡ None → IsBuildRefusal specs refusal → refusal ≡ Memory
+pub memory_alone : (specs : List NodeSpec) (refusal : Refusal) → game_fault_of specs ≡ None → IsBuildRefusal specs refusal → refusal ≡ Memory
 memory_alone specs (Text fault) none is = absurd is
 memory_alone specs (Game fault) none is = absurd (cc)
 memory_alone specs (Automaton fault) none is = absurd is

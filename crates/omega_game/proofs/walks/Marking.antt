@@ -7,7 +7,7 @@ use Rattle.std.proofs.lemmas.List.Sums.{sum_by-set}
 use Rattle.omega_game.specs.Game.{Node, IsGame, priority_at}
 use Rattle.omega_game.specs.Part.{IsPath, Reaches}
 use Rattle.omega_game.specs.Winning.{end_of}
-use Rattle.omega_game.specs.checking.Reaching.{left_at, mark_at, IsLowPath, IsReached, AreReached, AreEntered, LeadsInside, AreClosed}
+use Rattle.omega_game.specs.checking.Reaching.{left_at, mark_at, IsLowPath, IsReachedFrom, AreReached, AreEntered, LeadsInside, AreClosed}
 use Rattle.omega_game.proofs.elements.Membership.{Contains-nothing}
 
 -- the mark that was set
@@ -146,8 +146,8 @@ module _ (nodes : List Node) (choices : List (Option ℕ)) (most : ℕ) where
   end_on v (x ∷ ws) w = end_on x ws w
 
   -- one edge further
-  pub reached_on : (places : List ℕ) (u w : ℕ) → IsReached nodes choices most places u
-      → Contains (left_at nodes choices u) w → priority_at nodes w ≤ most → IsReached nodes choices most places w
+  pub reached_on : (places : List ℕ) (u w : ℕ) → IsReachedFrom nodes choices most places u
+      → Contains (left_at nodes choices u) w → priority_at nodes w ≤ most → IsReachedFrom nodes choices most places w
   reached_on places u w reached edge low = record {
     start = reached.start;
     listed = reached.listed;
@@ -159,7 +159,7 @@ module _ (nodes : List Node) (choices : List (Option ℕ)) (most : ℕ) where
   -- a search on its way: the marks are of places that are reached, and what is not marked yet lies behind what waits
   pub record IsSearch (places : List ℕ) (marks : List Bool) (stack : List ℕ) : Type 0 where
     pub count : length marks ≡ length nodes
-    pub sound : (v : ℕ) → IsTrue (mark_at marks v) → IsReached nodes choices most places v
+    pub sound : (v : ℕ) → IsTrue (mark_at marks v) → IsReachedFrom nodes choices most places v
     pub begun : (v : ℕ) → Contains places v → priority_at nodes v ≤ most → IsTrue (mark_at marks v)
     pub stacked : (v : ℕ) → Contains stack v → IsTrue (mark_at marks v)
     pub done : (v w : ℕ) → IsTrue (mark_at marks v) → Contains (left_at nodes choices v) w → priority_at nodes w ≤ most
@@ -179,7 +179,7 @@ module _ (nodes : List Node) (choices : List (Option ℕ)) (most : ℕ) where
       before_none : (v : ℕ) → IsTrue (mark_at marks v) → ⊥
       before_none v mark = false≢true (sym (unmarked (length nodes) v) ∙ ap (λ m. mark_at m v) (sym clear) ∙ mark)
 
-      sound : (v : ℕ) → IsTrue (mark_at marks v) ⊎ (Contains places v × (priority_at nodes v ≤ most) × Contains stack v) → IsReached nodes choices most places v
+      sound : (v : ℕ) → IsTrue (mark_at marks v) ⊎ (Contains places v × (priority_at nodes v ≤ most) × Contains stack v) → IsReachedFrom nodes choices most places v
       sound v (inl before) = absurd (before_none v before)
       sound v (inr now) = record { start = v; listed = now.0; after = []; path = now.1; ends = refl }
 
@@ -203,7 +203,7 @@ module _ (nodes : List Node) (choices : List (Option ℕ)) (most : ℕ) where
     done = λ v w mark edge low. fresh v w edge low (entered.fresh v mark);
   }
     where
-      sound : (v : ℕ) → IsTrue (mark_at marks v) ⊎ (Contains (left_at nodes choices u) v × (priority_at nodes v ≤ most) × Contains stack' v) → IsReached nodes choices most places v
+      sound : (v : ℕ) → IsTrue (mark_at marks v) ⊎ (Contains (left_at nodes choices u) v × (priority_at nodes v ≤ most) × Contains stack' v) → IsReachedFrom nodes choices most places v
       sound v (inl before) = so_far.sound v before
       sound v (inr now) = reached_on places u v (so_far.sound u (so_far.stacked u (Contains-push stack u))) now.0 now.1
 
@@ -251,7 +251,7 @@ module _ (nodes : List Node) (choices : List (Option ℕ)) (most : ℕ) where
       low w [] path = path
       low w (x ∷ ws) path = path.0
 
-      complete : IsReached nodes choices most places v → IsTrue (mark_at marks v)
+      complete : IsReachedFrom nodes choices most places v → IsTrue (mark_at marks v)
       complete reached = subst (λ u. IsTrue (mark_at marks u)) reached.ends
           (marked_on places marks ended reached.start reached.after
           (ended.begun reached.start reached.listed (low reached.start reached.after reached.path)) reached.path)
@@ -312,7 +312,7 @@ module _ (nodes : List Node) (most : ℕ) (low : (v : ℕ) → priority_at nodes
       only start (inl nothing) = absurd (Contains-nothing start nothing)
       only start (inr same) = same
 
-      there : IsReached nodes [] most (v ∷ []) u → Reaches nodes v u
+      there : IsReachedFrom nodes [] most (v ∷ []) u → Reaches nodes v u
       there reached =
           let same : v ≡ reached.start = only reached.start (Contains-push_cases [] v reached.start reached.listed) in
           record {

@@ -9,9 +9,9 @@ use Rattle.omega_game.specs.Bound.{priority_counts}
 use Rattle.omega_game.specs.Game.{Node, IsGame, IsWithinLimits, predecessors_of}
 
 -- the name that quoted bytes stand for: none where there are none, else what stands behind the opening quote
-abbrev pub name_of : List ℕ → Option (List ℕ)
-name_of [] = None
-name_of (quote ∷ name) = Some name
+abbrev pub name_in_column : List ℕ → Option (List ℕ)
+name_in_column [] = None
+name_in_column (quote ∷ name) = Some name
 
 -- the identifiers of n nodes, of which none is listed where they are 0 to n - 1
 unfoldable pub identifiers_of : ℕ → List ℕ → List ℕ
@@ -40,7 +40,7 @@ node_in columns v = record {
   priority = slice_index_or columns.priorities v 0;
   owner = slice_index_or columns.owners v Zero;
   successors = slice_index_or columns.successors v [];
-  name = name_of (slice_index_or columns.quoted v []);
+  name = name_in_column (slice_index_or columns.quoted v []);
 }
 
 -- the nodes by place
@@ -54,7 +54,7 @@ spec_in columns v = record {
   priority = slice_index_or columns.priorities v 0;
   owner = slice_index_or columns.owners v Zero;
   successors = slice_index_or columns.successors v [];
-  name = name_of (slice_index_or columns.quoted v []);
+  name = name_in_column (slice_index_or columns.quoted v []);
 }
 
 -- the specifications in the order given

@@ -1,7 +1,7 @@
 -- A search in breadth for the places that are reached, and the ways on which it met them.
 use Rattle.std.specs.Prelude.{◌≡◌, ◌⊎◌, ℕ, ◌+◌, ◌<◌, ◌≤◌, Bool, not, IsTrue, Option, Some, None, List, [], ◌∷◌, ◌++◌, length, Contains, count_by, slice_index, slice_index_or}
 use Rattle.omega_game.specs.Game.{Node, priority_at}
-use Rattle.omega_game.specs.checking.Reaching.{left_at, mark_at, IsReached}
+use Rattle.omega_game.specs.checking.Reaching.{left_at, mark_at, IsReachedFrom}
 
 -- the index of the place from which the one at an index was met, or none
 abbrev pub origin_at : List (Option ℕ) → ℕ → Option ℕ
@@ -22,7 +22,7 @@ pub record IsTree (nodes : List Node) (choices : List (Option ℕ)) (most : ℕ)
 
 -- each place that is reached is met
 abbrev pub MeetsAll : List Node → List (Option ℕ) → ℕ → List ℕ → List ℕ → Type 0
-MeetsAll nodes choices most places met = (v : ℕ) → IsReached nodes choices most places v → Contains met v
+MeetsAll nodes choices most places met = (v : ℕ) → IsReachedFrom nodes choices most places v → Contains met v
 
 -- the places of priority at most the most that were not marked are marked and met from the origin
 pub record AreMet (nodes : List Node) (most : ℕ) (places : List ℕ) (origin : Option ℕ) (marks : List Bool) (met : List ℕ) (origins : List (Option ℕ))
@@ -51,7 +51,7 @@ LeadBack origins = (i b : ℕ) → i < length origins → origin_at origins i �
 
 -- a low path from one of the places to v, and the places before v on it
 pub record LeadsTo (nodes : List Node) (choices : List (Option ℕ)) (most : ℕ) (places : List ℕ) (v : ℕ) (before : List ℕ) : Type 0 where
-  pub reached : IsReached nodes choices most places v
+  pub reached : IsReachedFrom nodes choices most places v
   pub whole : before ++ v ∷ [] ≡ reached.start ∷ reached.after
 
 -- v, and the places before it on a low path from it to itself

@@ -1,7 +1,7 @@
 //! Whether no place that is reached bears a losing priority and recurs: suggested by a fast search, checked, and else
 //! tested plainly.
 ghost use Rattle.std.specs.Prelude.{◌≡◌, ℕ, ◌<◌, length, vec_len, IfOk, IfSome, IsTrue};
-ghost use Rattle.omega_game.specs.checking.Decision.{IsLosingPlace, IsRight};
+ghost use Rattle.omega_game.specs.checking.Decision.{IsLosingPlace, IsRightDecision};
 ghost use Rattle.omega_game.specs.checking.Reaching.{LeadsInside, AreClosed};
 
 use crate::checking::components::Edge;
@@ -25,7 +25,7 @@ pub(crate) fn decide(
     requires count { length marks.now ≡ length game.now }
     requires choices { LeadsInside game.now choices.now }
     requires closed { AreClosed game.now choices.now marks.now }
-    ensures right { IfOk result (IsRight game.now player choices.now marks.now) }
+    ensures right { IfOk result (IsRightDecision game.now player choices.now marks.now) }
 {
     if let Some(decision) = decide_fast(alloc, game, player, choices, marks)? {
         return Ok(decision);
@@ -45,7 +45,7 @@ pub(crate) fn decide_fast(
     requires count { length marks.now ≡ length game.now }
     requires choices { LeadsInside game.now choices.now }
     requires closed { AreClosed game.now choices.now marks.now }
-    ensures right { IfOk result (λ found. IfSome found (IsRight game.now player choices.now marks.now)) }
+    ensures right { IfOk result (λ found. IfSome found (IsRightDecision game.now player choices.now marks.now)) }
 {
     let finding = suggest(alloc, game, player, choices, marks)?;
     match finding {

@@ -1,6 +1,6 @@
 //! The plain test: whether a place that is reached bears a losing priority and recurs.
 ghost use Rattle.std.specs.Prelude.{◌≡◌, ◌↔◌, ℕ, ◌<◌, length, IfOk, IsTrue};
-ghost use Rattle.omega_game.specs.checking.Decision.{IsRight};
+ghost use Rattle.omega_game.specs.checking.Decision.{IsRightDecision};
 ghost use Rattle.omega_game.specs.checking.Reaching.{LeadsInside};
 ghost use Rattle.omega_game.specs.checking.Recurring.{Recurs};
 
@@ -36,7 +36,7 @@ pub(crate) fn decide_plainly(
 ) -> Result<Decision, AllocError>
     requires count { length marks.now ≡ length game.now }
     requires choices { LeadsInside game.now choices.now }
-    ensures right { IfOk result (IsRight game.now player choices.now marks.now) }
+    ensures right { IfOk result (IsRightDecision game.now player choices.now marks.now) }
 {
     for place in 0..game.len() as u32 {
         let losing = marks[place as usize] && player.loses(game.priority(place));

@@ -1,6 +1,6 @@
 //! Shortest ways to a place that is reached.
 ghost use Rattle.std.specs.Prelude.{◌≡◌, ℕ, ◌<◌, length, vec_len, All, Contains, IfOk, slice_index};
-ghost use Rattle.omega_game.specs.checking.Reaching.{LeadsInside, IsReached};
+ghost use Rattle.omega_game.specs.checking.Reaching.{LeadsInside, IsReachedFrom};
 ghost use Rattle.omega_game.specs.refuting.Ways.{IsWay, LeadBack, LeadsTo};
 
 use crate::game::Game;
@@ -19,7 +19,7 @@ pub(crate) fn way_to(
 ) -> Result<Vec<u32>, AllocError>
     requires inside { All (λ place. place < length game.now) places.now }
     requires choices { LeadsInside game.now choices.now }
-    requires reached { IsReached game.now choices.now most places.now target }
+    requires reached { IsReachedFrom game.now choices.now most places.now target }
     ensures way { IfOk result (λ before. LeadsTo game.now choices.now most places.now target before.items) }
 {
     let met = met_from(alloc, game, choices, most, places)?;

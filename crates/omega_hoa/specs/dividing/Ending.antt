@@ -4,7 +4,7 @@ use Rattle.omega_text.specs.Cut.{IsCut}
 use Rattle.omega_text.specs.Lexeme.{Lexeme}
 use Rattle.omega_text.specs.hoa.Format.{hoa_format}
 use Rattle.omega_text.specs.hoa.Laws.{is_closed}
-use Rattle.omega_text.specs.hoa.Pieces.{IsFinished, settled_lexemes}
+use Rattle.omega_text.specs.hoa.Pieces.{IsCutUpToFault, settled_lexemes}
 use Rattle.omega_text.specs.declared.hoa.kind.HoaKind.{HoaKind}
 use Rattle.omega_text.specs.declared.hoa.placed.Settled.{Settled}
 use Rattle.omega_text.specs.declared.refusal.Refusal.{Refusal}
@@ -16,7 +16,7 @@ use Rattle.omega_hoa.specs.declared.item.Item.{Item}
 -- up to its fault if it has one
 pub record IsAtEnd (settled : Settled) (inside : Bool) (seen : List ℕ) (lexemes : List (Lexeme HoaKind)) (items : List Item) (begins : ℕ) : Type 0 where
   pub divided : IsDivided seen lexemes items begins inside
-  pub finished : IsFinished settled.fault seen (lexemes ++ settled_lexemes seen settled)
+  pub finished : IsCutUpToFault settled.fault seen (lexemes ++ settled_lexemes seen settled)
 
 -- the tokens of a text are those of a stream with these items
 pub record IsWholeStream (seen : List ℕ) (items : List Item) : Type 0 where

@@ -15,7 +15,7 @@ use Rattle.omega_hoa.specs.Feeding.{Appends, IsDivided, IsRefusedThen}
 use Rattle.omega_hoa.specs.Stream.{IsStreamFault}
 use Rattle.omega_hoa.specs.declared.division.Division.{Division}
 use Rattle.omega_hoa.specs.declared.item.Item.{Item}
-use Rattle.omega_hoa.specs.declared.progress.Progress.{Progress}
+use Rattle.omega_hoa.specs.declared.progress.ReadProgress.{ReadProgress}
 
 -- the bytes are those of a text from a place on, as far as it was seen and perhaps further
 pub record IsWindow (bytes : List ℕ) (first : ℕ) (seen : List ℕ) : Type 0 where
@@ -24,7 +24,7 @@ pub record IsWindow (bytes : List ℕ) (first : ℕ) (seen : List ℕ) : Type 0 
   pub within : length seen ≤ first + length bytes
 
 -- behind divided tokens stands this one, if it is some, in a text of which the bytes are a window
-pub record IsNext (bytes : List ℕ) (first : ℕ) (division : Division) (token : Option PlacedToken) (seen : List ℕ) (lexemes : List (Lexeme HoaKind)) (items : List Item) : Type 0 where
+pub record IsNextDivision (bytes : List ℕ) (first : ℕ) (division : Division) (token : Option PlacedToken) (seen : List ℕ) (lexemes : List (Lexeme HoaKind)) (items : List Item) : Type 0 where
   pub divided : IsDivided seen lexemes items division.begins division.inside
   pub cuts : (more : List ℕ) → (end : ℕ) × Cuts hoa_format (seen ++ more) 0 (lexemes ++ lexemes_in seen token) end
   pub window : IsWindow bytes first seen
@@ -32,7 +32,7 @@ pub record IsNext (bytes : List ℕ) (first : ℕ) (division : Division) (token 
 
 -- some token is the next
 abbrev pub IsNextSome : List ℕ → ℕ → Division → Option PlacedToken → Type 0
-IsNextSome bytes first division token = (seen : List ℕ) × (lexemes : List (Lexeme HoaKind)) × (items : List Item) × IsNext bytes first division token seen lexemes items
+IsNextSome bytes first division token = (seen : List ℕ) × (lexemes : List (Lexeme HoaKind)) × (items : List Item) × IsNextDivision bytes first division token seen lexemes items
 
 -- a text is refused however it goes on, or memory is
 abbrev pub IsRefusedNow : List ℕ → List Item → Refusal → Type 0
@@ -44,12 +44,12 @@ Extends {X} old new = (added : List X) × (new ≡ old ++ added)
 
 -- the token was taken, and the item of a segment that it ends appended
 abbrev pub IsTakenAs : List ℕ → ℕ → Division → Option PlacedToken → (old new : List Item) → Division → Type 0
-IsTakenAs bytes first division token old new after = (seen : List ℕ) (lexemes : List (Lexeme HoaKind)) (items : List Item) → IsNext bytes first division token seen lexemes items
+IsTakenAs bytes first division token old new after = (seen : List ℕ) (lexemes : List (Lexeme HoaKind)) (items : List Item) → IsNextDivision bytes first division token seen lexemes items
     → Appends old new items (λ all. IsDivided seen (lexemes ++ lexemes_in seen token) all after.begins after.inside)
 
 -- the token refuses the text
 abbrev pub IsRefusedAt : List ℕ → ℕ → Division → Option PlacedToken → Refusal → Type 0
-IsRefusedAt bytes first division token refusal = (seen : List ℕ) (lexemes : List (Lexeme HoaKind)) (items : List Item) → IsNext bytes first division token seen lexemes items
+IsRefusedAt bytes first division token refusal = (seen : List ℕ) (lexemes : List (Lexeme HoaKind)) (items : List Item) → IsNextDivision bytes first division token seen lexemes items
     → IsRefusedNow seen items refusal
 
 -- neither a token nor a fault was settled
@@ -80,7 +80,7 @@ AreRefusedAt bytes first division settled old new refusal = (seen : List ℕ) (l
     → IsRefusedThen seen old new items refusal
 
 -- the bytes were read up to a place, behind bytes before them, and no fault of tokens is settled
-pub record IsProgress (bytes : List ℕ) (first place : ℕ) (progress : Progress) (prior : List ℕ) (items : List Item) : Type 0 where
+pub record IsProgress (bytes : List ℕ) (first place : ℕ) (progress : ReadProgress) (prior : List ℕ) (items : List Item) : Type 0 where
   pub there : first ≡ length prior
   pub lexemes : List (Lexeme HoaKind)
   pub read : HasRead (prior ++ take place bytes) lexemes progress.tokenizer
@@ -90,15 +90,15 @@ pub record IsProgress (bytes : List ℕ) (first place : ℕ) (progress : Progres
   pub short : first + length bytes ≤ most_text
 
 -- bytes were read up to a place
-abbrev pub IsProgressSome : List ℕ → ℕ → ℕ → Progress → Type 0
+abbrev pub IsProgressSome : List ℕ → ℕ → ℕ → ReadProgress → Type 0
 IsProgressSome bytes first place progress = (prior : List ℕ) × (items : List Item) × IsProgress bytes first place progress prior items
 
 -- the bytes from a place up to another were read, and the items of their segments appended
-abbrev pub IsReadAs : List ℕ → ℕ → (from to : ℕ) → Progress → (old new : List Item) → Progress → Type 0
+abbrev pub IsReadAs : List ℕ → ℕ → (from to : ℕ) → ReadProgress → (old new : List Item) → ReadProgress → Type 0
 IsReadAs bytes first from to progress old new after = (prior : List ℕ) (items : List Item) → IsProgress bytes first from progress prior items
     → Appends old new items (IsProgress bytes first to after prior)
 
 -- the bytes from a place on refuse the text
-abbrev pub IsRefusedFrom : List ℕ → (first from : ℕ) → Progress → (old new : List Item) → Refusal → Type 0
+abbrev pub IsRefusedFrom : List ℕ → (first from : ℕ) → ReadProgress → (old new : List Item) → Refusal → Type 0
 IsRefusedFrom bytes first from progress old new refusal = (prior : List ℕ) (items : List Item) → IsProgress bytes first from progress prior items
     → IsRefusedThen (prior ++ bytes) old new items refusal

@@ -6,8 +6,8 @@ use Rattle.omega_text.specs.Cut.{Cuts, IsCut}
 use Rattle.omega_text.specs.declared.hoa.kind.HoaKind.{HoaKind}
 use Rattle.omega_text.specs.declared.hoa.kind.HoaKind.TheVariants.{End, Abort}
 use Rattle.omega_hoa.specs.Stream.{IsOpen, Opens}
-use Rattle.omega_hoa.specs.declared.outline.Outline.{Outline}
-use Rattle.omega_hoa.specs.declared.outline.Outline.TheVariants.{Empty, Stray, Open, Aborted, Whole, Followed}
+use Rattle.omega_hoa.specs.declared.outline.TextOutline.{TextOutline}
+use Rattle.omega_hoa.specs.declared.outline.TextOutline.TheVariants.{Empty, Stray, Open, Aborted, Whole, Followed}
 
 -- a token at a place that opens no segment, and others
 pub record BeginsStray (lexemes : List (Lexeme HoaKind)) (at : ℕ) : Type 0 where
@@ -46,7 +46,7 @@ pub record IsFollowed (lexemes : List (Lexeme HoaKind)) (end at : ℕ) : Type 0 
   pub there : at ≡ next.span.start
 
 -- what the tokens are
-abbrev pub IsOutline : List (Lexeme HoaKind) → Outline → Type 0
+abbrev pub IsOutline : List (Lexeme HoaKind) → TextOutline → Type 0
 IsOutline lexemes Empty = lexemes ≡ []
 IsOutline lexemes (Stray at) = BeginsStray lexemes at
 IsOutline lexemes Open = IsOpen lexemes
@@ -55,13 +55,13 @@ IsOutline lexemes (Whole end) = IsWhole lexemes end
 IsOutline lexemes (Followed end next) = IsFollowed lexemes end next
 
 -- the tokens of a text, and what they are
-pub record HasOutline (source : List ℕ) (outline : Outline) : Type 0 where
+pub record HasOutline (source : List ℕ) (outline : TextOutline) : Type 0 where
   pub lexemes : List (Lexeme HoaKind)
   pub cut : IsCut hoa_format source lexemes
   pub is : IsOutline lexemes outline
 
 -- the tokens of a text up to a place, and what they are
-pub record HasOutlineTo (source : List ℕ) (place : ℕ) (outline : Outline) : Type 0 where
+pub record HasOutlineTo (source : List ℕ) (place : ℕ) (outline : TextOutline) : Type 0 where
   pub lexemes : List (Lexeme HoaKind)
   pub cuts : Cuts hoa_format source 0 lexemes place
   pub is : IsOutline lexemes outline

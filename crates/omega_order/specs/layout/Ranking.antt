@@ -2,9 +2,9 @@
 use Rattle.std.specs.Prelude.{ℕ, Option, Some, None}
 use Rattle.std.specs.List.{range_with_len}
 use Rattle.omega_order.specs.declared.ranking.Listed.{Listed}
-use Rattle.omega_order.specs.Ranking.{Order}
+use Rattle.omega_order.specs.Ranking.{PlaceOrder}
 
 -- the order that these lists are, or none of them the places below the count in rising order
-abbrev pub order_of : ℕ → Option Listed → Order
+abbrev pub order_of : ℕ → Option Listed → PlaceOrder
 order_of count None = record { ranks = range_with_len 0 count; places = range_with_len 0 count }
 order_of count (Some listed) = record { ranks = listed.ranks.items; places = listed.places.items }

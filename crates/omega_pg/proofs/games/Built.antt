@@ -10,7 +10,7 @@ use Rattle.omega_text.specs.declared.refusal.game.GameFault.{GameFault}
 use Rattle.omega_game.specs.Building.{IsGameOf, has_duplicate, has_undefined, fault_with}
 use Rattle.omega_game.specs.Game.{IsWithinLimits, Node}
 use Rattle.omega_game.specs.declared.node_spec.NodeSpec.{NodeSpec}
-use Rattle.omega_pg.specs.game.reader.Automaton.{IsReached, IsReadyAt, State}
+use Rattle.omega_pg.specs.game.reader.Automaton.{IsReachedBy, IsReadyAt, GameReaderState}
 use Rattle.omega_pg.specs.game.reader.Built.{IsBuiltRefusal}
 use Rattle.omega_pg.specs.game.Grammar.{game_syntax}
 use Rattle.omega_text.specs.Reading.{IsReadText}
@@ -25,19 +25,19 @@ use Rattle.omega_pg.proofs.reader.Deciding.{ended_from_run}
 use Rattle.omega_pg.proofs.games.Grammar.{SpellsGame-from_run, decides_games, raw_of, small_from_run}
 
 -- the text was read, and its tokens lead to this state
-abbrev pub LeadsTo : List ℕ → State → Type 0
-LeadsTo source state = IsReadText pg_format (λ lexemes. IsReached (symbols_of lexemes) state) (TokensComplete game_syntax) source
+abbrev pub LeadsTo : List ℕ → GameReaderState → Type 0
+LeadsTo source state = IsReadText pg_format (λ lexemes. IsReachedBy (symbols_of lexemes) state) (TokensComplete game_syntax) source
 
 -- a text that was read led to the end of a node
-pub read_ended : (source : List ℕ) (state : State) → LeadsTo source state → state.stage ≡ Ended
+pub read_ended : (source : List ℕ) (state : GameReaderState) → LeadsTo source state → state.stage ≡ Ended
 read_ended source state read = ended_from_run decides_games (symbols_of read.lexemes) state read.complete.0 read.all_taken.0 read.complete.1
 
 -- so it has a node
-pub read_specified : (source : List ℕ) (state : State) → LeadsTo source state → 0 < length state.specs
+pub read_specified : (source : List ℕ) (state : GameReaderState) → LeadsTo source state → 0 < length state.specs
 read_specified source state read = subst (λ stage. IsReadyAt stage state.specs) (read_ended source state read) read.all_taken.1
 
 -- and it is of what was kept
-text_kept : (source : List ℕ) (state : State) → LeadsTo source state → IsTextOf game_syntax source (raw_of state)
+text_kept : (source : List ℕ) (state : GameReaderState) → LeadsTo source state → IsTextOf game_syntax source (raw_of state)
 text_kept source state read = record {
   lexemes = read.lexemes;
   cut = read.cut;
@@ -54,7 +54,7 @@ refused_unread source Memory refused = inl refl
 refused_unread source Io refused = absurd refused
 
 -- the refusal of what was kept is the text's
-refused_built : (source : List ℕ) (state : State) (refusal : Refusal) → LeadsTo source state
+refused_built : (source : List ℕ) (state : GameReaderState) (refusal : Refusal) → LeadsTo source state
     → IsBuiltRefusal state.header_too_small state.specs refusal → IsReadRefusal source refusal
 refused_built source state (Text fault) read refused = absurd refused
 refused_built source state (Game fault) read refused = inr (record {
@@ -89,7 +89,7 @@ Covers-from_test (Some n) (spec ∷ specs) e =
     All-cons (λ spec. spec.id ≤ n) spec specs (ltb-false n spec.id parts.0) (Covers-from_test (Some n) specs parts.1)
 
 -- the game of what was kept is the text's
-IsGameText-built : (source : List ℕ) (state : State) (game : List Node) → LeadsTo source state
+IsGameText-built : (source : List ℕ) (state : GameReaderState) (game : List Node) → LeadsTo source state
     → IsGameOf state.specs game → IsWithinLimits game → fault_with state.header_too_small state.specs ≡ None → IsGameText source game
 IsGameText-built source state game read rearranged limits faultless = record {
   short = read.short;
@@ -102,12 +102,12 @@ IsGameText-built source state game read rearranged limits faultless = record {
 }
 
 -- the two, of what a call gave
-pub refused_built_all : (source : List ℕ) (state : State) (result : Result (List Node) Refusal) → LeadsTo source state
+pub refused_built_all : (source : List ℕ) (state : GameReaderState) (result : Result (List Node) Refusal) → LeadsTo source state
     → IfErr result (IsBuiltRefusal state.header_too_small state.specs) → IfErr result (IsReadRefusal source)
 refused_built_all source state (Ok game) read refused = tt
 refused_built_all source state (Err refusal) read refused = refused_built source state refusal read refused
 
-pub IsGameText-built_all : (source : List ℕ) (state : State) (result : Result (List Node) Refusal) → LeadsTo source state
+pub IsGameText-built_all : (source : List ℕ) (state : GameReaderState) (result : Result (List Node) Refusal) → LeadsTo source state
     → IfOk result (IsGameOf state.specs) → IfOk result IsWithinLimits → IfOk result (λ _. fault_with state.header_too_small state.specs ≡ None)
     → IfOk result (IsGameText source)
 IsGameText-built_all source state (Ok game) read rearranged limits faultless = IsGameText-built source state game read rearranged limits faultless

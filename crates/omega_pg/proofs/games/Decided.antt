@@ -4,14 +4,14 @@ use Rattle.std.specs.List.{AllByRecursion, flat_map}
 use Rattle.omega_text.specs.Limits.{most_text}
 use Rattle.omega_text.specs.declared.refusal.Refusal.{Refusal}
 use Rattle.omega_text.specs.declared.refusal.Refusal.TheVariants.{Game, Text}
-use Rattle.omega_game.specs.Building.{IsWellFormed, fault_of, fault_with}
+use Rattle.omega_game.specs.Building.{IsWellFormed, game_fault_of, fault_with}
 use Rattle.omega_game.specs.Game.{Node}
 use Rattle.omega_game.specs.Laws.{GamesExist, GamesKeepLimits}
 use Rattle.omega_pg.specs.game.Grammar.{RawGame, header_symbols, node_symbols, game_syntax}
 use Rattle.omega_pg.specs.game.Laws.{TextsAreReadOrRefused}
 use Rattle.omega_pg.specs.game.Refusing.{IsRefusal, fault_in, is_header_small}
 use Rattle.omega_pg.specs.Symbols.{symbols_of}
-use Rattle.omega_text.specs.Syntax.{IsDecided, IsTextOf, TextsAreReadOrFaulty}
+use Rattle.omega_text.specs.Syntax.{IsDecidable, IsTextOf, TextsAreReadOrFaulty}
 use Rattle.omega_pg.specs.game.Text.{IsGameText}
 use Rattle.omega_pg.proofs.games.Built.{Covers-from_test, header_fits}
 use Rattle.omega_pg.proofs.reader.Deciding.{decided_from_run}
@@ -30,7 +30,7 @@ decided_raw exist keep source raw short writes =
           let well : All IsWellFormed raw.specs = specs_well_formed raw.specs writes.text.continued
           (sound_back (header_symbols raw.header) (flat_map node_symbols raw.specs) (subst (AllByRecursion IsSound) writes.text.spelled sound)) in
           let fits : is_header_small raw.header raw.specs ≡ false = header_fits (is_header_small raw.header raw.specs) raw.specs e in
-          let faultless : fault_of raw.specs ≡ None = subst (λ small. fault_with small raw.specs ≡ None) fits e in
+          let faultless : game_fault_of raw.specs ≡ None = subst (λ small. fault_with small raw.specs ≡ None) fits e in
           let found = exist raw.specs writes.text.specified well faultless in
           inl (
             found.0,
@@ -47,7 +47,7 @@ decided_raw exist keep source raw short writes =
     refl
 
 -- each text is read or refused
-pub texts_decided : (IsDecided game_syntax → TextsAreReadOrFaulty game_syntax) → GamesExist → GamesKeepLimits → TextsAreReadOrRefused
+pub texts_decided : (IsDecidable game_syntax → TextsAreReadOrFaulty game_syntax) → GamesExist → GamesKeepLimits → TextsAreReadOrRefused
 texts_decided read_or exist keep source =
     elim (read_or (decided_from_run decides_games) source)
     as (λ _. ((game : List Node) × IsGameText source game) ⊎ ((refusal : Refusal) × IsRefusal source refusal)) [

@@ -10,8 +10,8 @@ use Rattle.omega_game.specs.Building.{IsWellFormed, specified}
 use Rattle.omega_game.specs.Game.{IsGame, IsWithinLimits, Node, identifiers, no_node, node_at, successors_at, greatest_identifier, identifier_at}
 use Rattle.omega_text.specs.Limits.{most_number}
 use Rattle.omega_game.specs.declared.node_spec.NodeSpec.{NodeSpec}
-use Rattle.omega_pg.specs.game.Canonical.{canonical}
-use Rattle.omega_pg.specs.game.Laws.{CanonicalTextsAreRead}
+use Rattle.omega_pg.specs.game.Canonical.{canonical_game}
+use Rattle.omega_pg.specs.game.Laws.{CanonicalGamesAreRead}
 use Rattle.omega_pg.proofs.games.Written.{text_written}
 use Rattle.omega_pg.proofs.games.Listed.{successors_are_places}
 
@@ -58,13 +58,13 @@ greatest_is_greatest nodes game v inside =
     omega (arith, here, there, ap (slice_index (identifiers nodes)) sum, rise)
 
 -- the canonical text stands for the game
-pub canonical_read : TokensFollow → EndsAreGaps → NumbersAreLongest → WordsAreLongest → SignsAreLongest → NamesAreLongest → CanonicalTextsAreRead
+pub canonical_read : TokensFollow → EndsAreGaps → NumbersAreLongest → WordsAreLongest → SignsAreLongest → NamesAreLongest → CanonicalGamesAreRead
 canonical_read tokens gaps numbers words signs names nodes game limits short =
     let specs = map (specified nodes) nodes in
     let greatest = greatest_identifier nodes in
     let well : All IsWellFormed specs = specs_well nodes game limits in
     let fits : greatest ≤ most_number = identifier_fits nodes _ limits (omega (arith, game.inhabited)) in
-    let cut = text_written tokens gaps numbers words signs names greatest specs fits well (canonical nodes) 0 (omega arith) refl in
+    let cut = text_written tokens gaps numbers words signs names greatest specs fits well (canonical_game nodes) 0 (omega arith) refl in
     record {
       short = short;
       raw = record { header = Some greatest; specs = specs };

@@ -9,10 +9,10 @@ use Rattle.std.proofs.lemmas.List.Folds.{list_any-append}
 use Rattle.omega_game.specs.Building.{with_last, with_name, with_successor}
 use Rattle.omega_game.specs.declared.node_spec.NodeSpec.{NodeSpec}
 use Rattle.omega_pg.proofs.games.Players.{player_of-number}
-use Rattle.omega_pg.specs.game.reader.Automaton.{State, after_comma, after_name, after_number, after_semicolon, after_word, begun, is_above, player_of, step, to_stage}
+use Rattle.omega_pg.specs.game.reader.Automaton.{GameReaderState, after_comma, after_name, after_number, after_semicolon, after_word, begun, is_above, player_of, step, to_stage}
 use Rattle.omega_pg.specs.game.Grammar.{header_symbols, name_symbols, node_symbols, successor_symbols}
 use Rattle.omega_pg.specs.game.Refusing.{is_header_small}
-use Rattle.omega_pg.specs.Symbols.{Symbol, comma, name, number, parity, paritysol, semicolon}
+use Rattle.omega_pg.specs.Symbols.{PgSymbol, comma, name, number, parity, paritysol, semicolon}
 use Rattle.omega_game.specs.Player.{player_number}
 use Rattle.omega_pg.specs.declared.game.stage.Stage.{Stage}
 use Rattle.omega_pg.specs.declared.game.stage.Stage.TheVariants.{Comma, Ended, Headed, Identifier, Listed, Named, Number, Owner, Priority, Start, Word}
@@ -24,20 +24,20 @@ abbrev pub IsContinued : NodeSpec → Type 0
 IsContinued spec = 0 < length spec.successors
 
 -- the symbols of a header and whole nodes
-abbrev pub spelled : Option ℕ → List NodeSpec → List Symbol
+abbrev pub spelled : Option ℕ → List NodeSpec → List PgSymbol
 spelled header specs = header_symbols header ++ flat_map node_symbols specs
 
 -- the symbols of a node without its name and its end
-abbrev pub front : NodeSpec → List Symbol
+abbrev pub front : NodeSpec → List PgSymbol
 front spec = number spec.id ∷ number spec.priority ∷ number (player_number spec.owner) ∷ successor_symbols spec.successors
 
 -- whole nodes, and then these symbols
-pub record IsBehind (header : Option ℕ) (specs : List NodeSpec) (begun symbols : List Symbol) : Type 0 where
+pub record IsBehind (header : Option ℕ) (specs : List NodeSpec) (begun symbols : List PgSymbol) : Type 0 where
   pub continued : All IsContinued specs
   pub shown : symbols ≡ spelled header specs ++ begun
 
 -- whole nodes, and then a node that is open, shown like this
-pub record IsOpen (header : Option ℕ) (specs : List NodeSpec) (shows : NodeSpec → List Symbol) (symbols : List Symbol) : Type 0 where
+pub record IsOpen (header : Option ℕ) (specs : List NodeSpec) (shows : NodeSpec → List PgSymbol) (symbols : List PgSymbol) : Type 0 where
   pub done : List NodeSpec
   pub last : NodeSpec
   pub split : specs ≡ done ++ last ∷ []
@@ -46,17 +46,17 @@ pub record IsOpen (header : Option ℕ) (specs : List NodeSpec) (shows : NodeSpe
   pub shown : symbols ≡ spelled header done ++ shows last
 
 -- the last node has no name yet
-pub record IsUnnamed (header : Option ℕ) (specs : List NodeSpec) (shows : NodeSpec → List Symbol) (symbols : List Symbol) : Type 0 where
+pub record IsUnnamed (header : Option ℕ) (specs : List NodeSpec) (shows : NodeSpec → List PgSymbol) (symbols : List PgSymbol) : Type 0 where
   pub opened : IsOpen header specs shows symbols
   pub unnamed : opened.last.name ≡ None
 
 -- nothing but the beginning of a header
-pub record IsHeader (header : Option ℕ) (specs : List NodeSpec) (begun symbols : List Symbol) : Type 0 where
+pub record IsHeader (header : Option ℕ) (specs : List NodeSpec) (begun symbols : List PgSymbol) : Type 0 where
   pub none : header ≡ None
   pub empty : specs ≡ []
   pub shown : symbols ≡ begun
 
-abbrev pub ShowsAt : Stage → Option ℕ → List NodeSpec → List Symbol → Type 0
+abbrev pub ShowsAt : Stage → Option ℕ → List NodeSpec → List PgSymbol → Type 0
 ShowsAt Start header specs symbols = IsHeader header specs [] symbols
 ShowsAt Word header specs symbols = IsHeader header specs (parity ∷ []) symbols
 ShowsAt (Number n) header specs symbols = IsHeader header specs (parity ∷ number n ∷ []) symbols
@@ -70,7 +70,7 @@ ShowsAt Comma header specs symbols = IsUnnamed header specs (λ spec. front spec
 ShowsAt Named header specs symbols = IsOpen header specs (λ spec. front spec ++ name_symbols spec.name) symbols
 
 -- the symbols lead to the state
-pub record Shows (state : State) (symbols : List Symbol) : Type 0 where
+pub record Shows (state : GameReaderState) (symbols : List PgSymbol) : Type 0 where
   pub there : ShowsAt state.stage state.header state.specs symbols
   pub small : state.header_too_small ≡ is_header_small state.header state.specs
 
@@ -96,7 +96,7 @@ spelled-push header specs spec =
     ∙ sym (append_assoc (header_symbols header) (flat_map node_symbols specs) (node_symbols spec))
 
 -- one symbol more behind whole nodes
-IsBehind-push : (header : Option ℕ) (specs : List NodeSpec) (begun symbols : List Symbol) (symbol : Symbol)
+IsBehind-push : (header : Option ℕ) (specs : List NodeSpec) (begun symbols : List PgSymbol) (symbol : PgSymbol)
     → IsBehind header specs begun symbols → IsBehind header specs (begun ++ symbol ∷ []) (symbols ++ symbol ∷ [])
 IsBehind-push header specs begun symbols symbol shown = record {
   continued = shown.continued;
@@ -115,7 +115,7 @@ is_header_small-change header specs done last change split same =
     ∙ sym (ap (is_header_small header) (ap (with_last change) split ∙ with_last_push change done last))
 
 -- what a number leads to is shown
-number_shown : (stage : Stage) (header : Option ℕ) (specs : List NodeSpec) (small : Bool) (symbols : List Symbol) (n : ℕ)
+number_shown : (stage : Stage) (header : Option ℕ) (specs : List NodeSpec) (small : Bool) (symbols : List PgSymbol) (n : ℕ)
     → Shows (at stage header specs small) symbols
     → IfSome (after_number stage (at stage header specs small) n) (λ next. Shows next (symbols ++ number n ∷ []))
 number_shown Start header specs small symbols n shows = record {
@@ -192,7 +192,7 @@ number_shown Comma header specs small symbols n shows =
 number_shown Named header specs small symbols n shows = tt
 
 -- what the word `parity` leads to is shown
-word_shown : (stage : Stage) (header : Option ℕ) (specs : List NodeSpec) (small : Bool) (symbols : List Symbol)
+word_shown : (stage : Stage) (header : Option ℕ) (specs : List NodeSpec) (small : Bool) (symbols : List PgSymbol)
     → Shows (at stage header specs small) symbols
     → IfSome (after_word stage (at stage header specs small)) (λ next. Shows next (symbols ++ parity ∷ []))
 word_shown Start header specs small symbols shows = record {
@@ -202,7 +202,7 @@ word_shown Start header specs small symbols shows = record {
 word_shown _ header specs small symbols shows = tt
 
 -- an open node that ends is a node more
-ended_shown : (header : Option ℕ) (specs : List NodeSpec) (shows : NodeSpec → List Symbol) (symbols : List Symbol) (opened : IsOpen header specs shows symbols)
+ended_shown : (header : Option ℕ) (specs : List NodeSpec) (shows : NodeSpec → List PgSymbol) (symbols : List PgSymbol) (opened : IsOpen header specs shows symbols)
     → shows opened.last ++ semicolon ∷ [] ≡ node_symbols opened.last
     → (0 < length specs) × IsBehind header specs [] (symbols ++ semicolon ∷ [])
 ended_shown header specs shows symbols opened ends = (
@@ -219,7 +219,7 @@ ended_shown header specs shows symbols opened ends = (
 )
 
 -- what a semicolon leads to is shown
-semicolon_shown : (stage : Stage) (header : Option ℕ) (specs : List NodeSpec) (small : Bool) (symbols : List Symbol)
+semicolon_shown : (stage : Stage) (header : Option ℕ) (specs : List NodeSpec) (small : Bool) (symbols : List PgSymbol)
     → Shows (at stage header specs small) symbols
     → IfSome (after_semicolon stage (at stage header specs small)) (λ next. Shows next (symbols ++ semicolon ∷ []))
 semicolon_shown Start header specs small symbols shows = tt
@@ -257,7 +257,7 @@ semicolon_shown Named header specs small symbols shows =
     }
 
 -- what a comma leads to is shown
-comma_shown : (stage : Stage) (header : Option ℕ) (specs : List NodeSpec) (small : Bool) (symbols : List Symbol)
+comma_shown : (stage : Stage) (header : Option ℕ) (specs : List NodeSpec) (small : Bool) (symbols : List PgSymbol)
     → Shows (at stage header specs small) symbols
     → IfSome (after_comma stage (at stage header specs small)) (λ next. Shows next (symbols ++ comma ∷ []))
 comma_shown Listed header specs small symbols shows =
@@ -279,7 +279,7 @@ comma_shown Listed header specs small symbols shows =
 comma_shown _ header specs small symbols shows = tt
 
 -- what a name leads to is shown
-name_shown : (stage : Stage) (header : Option ℕ) (specs : List NodeSpec) (small : Bool) (symbols : List Symbol) (bytes : List ℕ)
+name_shown : (stage : Stage) (header : Option ℕ) (specs : List NodeSpec) (small : Bool) (symbols : List PgSymbol) (bytes : List ℕ)
     → Shows (at stage header specs small) symbols
     → IfSome (after_name stage (at stage header specs small) bytes) (λ next. Shows next (symbols ++ name bytes ∷ []))
 name_shown Listed header specs small symbols bytes shows =
@@ -299,7 +299,7 @@ name_shown Listed header specs small symbols bytes shows =
 name_shown _ header specs small symbols bytes shows = tt
 
 -- what a symbol leads to is shown
-pub step_shown : (state : State) (symbols : List Symbol) (symbol : Symbol) → Shows state symbols
+pub step_shown : (state : GameReaderState) (symbols : List PgSymbol) (symbol : PgSymbol) → Shows state symbols
     → IfSome (step state symbol) (λ next. Shows next (symbols ++ symbol ∷ []))
 step_shown state symbols (number n) shows = number_shown state.stage state.header state.specs state.header_too_small symbols n shows
 step_shown state symbols parity shows = word_shown state.stage state.header state.specs state.header_too_small symbols shows

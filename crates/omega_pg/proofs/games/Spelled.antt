@@ -6,20 +6,20 @@ use Rattle.omega_game.specs.Building.{with_name, with_successor}
 use Rattle.omega_game.specs.declared.node_spec.NodeSpec.{NodeSpec}
 use Rattle.omega_game.specs.declared.player.Player.{Player}
 use Rattle.omega_game.specs.declared.player.Player.TheVariants.{One, Zero}
-use Rattle.omega_pg.specs.game.reader.Automaton.{State, begun, initial, is_above, run}
+use Rattle.omega_pg.specs.game.reader.Automaton.{GameReaderState, begun, initial, is_above, run}
 use Rattle.omega_pg.specs.game.Grammar.{RawGame, SpellsGame, header_symbols, name_symbols, node_symbols, successor_symbols}
-use Rattle.omega_pg.specs.Symbols.{Symbol, comma, number, semicolon}
+use Rattle.omega_pg.specs.Symbols.{PgSymbol, comma, number, semicolon}
 use Rattle.omega_game.specs.Player.{player_number}
 use Rattle.omega_pg.specs.declared.game.stage.Stage.{Stage}
 use Rattle.omega_pg.specs.declared.game.stage.Stage.TheVariants.{Ended, Identifier, Listed, Owner, Priority}
 use Rattle.omega_pg.proofs.games.Changes.{with_last_push}
 
 -- a state with these parts
-abbrev pub at : Stage → Option ℕ → List NodeSpec → Bool → State
+abbrev pub at : Stage → Option ℕ → List NodeSpec → Bool → GameReaderState
 at stage header specs small = record { stage = stage; header = header; specs = specs; header_too_small = small }
 
 -- further successors are added to the last specification
-run_successors : (header : Option ℕ) (small : Bool) (specs : List NodeSpec) (spec : NodeSpec) (others : List ℕ) (rest : List Symbol)
+run_successors : (header : Option ℕ) (small : Bool) (specs : List NodeSpec) (spec : NodeSpec) (others : List ℕ) (rest : List PgSymbol)
     → run (at Listed header (specs ++ spec ∷ []) small) (flat_map (λ id. comma ∷ number id ∷ []) others ++ rest)
     ≡ run (at Listed header (specs ++ record spec { successors = spec.successors ++ others } ∷ []) small) rest
 run_successors header small specs spec [] rest =
@@ -30,7 +30,7 @@ run_successors header small specs spec (id ∷ others) rest =
     ∙ ap (λ successors. run (at Listed header (specs ++ record spec { successors = successors } ∷ []) small) rest) (append_assoc spec.successors (id ∷ []) others)
 
 -- a name and the semicolon end the last specification
-run_end : (header : Option ℕ) (small : Bool) (specs : List NodeSpec) (spec : NodeSpec) (called : Option (List ℕ)) (rest : List Symbol)
+run_end : (header : Option ℕ) (small : Bool) (specs : List NodeSpec) (spec : NodeSpec) (called : Option (List ℕ)) (rest : List PgSymbol)
     → spec.name ≡ None
     → run (at Listed header (specs ++ spec ∷ []) small) ((name_symbols called ++ semicolon ∷ []) ++ rest)
     ≡ run (at Ended header (specs ++ record spec { name = called } ∷ []) small) rest
@@ -40,7 +40,7 @@ run_end header small specs spec (Some bytes) rest e =
     ap (λ list. run (at Ended header list small) rest) (with_last_push (with_name bytes) specs spec)
 
 -- the symbols of a node add its specification
-run_open : (header : Option ℕ) (small : Bool) (specs : List NodeSpec) (id priority : ℕ) (owner : Player) (successors : List ℕ) (called : Option (List ℕ)) (rest : List Symbol)
+run_open : (header : Option ℕ) (small : Bool) (specs : List NodeSpec) (id priority : ℕ) (owner : Player) (successors : List ℕ) (called : Option (List ℕ)) (rest : List PgSymbol)
     → 0 < length successors
     → run (at (Owner id priority owner) header specs small) ((successor_symbols successors ++ (name_symbols called ++ semicolon ∷ [])) ++ rest)
     ≡ run (at Ended header (specs ++ record { id = id; priority = priority; owner = owner; successors = successors; name = called } ∷ []) (small || is_above header id)) rest
@@ -51,13 +51,13 @@ run_open header small specs id priority owner (first ∷ others) called rest h =
     ∙ run_successors header (small || is_above header id) specs (begun id priority owner first) others ((name_symbols called ++ semicolon ∷ []) ++ rest)
     ∙ run_end header (small || is_above header id) specs (record { id = id; priority = priority; owner = owner; successors = first ∷ others; name = None }) called rest refl
 
-run_owner : (header : Option ℕ) (small : Bool) (specs : List NodeSpec) (id priority : ℕ) (owner : Player) (symbols : List Symbol)
+run_owner : (header : Option ℕ) (small : Bool) (specs : List NodeSpec) (id priority : ℕ) (owner : Player) (symbols : List PgSymbol)
     → run (at (Priority id priority) header specs small) (number (player_number owner) ∷ symbols)
     ≡ run (at (Owner id priority owner) header specs small) symbols
 run_owner header small specs id priority Zero symbols = refl
 run_owner header small specs id priority One symbols = refl
 
-pub run_node : (header : Option ℕ) (small : Bool) (specs : List NodeSpec) (spec : NodeSpec) (rest : List Symbol)
+pub run_node : (header : Option ℕ) (small : Bool) (specs : List NodeSpec) (spec : NodeSpec) (rest : List PgSymbol)
     → 0 < length spec.successors
     → run (at (Identifier spec.id) header specs small) (number spec.priority ∷ number (player_number spec.owner)
     ∷ ((successor_symbols spec.successors ++ (name_symbols spec.name ++ semicolon ∷ [])) ++ rest))
@@ -67,7 +67,7 @@ run_node header small specs spec rest h =
     ∙ run_open header small specs spec.id spec.priority spec.owner spec.successors spec.name rest h
 
 -- a run ended behind nodes, and kept these
-pub record Keeps (state : State) (symbols : List Symbol) (header : Option ℕ) (specs : List NodeSpec) : Type 0 where
+pub record Keeps (state : GameReaderState) (symbols : List PgSymbol) (header : Option ℕ) (specs : List NodeSpec) : Type 0 where
   pub small : Bool
   pub runs : run state symbols ≡ Some (at Ended header specs small)
 
@@ -103,7 +103,7 @@ run_spelling (Some n) (spec ∷ more) h all =
     }
 
 -- each text of the grammar is run, and kept
-pub run_text : (symbols : List Symbol) (raw : RawGame) → SpellsGame symbols raw → Keeps initial symbols raw.header raw.specs
+pub run_text : (symbols : List PgSymbol) (raw : RawGame) → SpellsGame symbols raw → Keeps initial symbols raw.header raw.specs
 run_text symbols raw text =
     let found = run_spelling raw.header raw.specs text.specified text.continued in
     record { small = found.small; runs = ap (run initial) text.spelled ∙ found.runs }

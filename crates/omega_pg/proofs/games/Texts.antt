@@ -8,11 +8,11 @@ use Rattle.omega_text.specs.Syntax.{TextFaultsAreOne, TextsHaveNoFault}
 use Rattle.omega_text.specs.pg.Format.{pg_format}
 use Rattle.omega_text.specs.declared.refusal.Refusal.TheVariants.{Automaton, Game, Io, Memory, Task, Text}
 use Rattle.omega_text.specs.declared.refusal.game.GameFault.{GameFault}
-use Rattle.omega_game.specs.Building.{IsGameOf, fault_of, fault_with}
+use Rattle.omega_game.specs.Building.{IsGameOf, game_fault_of, fault_with}
 use Rattle.omega_game.specs.Laws.{GamesHaveNoFault, SpecificationsHaveOneGame}
 use Rattle.omega_game.specs.declared.node_spec.NodeSpec.{NodeSpec}
 use Rattle.omega_pg.specs.game.Grammar.{RawGame, game_syntax}
-use Rattle.omega_pg.specs.game.Laws.{GamesAreNotRefused, GamesOfTextsAreOne, RefusalsAreOne}
+use Rattle.omega_pg.specs.game.Laws.{GamesAreNotRefused, GamesOfTextsAreOne, GameRefusalsAreOne}
 use Rattle.omega_pg.specs.game.Refusing.{fault_in, is_header_small}
 use Rattle.omega_pg.specs.game.Text.{Covers}
 use Rattle.omega_pg.proofs.reader.Deciding.{texts_one}
@@ -34,7 +34,7 @@ small_from_Covers (Some n) (spec ∷ specs) covers =
     (small_from_Covers (Some n) specs (All-tail (λ (one : NodeSpec). one.id ≤ n) spec specs covers))
 
 -- without a fault of the specifications, behind a header that covers them, there is none
-fault_in-none : (raw : RawGame) → fault_of raw.specs ≡ None → Covers raw.header raw.specs → fault_in raw ≡ None
+fault_in-none : (raw : RawGame) → game_fault_of raw.specs ≡ None → Covers raw.header raw.specs → fault_in raw ≡ None
 fault_in-none raw e covers =
     subst (λ small. fault_with small raw.specs ≡ None) (sym (small_from_Covers raw.header raw.specs covers)) e
 
@@ -53,7 +53,7 @@ games_apart cuts none faultless source game Memory text refused = refused
 games_apart cuts none faultless source game Io text refused = refused
 
 -- a text has at most one refusal
-pub refusals_one : CutsAreOne pg_format → TextFaultsAreOne game_syntax → TextsHaveNoFault game_syntax → RefusalsAreOne
+pub refusals_one : CutsAreOne pg_format → TextFaultsAreOne game_syntax → TextsHaveNoFault game_syntax → GameRefusalsAreOne
 refusals_one cuts same none source (Text a) (Text b) x y = ap (λ fault. Text fault) (same source a b x y)
 refusals_one cuts same none source (Text a) (Game b) x y = absurd (none source y.raw a y.short y.writes x)
 refusals_one cuts same none source (Game a) (Text b) x y = absurd (none source x.raw b x.short x.writes y)

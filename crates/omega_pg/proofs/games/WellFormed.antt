@@ -18,10 +18,11 @@ use Rattle.omega_game.specs.Game.{IsNameByte}
 use Rattle.omega_text.specs.Limits.{most_number}
 use Rattle.omega_game.specs.declared.node_spec.NodeSpec.{NodeSpec}
 use Rattle.omega_pg.specs.game.Grammar.{name_symbols, node_symbols, successor_symbols}
-use Rattle.omega_pg.specs.Symbols.{Symbol, comma, name, number, parity, paritysol, semicolon, symbol, symbols_of, between_quotes}
+use Rattle.omega_pg.specs.Symbols.{PgSymbol, comma, name, number, parity, paritysol, semicolon, symbol, symbols_of}
+use Rattle.omega_text.specs.Forms.{between_quotes}
 
 -- a symbol that a token may be: a number within the limit, or a name of the allowed bytes
-abbrev pub IsSound : Symbol → Type 0
+abbrev pub IsSound : PgSymbol → Type 0
 IsSound (number n) = n ≤ most_number
 IsSound parity = Unit {0}
 IsSound paritysol = Unit {0}
@@ -60,21 +61,21 @@ sound_symbols source from to (one ∷ lexemes) cuts =
     (sound_symbol one.kind one.value one.text cuts.0.token.spells, sound_symbols source one.span.end to lexemes cuts.1)
 
 -- what holds of all symbols holds of those behind
-pub sound_back : (xs ys : List Symbol) → AllByRecursion IsSound (xs ++ ys) → AllByRecursion IsSound ys
+pub sound_back : (xs ys : List PgSymbol) → AllByRecursion IsSound (xs ++ ys) → AllByRecursion IsSound ys
 sound_back [] ys all = all
 sound_back (x ∷ xs) ys all = sound_back xs ys all.1
 
-sound_others : (others : List ℕ) (rest : List Symbol) → AllByRecursion IsSound (flat_map (λ id. comma ∷ number id ∷ []) others ++ rest)
+sound_others : (others : List ℕ) (rest : List PgSymbol) → AllByRecursion IsSound (flat_map (λ id. comma ∷ number id ∷ []) others ++ rest)
     → All (λ id. id ≤ most_number) others
 sound_others [] rest all = All-nil (λ id. id ≤ most_number)
 sound_others (id ∷ others) rest all = All-cons (λ id. id ≤ most_number) id others all.1.0 (sound_others others rest all.1.1)
 
-sound_successors : (successors : List ℕ) (rest : List Symbol) → AllByRecursion IsSound (successor_symbols successors ++ rest)
+sound_successors : (successors : List ℕ) (rest : List PgSymbol) → AllByRecursion IsSound (successor_symbols successors ++ rest)
     → All (λ id. id ≤ most_number) successors
 sound_successors [] rest all = All-nil (λ id. id ≤ most_number)
 sound_successors (first ∷ others) rest all = All-cons (λ id. id ≤ most_number) first others all.0 (sound_others others rest all.1)
 
-sound_name : (called : Option (List ℕ)) (rest : List Symbol) → AllByRecursion IsSound (name_symbols called ++ rest) → IfSome called (All IsNameByte)
+sound_name : (called : Option (List ℕ)) (rest : List PgSymbol) → AllByRecursion IsSound (name_symbols called ++ rest) → IfSome called (All IsNameByte)
 sound_name None rest all = tt
 sound_name (Some bytes) rest all = all.0
 

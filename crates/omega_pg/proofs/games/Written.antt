@@ -13,7 +13,7 @@ use Rattle.omega_game.specs.declared.player.Player.{Player}
 use Rattle.omega_game.specs.declared.player.Player.TheVariants.{One, Zero}
 use Rattle.omega_pg.specs.game.Canonical.{header_line, listed, listed_behind, name_part, node_line}
 use Rattle.omega_pg.specs.game.Grammar.{header_symbols, name_symbols, node_symbols, successor_symbols}
-use Rattle.omega_pg.specs.Symbols.{Symbol, comma, number, semicolon}
+use Rattle.omega_pg.specs.Symbols.{PgSymbol, comma, number, semicolon}
 use Rattle.omega_game.specs.Player.{player_number}
 use Rattle.omega_pg.proofs.reader.Pieces.{EndsNumber, IsWritten, comma_written, end_written, name_written, number_written, parity_written, semicolon_written}
 
@@ -46,7 +46,7 @@ others_end (id ∷ others) rest ends = refl
 
 module _ (tokens : TokensFollow) (gaps : EndsAreGaps) (numbers : NumbersAreLongest) (words : WordsAreLongest) (signs : SignsAreLongest) (names : NamesAreLongest) where
   -- a name, the semicolon, and what is behind
-  name_end_written : (called : Option (List ℕ)) (rest : List ℕ) (symbols : List Symbol) → IfSome called (All IsNameByte) → IsWritten rest symbols
+  name_end_written : (called : Option (List ℕ)) (rest : List ℕ) (symbols : List PgSymbol) → IfSome called (All IsNameByte) → IsWritten rest symbols
       → IsWritten (name_part called ++ (59 ∷ rest)) (name_symbols called ++ (semicolon ∷ symbols))
   name_end_written None rest symbols allowed then = semicolon_written tokens gaps numbers words signs names rest symbols then
   name_end_written (Some bytes) rest symbols allowed then =
@@ -54,7 +54,7 @@ module _ (tokens : TokensFollow) (gaps : EndsAreGaps) (numbers : NumbersAreLonge
       (semicolon_written tokens gaps numbers words signs names rest symbols then)
 
   -- further identifiers, each behind a comma
-  others_written : (others rest : List ℕ) (symbols : List Symbol) → All (λ id. id ≤ most_number) others → EndsNumber rest → IsWritten rest symbols
+  others_written : (others rest : List ℕ) (symbols : List PgSymbol) → All (λ id. id ≤ most_number) others → EndsNumber rest → IsWritten rest symbols
       → IsWritten (listed_behind others ++ rest) (flat_map (λ id. comma ∷ number id ∷ []) others ++ symbols)
   others_written [] rest symbols fits ends then = then
   others_written (id ∷ others) rest symbols fits ends then =
@@ -67,7 +67,7 @@ module _ (tokens : TokensFollow) (gaps : EndsAreGaps) (numbers : NumbersAreLonge
       (others_written others rest symbols (All-tail (λ id. id ≤ most_number) id others fits) ends then)))
 
   -- identifiers behind a space
-  listed_written : (ids rest : List ℕ) (symbols : List Symbol) → 0 < length ids → All (λ id. id ≤ most_number) ids → EndsNumber rest → IsWritten rest symbols
+  listed_written : (ids rest : List ℕ) (symbols : List PgSymbol) → 0 < length ids → All (λ id. id ≤ most_number) ids → EndsNumber rest → IsWritten rest symbols
       → IsWritten (32 ∷ (listed ids ++ rest)) (successor_symbols ids ++ symbols)
   listed_written [] rest symbols some fits ends then = absurd (omega (arith, some))
   listed_written (first ∷ others) rest symbols some fits ends then =
@@ -79,7 +79,7 @@ module _ (tokens : TokensFollow) (gaps : EndsAreGaps) (numbers : NumbersAreLonge
       (others_written others rest symbols (All-tail (λ id. id ≤ most_number) first others fits) ends then))
 
   -- a line behind a line feed
-  line_written : (spec : NodeSpec) (rest : List ℕ) (symbols : List Symbol) → IsWellFormed spec → IsWritten (10 ∷ rest) symbols
+  line_written : (spec : NodeSpec) (rest : List ℕ) (symbols : List PgSymbol) → IsWellFormed spec → IsWritten (10 ∷ rest) symbols
       → IsWritten (10 ∷ (node_line spec ++ rest)) (node_symbols spec ++ symbols)
   line_written spec rest symbols well then =
       let ending = name_part spec.name ++ (59 ∷ 10 ∷ rest) in

@@ -3,45 +3,45 @@ use Rattle.std.proofs.Common.{◌≡◌, ℕ, ◌⊎◌, inl, inr, Option, Some,
 use Rattle.std.proofs.lemmas.List.{map-append}
 use Rattle.omega_text.specs.Cut.{CutsAreOne}
 use Rattle.omega_text.specs.Lexeme.{Lexeme}
-use Rattle.omega_text.specs.Syntax.{Begins, IsDecided, IsTextOf, IsUnfinished, TokensBegin, TokensComplete}
+use Rattle.omega_text.specs.Syntax.{Begins, IsDecidable, IsTextOf, IsUnfinished, TokensBegin, TokensComplete}
 use Rattle.omega_text.specs.pg.Format.{pg_format}
 use Rattle.omega_text.specs.declared.pg.kind.PgKind.{PgKind}
 use Rattle.omega_pg.specs.reader.Run.{run_by}
-use Rattle.omega_pg.specs.Symbols.{Symbol, pg_syntax, symbol_of, symbols_of}
+use Rattle.omega_pg.specs.Symbols.{PgSymbol, pg_syntax, pg_symbol_of, symbols_of}
 use Rattle.omega_pg.proofs.reader.Runs.{run_by_on, run_by_push, run_by_stopped}
 
 -- symbols lead to an end, where this raw text is kept
-pub record Reads {Raw State : Type 0} (step : State → Symbol → Option State) (from : State) (IsEnded : State → Type 0) (raw_of : State → Raw)
-    (symbols : List Symbol) (raw : Raw) : Type 0 where
+pub record Reads {Raw State : Type 0} (step : State → PgSymbol → Option State) (from : State) (IsEnded : State → Type 0) (raw_of : State → Raw)
+    (symbols : List PgSymbol) (raw : Raw) : Type 0 where
   pub state : State
   pub runs : run_by step from symbols ≡ Some state
   pub ended : IsEnded state
   pub kept : raw_of state ≡ raw
 
 -- symbols that lead from a state to an end
-pub record Completes {State : Type 0} (step : State → Symbol → Option State) (IsEnded : State → Type 0) (from : State) : Type 0 where
-  pub more : List Symbol
+pub record Completes {State : Type 0} (step : State → PgSymbol → Option State) (IsEnded : State → Type 0) (from : State) : Type 0 where
+  pub more : List PgSymbol
   pub state : State
   pub runs : run_by step from more ≡ Some state
   pub ended : IsEnded state
 
 -- an automaton decides a grammar: it runs to an end over each text of it, over nothing else,
 -- and can get there from everywhere
-pub record Decides {Raw State : Type 0} (Grammar : List Symbol → Raw → Type 0) (step : State → Symbol → Option State) (initial : State)
+pub record Decides {Raw State : Type 0} (Grammar : List PgSymbol → Raw → Type 0) (step : State → PgSymbol → Option State) (initial : State)
     (IsEnded : State → Type 0) (raw_of : State → Raw) : Type 0 where
-  pub reads : (symbols : List Symbol) (raw : Raw) → Grammar symbols raw → Reads step initial IsEnded raw_of symbols raw
-  pub text : (symbols : List Symbol) (state : State) → run_by step initial symbols ≡ Some state → IsEnded state → Grammar symbols (raw_of state)
+  pub reads : (symbols : List PgSymbol) (raw : Raw) → Grammar symbols raw → Reads step initial IsEnded raw_of symbols raw
+  pub text : (symbols : List PgSymbol) (state : State) → run_by step initial symbols ≡ Some state → IsEnded state → Grammar symbols (raw_of state)
   pub completes : (state : State) → Completes step IsEnded state
   pub ends : (state : State) → IsEnded state ⊎ (IsEnded state → ⊥)
 
 -- the symbols of tokens and one more
-pub symbols_of-push : (lexemes : List (Lexeme PgKind)) (lexeme : Lexeme PgKind) → symbols_of (lexemes ++ lexeme ∷ []) ≡ symbols_of lexemes ++ symbol_of lexeme ∷ []
-symbols_of-push lexemes lexeme = map-append symbol_of lexemes (lexeme ∷ [])
+pub symbols_of-push : (lexemes : List (Lexeme PgKind)) (lexeme : Lexeme PgKind) → symbols_of (lexemes ++ lexeme ∷ []) ≡ symbols_of lexemes ++ pg_symbol_of lexeme ∷ []
+symbols_of-push lexemes lexeme = map-append pg_symbol_of lexemes (lexeme ∷ [])
 
-module _ {Raw State : Type 0} {Grammar : List Symbol → Raw → Type 0} {step : State → Symbol → Option State} {initial : State}
+module _ {Raw State : Type 0} {Grammar : List PgSymbol → Raw → Type 0} {step : State → PgSymbol → Option State} {initial : State}
     {IsEnded : State → Type 0} {raw_of : State → Raw} (decides : Decides Grammar step initial IsEnded raw_of) where
   -- symbols are at most one raw text
-  raw_one : (symbols : List Symbol) (one other : Raw) → Grammar symbols one → Grammar symbols other → one ≡ other
+  raw_one : (symbols : List PgSymbol) (one other : Raw) → Grammar symbols one → Grammar symbols other → one ≡ other
   raw_one symbols one other a b =
       let first = decides.reads symbols one a in
       let second = decides.reads symbols other b in
@@ -57,7 +57,7 @@ module _ {Raw State : Type 0} {Grammar : List Symbol → Raw → Type 0} {step :
       (subst (λ lexemes. Grammar (symbols_of lexemes) one) (cuts source a.lexemes b.lexemes a.cut b.cut) a.text) b.text
 
   -- what is run begins a text
-  begins_from_run : (symbols : List Symbol) (state : State) → run_by step initial symbols ≡ Some state → Begins (pg_syntax Grammar) symbols
+  begins_from_run : (symbols : List PgSymbol) (state : State) → run_by step initial symbols ≡ Some state → Begins (pg_syntax Grammar) symbols
   begins_from_run symbols state e =
       let rest = decides.completes state in (
         rest.more,
@@ -66,14 +66,14 @@ module _ {Raw State : Type 0} {Grammar : List Symbol → Raw → Type 0} {step :
       )
 
   -- what begins a text is run
-  run_begins : (symbols : List Symbol) → Begins (pg_syntax Grammar) symbols → run_by step initial symbols ≡ None → ⊥
+  run_begins : (symbols : List PgSymbol) → Begins (pg_syntax Grammar) symbols → run_by step initial symbols ≡ None → ⊥
   run_begins symbols begins none =
       let found = decides.reads (symbols ++ begins.0) begins.1 begins.2 in
       let clash : Some found.state ≡ None = sym found.runs ∙ run_by_stopped step initial symbols begins.0 none in
       cc
 
   -- what runs to a text has ended
-  pub ended_from_run : (symbols : List Symbol) (state : State) (raw : Raw) → run_by step initial symbols ≡ Some state → Grammar symbols raw → IsEnded state
+  pub ended_from_run : (symbols : List PgSymbol) (state : State) (raw : Raw) → run_by step initial symbols ≡ Some state → Grammar symbols raw → IsEnded state
   ended_from_run symbols state raw e text =
       let found = decides.reads symbols raw text in
       let same : Some found.state ≡ Some state = sym found.runs ∙ e in
@@ -82,13 +82,13 @@ module _ {Raw State : Type 0} {Grammar : List Symbol → Raw → Type 0} {step :
 
   -- a token that is taken goes on with the run
   pub run_taken : (lexemes : List (Lexeme PgKind)) (lexeme : Lexeme PgKind) (state : State) → run_by step initial (symbols_of lexemes) ≡ Some state
-      → run_by step initial (symbols_of (lexemes ++ lexeme ∷ [])) ≡ step state (symbol_of lexeme)
+      → run_by step initial (symbols_of (lexemes ++ lexeme ∷ [])) ≡ step state (pg_symbol_of lexeme)
   run_taken lexemes lexeme state e =
-      ap (run_by step initial) (symbols_of-push lexemes lexeme) ∙ run_by_push step initial state (symbols_of lexemes) (symbol_of lexeme) e
+      ap (run_by step initial) (symbols_of-push lexemes lexeme) ∙ run_by_push step initial state (symbols_of lexemes) (pg_symbol_of lexeme) e
 
   -- a token at which a run stops ends what begins a text
   pub refused_from_run : (lexemes : List (Lexeme PgKind)) (lexeme : Lexeme PgKind) (state : State) → run_by step initial (symbols_of lexemes) ≡ Some state
-      → step state (symbol_of lexeme) ≡ None
+      → step state (pg_symbol_of lexeme) ≡ None
       → TokensBegin (pg_syntax Grammar) lexemes × (TokensBegin (pg_syntax Grammar) (lexemes ++ lexeme ∷ []) → ⊥)
   refused_from_run lexemes lexeme state e none = (
     begins_from_run (symbols_of lexemes) state e,
@@ -104,7 +104,7 @@ module _ {Raw State : Type 0} {Grammar : List Symbol → Raw → Type 0} {step :
   }
 
   -- whether symbols begin a text
-  begins_or_not : (symbols : List Symbol) → Begins (pg_syntax Grammar) symbols ⊎ (Begins (pg_syntax Grammar) symbols → ⊥)
+  begins_or_not : (symbols : List PgSymbol) → Begins (pg_syntax Grammar) symbols ⊎ (Begins (pg_syntax Grammar) symbols → ⊥)
   begins_or_not symbols =
       elim (run_by step initial symbols)
       as (λ o. run_by step initial symbols ≡ o → Begins (pg_syntax Grammar) symbols ⊎ (Begins (pg_syntax Grammar) symbols → ⊥)) [
@@ -114,7 +114,7 @@ module _ {Raw State : Type 0} {Grammar : List Symbol → Raw → Type 0} {step :
       refl
 
   -- whether symbols are a text
-  spells_or_not : (symbols : List Symbol) → ((raw : Raw) × Grammar symbols raw) ⊎ ((raw : Raw) → Grammar symbols raw → ⊥)
+  spells_or_not : (symbols : List PgSymbol) → ((raw : Raw) × Grammar symbols raw) ⊎ ((raw : Raw) → Grammar symbols raw → ⊥)
   spells_or_not symbols =
       elim (run_by step initial symbols)
       as (λ o. run_by step initial symbols ≡ o → ((raw : Raw) × Grammar symbols raw) ⊎ ((raw : Raw) → Grammar symbols raw → ⊥)) [
@@ -130,7 +130,7 @@ module _ {Raw State : Type 0} {Grammar : List Symbol → Raw → Type 0} {step :
       refl
 
   -- so the syntax is decided
-  pub decided_from_run : IsDecided (pg_syntax Grammar)
+  pub decided_from_run : IsDecidable (pg_syntax Grammar)
   decided_from_run = record {
     some_text = begins_from_run [] initial refl;
     begins_or_not = begins_or_not;

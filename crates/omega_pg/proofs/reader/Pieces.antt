@@ -20,11 +20,11 @@ use Rattle.omega_text.specs.Limits.{most_number}
 use Rattle.omega_text.specs.declared.pg.kind.PgKind.{PgKind}
 use Rattle.omega_text.specs.declared.pg.kind.PgKind.TheVariants.{Comma, Name, Number, Parity, ParitySol, Semicolon}
 use Rattle.omega_game.specs.Game.{IsNameByte}
-use Rattle.omega_pg.specs.Symbols.{Symbol, comma, name, number, parity, paritysol, semicolon, symbol, symbols_of}
+use Rattle.omega_pg.specs.Symbols.{PgSymbol, comma, name, number, parity, paritysol, semicolon, symbol, symbols_of}
 use Rattle.omega_pg.proofs.games.WellFormed.{between-quoted}
 
 -- from a place on, the text is cut into tokens with these symbols, and white space to its end
-pub record IsCutFrom (source : List ℕ) (from : ℕ) (symbols : List Symbol) : Type 0 where
+pub record IsCutFrom (source : List ℕ) (from : ℕ) (symbols : List PgSymbol) : Type 0 where
   pub lexemes : List (Lexeme PgKind)
   pub end : ℕ
   pub cuts : Cuts pg_format source from lexemes end
@@ -32,7 +32,7 @@ pub record IsCutFrom (source : List ℕ) (from : ℕ) (symbols : List Symbol) : 
   pub gap : IsGap source end (length source)
 
 -- wherever these bytes end a text, they are cut so
-abbrev pub IsWritten : List ℕ → List Symbol → Type 0
+abbrev pub IsWritten : List ℕ → List PgSymbol → Type 0
 IsWritten text symbols = (source : List ℕ) (from : ℕ) → from ≤ length source → drop from source ≡ text → IsCutFrom source from symbols
 
 -- the rest begins with no digit
@@ -73,7 +73,7 @@ module _ (tokens : TokensFollow) (gaps : EndsAreGaps) (numbers : NumbersAreLonge
   }
 
   -- a token and what is written behind it
-  pub token_written : (gap text rest : List ℕ) (kind : PgKind) (value : ℕ) (symbols : List Symbol)
+  pub token_written : (gap text rest : List ℕ) (kind : PgKind) (value : ℕ) (symbols : List PgSymbol)
       → AllPass is_white gap → 0 < length text → Spells kind value text → IsLongest (text ++ rest) (length text)
       → IsWritten rest symbols → IsWritten (gap ++ (text ++ rest)) (symbol kind value text ∷ symbols)
   token_written gap text rest kind value symbols white some spells longest then source from within e =
@@ -96,23 +96,23 @@ module _ (tokens : TokensFollow) (gaps : EndsAreGaps) (numbers : NumbersAreLonge
       }
 
   -- a number before what ends it
-  pub number_written : (gap rest : List ℕ) (n : ℕ) (symbols : List Symbol) → AllPass is_white gap → n ≤ most_number → EndsNumber rest
+  pub number_written : (gap rest : List ℕ) (n : ℕ) (symbols : List PgSymbol) → AllPass is_white gap → n ≤ most_number → EndsNumber rest
       → IsWritten rest symbols → IsWritten (gap ++ (decimal n ++ rest)) (number n ∷ symbols)
   number_written gap rest n symbols white fits ends then =
       token_written gap (decimal n) rest Number n symbols white (decimal_nonempty n (omega arith)) (fits, refl) (numbers n rest ends) then
 
   -- a semicolon
-  pub semicolon_written : (rest : List ℕ) (symbols : List Symbol) → IsWritten rest symbols → IsWritten (59 ∷ rest) (semicolon ∷ symbols)
+  pub semicolon_written : (rest : List ℕ) (symbols : List PgSymbol) → IsWritten rest symbols → IsWritten (59 ∷ rest) (semicolon ∷ symbols)
   semicolon_written rest symbols then =
       token_written [] (codes ";") rest Semicolon 0 symbols (All-nil (λ b. is_white b ≡ true)) (omega arith) (refl, refl) (signs (codes ";") rest (inl refl)) then
 
   -- a comma
-  pub comma_written : (rest : List ℕ) (symbols : List Symbol) → IsWritten rest symbols → IsWritten (44 ∷ rest) (comma ∷ symbols)
+  pub comma_written : (rest : List ℕ) (symbols : List PgSymbol) → IsWritten rest symbols → IsWritten (44 ∷ rest) (comma ∷ symbols)
   comma_written rest symbols then =
       token_written [] (codes ",") rest Comma 0 symbols (All-nil (λ b. is_white b ≡ true)) (omega arith) (refl, refl) (signs (codes ",") rest (inr refl)) then
 
   -- a name behind a space
-  pub name_written : (bytes rest : List ℕ) (symbols : List Symbol) → All IsNameByte bytes → IsWritten rest symbols
+  pub name_written : (bytes rest : List ℕ) (symbols : List PgSymbol) → All IsNameByte bytes → IsWritten rest symbols
       → IsWritten (32 ∷ (quoted bytes ++ rest)) (name bytes ∷ symbols)
   name_written bytes rest symbols allowed then =
       let form : IsQuoted (quoted bytes) = (bytes, refl, All-weaker IsNameByte (λ b. is_name_byte b ≡ true) name_byte_passes bytes allowed) in
@@ -121,13 +121,13 @@ module _ (tokens : TokensFollow) (gaps : EndsAreGaps) (numbers : NumbersAreLonge
       (omega arith) (refl, form) (names (quoted bytes) rest form) then)
 
   -- the word `parity` before a space
-  pub parity_written : (rest : List ℕ) (symbols : List Symbol) → IsWritten (32 ∷ rest) symbols → IsWritten (codes "parity" ++ (32 ∷ rest)) (parity ∷ symbols)
+  pub parity_written : (rest : List ℕ) (symbols : List PgSymbol) → IsWritten (32 ∷ rest) symbols → IsWritten (codes "parity" ++ (32 ∷ rest)) (parity ∷ symbols)
   parity_written rest symbols then =
       token_written [] (codes "parity") (32 ∷ rest) Parity 0 symbols (All-nil (λ b. is_white b ≡ true)) (omega arith) (refl, refl)
       (words (codes "parity") (32 ∷ rest) parity_is_word refl) then
 
   -- the word `paritysol` before a space
-  pub paritysol_written : (rest : List ℕ) (symbols : List Symbol) → IsWritten (32 ∷ rest) symbols → IsWritten (codes "paritysol" ++ (32 ∷ rest)) (paritysol ∷ symbols)
+  pub paritysol_written : (rest : List ℕ) (symbols : List PgSymbol) → IsWritten (32 ∷ rest) symbols → IsWritten (codes "paritysol" ++ (32 ∷ rest)) (paritysol ∷ symbols)
   paritysol_written rest symbols then =
       token_written [] (codes "paritysol") (32 ∷ rest) ParitySol 0 symbols (All-nil (λ b. is_white b ≡ true)) (omega arith) (refl, refl)
       (words (codes "paritysol") (32 ∷ rest) paritysol_is_word refl) then

@@ -16,7 +16,7 @@ use Rattle.omega_game.specs.Game.{IsGame, Node, identifiers, no_node, owner_at, 
 use Rattle.omega_game.specs.declared.player.Player.{Player}
 use Rattle.omega_game.specs.declared.player.Player.TheVariants.{One, Zero}
 use Rattle.omega_pg.specs.solution.BadSolution.{IsNoSolution, IsWrongSuccessor}
-use Rattle.omega_pg.specs.solution.Grammar.{Line, RawSolution, no_line, solution_syntax}
+use Rattle.omega_pg.specs.solution.Grammar.{SolutionLine, RawSolution, no_line, solution_syntax}
 use Rattle.omega_game.specs.Solution.{IsSolution, choices_of, winner_at}
 use Rattle.omega_game.specs.Winning.{choice_at}
 use Rattle.omega_pg.specs.solution.Text.{line_at, raw_solution}
@@ -29,9 +29,9 @@ use Rattle.omega_pg.proofs.solutions.Grammar.{decides_solutions}
 use Rattle.omega_pg.proofs.solutions.Choices.{Chooses-from_choice, chosen_inside}
 
 -- the lines of a solution bear the identifiers of the game
-written_identifiers : (nodes : List Node) (solution : Solution) → map (λ (line : Line). line.identifier) (raw_solution nodes solution).lines ≡ identifiers nodes
+written_identifiers : (nodes : List Node) (solution : Solution) → map (λ (line : SolutionLine). line.identifier) (raw_solution nodes solution).lines ≡ identifiers nodes
 written_identifiers nodes solution =
-    map-map (λ (line : Line). line.identifier) (line_at nodes solution) (range_with_len 0 (length nodes))
+    map-map (λ (line : SolutionLine). line.identifier) (line_at nodes solution) (range_with_len 0 (length nodes))
     ∙ sym (fill_by_all (identifier_at nodes) (identifiers nodes) (length nodes) 0 (length-map nodes (λ (node : Node). node.identifier))
     (λ v h. get_or-map (λ (node : Node). node.identifier) nodes v no_node 0 h))
 
@@ -62,7 +62,7 @@ reasons_apart nodes solution fits (inr (inr wrong)) =
     let v = wrong.place in
     let inside : v < length nodes = omega (arith, wrong.inside, length-map-range_with_len (line_at nodes solution) 0 (length nodes)) in
     right_successor nodes solution v fits inside
-    (subst (λ (line : Line). IsWrongSuccessor nodes v line.winner line.successor)
+    (subst (λ (line : SolutionLine). IsWrongSuccessor nodes v line.winner line.successor)
     (get_or-map-range_with_len (line_at nodes solution) 0 (length nodes) v v no_line inside (omega arith)) wrong.wrong)
 
 -- so the reasons are exact
@@ -150,7 +150,7 @@ module _ (nodes : List Node) (one other : Solution) (game : IsGame nodes) (fits 
       ∙ get_or-map-range_with_len (line_at nodes other) 0 (length nodes) v v no_line h (omega arith)
 
   winner_same : (v : ℕ) → v < length nodes → winner_at one v ≡ winner_at other v
-  winner_same v h = ap (λ (line : Line). line.winner) (line_same v h)
+  winner_same v h = ap (λ (line : SolutionLine). line.winner) (line_same v h)
 
   winners_same : one.winners ≡ other.winners
   winners_same =
@@ -167,7 +167,7 @@ module _ (nodes : List Node) (one other : Solution) (game : IsGame nodes) (fits 
       (fits.chosen player v h)
       ((λ some. ((b.0 some).0, winner_same v h ∙ (b.0 some).1)), (λ own. b.1 (own.0, sym (winner_same v h) ∙ own.1)))
       (λ own. subst (λ p. option_map (identifier_at nodes) (choice_at (choices_of one p) v) ≡ option_map (identifier_at nodes) (choice_at (choices_of other p) v))
-      own.0 (ap (λ (line : Line). line.successor) (line_same v h)))
+      own.0 (ap (λ (line : SolutionLine). line.successor) (line_same v h)))
 
   choices_same : (player : Player) → choices_of one player ≡ choices_of other player
   choices_same player =

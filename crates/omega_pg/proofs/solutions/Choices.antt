@@ -7,7 +7,7 @@ use Rattle.std.proofs.lemmas.List.{append_assoc, flat_map_more}
 use Rattle.std.proofs.lemmas.List.FromFn.{map-range_with_len_more}
 use Rattle.omega_game.specs.Winning.{Chooses, IsStrategy, choice_at}
 use Rattle.omega_game.specs.declared.player.Player.{Player}
-use Rattle.omega_pg.specs.solution.Grammar.{Line}
+use Rattle.omega_pg.specs.solution.Grammar.{SolutionLine}
 use Rattle.omega_pg.specs.solution.Canonical.{solution_line, solution_text}
 use Rattle.omega_pg.specs.solution.Text.{line_at}
 use Rattle.omega_game.specs.declared.solution.Solution.{Solution}
@@ -27,7 +27,7 @@ chosen_inside nodes player choices v game strategy =
     refl
 
 -- one line more is written behind the others
-pub lines_more : (f : ℕ → Line) (k : ℕ) (front before after : List ℕ)
+pub lines_more : (f : ℕ → SolutionLine) (k : ℕ) (front before after : List ℕ)
     → before ≡ front ++ flat_map solution_line (map f (range_with_len 0 k)) → after ≡ before ++ solution_line (f k)
     → after ≡ front ++ flat_map solution_line (map f (range_with_len 0 (k + 1)))
 lines_more f k front before after e h =

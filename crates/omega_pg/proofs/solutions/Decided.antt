@@ -12,13 +12,13 @@ use Rattle.omega_game.specs.Game.{Node, owner_at, successors_at, greatest_identi
 use Rattle.omega_game.specs.declared.player.Player.{Player}
 use Rattle.omega_game.specs.declared.player.Player.TheVariants.{One, Zero}
 use Rattle.omega_pg.specs.solution.BadSolution.{IsNoSolution, IsWrongSuccessor}
-use Rattle.omega_pg.specs.solution.Grammar.{Line, RawSolution, no_line, solution_syntax}
+use Rattle.omega_pg.specs.solution.Grammar.{SolutionLine, RawSolution, no_line, solution_syntax}
 use Rattle.omega_game.specs.Solution.{IsSolution}
 use Rattle.omega_pg.specs.solution.Text.{raw_solution, IsSolutionText}
 use Rattle.omega_pg.specs.solution.Laws.{SolutionTextsAreReadOrRefused}
 use Rattle.omega_pg.specs.solution.reader.Lines.{AreJudged, IsWrongLine, Says}
 use Rattle.omega_pg.specs.solution.Refusing.{IsSolutionRefusal}
-use Rattle.omega_text.specs.Syntax.{IsDecided as IsDecidedSyntax, IsTextOf, TextsAreReadOrFaulty}
+use Rattle.omega_text.specs.Syntax.{IsDecidable as IsDecidedSyntax, IsTextOf, TextsAreReadOrFaulty}
 use Rattle.omega_game.specs.declared.solution.Solution.{Solution}
 use Rattle.omega_pg.proofs.reader.Deciding.{decided_from_run}
 use Rattle.omega_pg.proofs.solutions.Judging.{judged_kept, judged_wrong}
@@ -90,7 +90,7 @@ successor_judged nodes v id winner (Some chosen) inside same =
     ]
 
 -- a line says a choice, or is wrong
-line_judged : (nodes : List Node) (v : ℕ) (line : Line) → ((choice : Option ℕ) × Says nodes v line choice) ⊎ IsWrongLine nodes v line
+line_judged : (nodes : List Node) (v : ℕ) (line : SolutionLine) → ((choice : Option ℕ) × Says nodes v line choice) ⊎ IsWrongLine nodes v line
 line_judged nodes v line =
     elim (cases_lt v (length nodes)) as (λ _. ((choice : Option ℕ) × Says nodes v line choice) ⊎ IsWrongLine nodes v line) [
       | inr past ↦ inr (inl past)
@@ -103,7 +103,7 @@ line_judged nodes v line =
     ]
 
 -- lines as they are judged
-record Judged (nodes : List Node) (lines : List Line) : Type 0 where
+record Judged (nodes : List Node) (lines : List SolutionLine) : Type 0 where
   pub good : Bool
   pub winners : List Player
   pub zeros : List (Option ℕ)
@@ -111,7 +111,7 @@ record Judged (nodes : List Node) (lines : List Line) : Type 0 where
   pub judged : AreJudged nodes lines good winners zeros ones
 
 -- one line more is judged
-judged_more : (nodes : List Node) (lines : List Line) (line : Line) (good : Bool) (winners : List Player) (zeros ones : List (Option ℕ))
+judged_more : (nodes : List Node) (lines : List SolutionLine) (line : SolutionLine) (good : Bool) (winners : List Player) (zeros ones : List (Option ℕ))
     → AreJudged nodes lines good winners zeros ones → Judged nodes (lines ++ line ∷ [])
 judged_more nodes lines line false winners zeros ones judged =
     record { good = false; winners = winners; zeros = zeros; ones = ones; judged = judged_wrong nodes lines (line ∷ []) false winners zeros ones refl judged }
@@ -140,7 +140,7 @@ judged_more nodes lines line true winners zeros ones judged =
     ]
 
 -- lines behind judged ones are judged
-lines_judged : (nodes : List Node) (front rest : List Line) → Judged nodes front → Judged nodes (front ++ rest)
+lines_judged : (nodes : List Node) (front rest : List SolutionLine) → Judged nodes front → Judged nodes (front ++ rest)
 lines_judged nodes front [] judged = subst (Judged nodes) (sym (append-nil front)) judged
 lines_judged nodes front (line ∷ rest) judged =
     subst (Judged nodes) (append_assoc front (line ∷ []) rest)
@@ -161,7 +161,7 @@ none_judged nodes = record {
 abbrev IsDecided : List Node → RawSolution → Type 0
 IsDecided nodes raw = ((solution : Solution) × IsSolution nodes solution × (raw ≡ raw_solution nodes solution)) ⊎ IsNoSolution nodes raw
 
-judged_decided : (nodes : List Node) (greatest : ℕ) (lines : List Line) (good : Bool) (winners : List Player) (zeros ones : List (Option ℕ))
+judged_decided : (nodes : List Node) (greatest : ℕ) (lines : List SolutionLine) (good : Bool) (winners : List Player) (zeros ones : List (Option ℕ))
     → AreJudged nodes lines good winners zeros ones → IsDecided nodes (record { greatest = greatest; lines = lines })
 judged_decided nodes greatest lines false winners zeros ones judged = inr (wrong_line nodes greatest lines false winners zeros ones refl judged)
 judged_decided nodes greatest lines true winners zeros ones judged =

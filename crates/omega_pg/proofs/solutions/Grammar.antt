@@ -6,9 +6,9 @@ use Rattle.std.proofs.lemmas.List.Concat.{flat_map-append}
 use Rattle.omega_game.specs.declared.player.Player.{Player}
 use Rattle.omega_game.specs.declared.player.Player.TheVariants.{One, Zero}
 use Rattle.omega_pg.specs.game.reader.Automaton.{player_of}
-use Rattle.omega_pg.specs.solution.Grammar.{Line, RawSolution, SpellsSolution, line_symbols}
-use Rattle.omega_pg.specs.solution.reader.Automaton.{State, after_number, after_semicolon, after_word, initial, run, step, to_stage}
-use Rattle.omega_pg.specs.Symbols.{Symbol, comma, name, number, parity, paritysol, semicolon}
+use Rattle.omega_pg.specs.solution.Grammar.{SolutionLine, RawSolution, SpellsSolution, line_symbols}
+use Rattle.omega_pg.specs.solution.reader.Automaton.{SolutionReaderState, after_number, after_semicolon, after_word, initial, run, step, to_stage}
+use Rattle.omega_pg.specs.Symbols.{PgSymbol, comma, name, number, parity, paritysol, semicolon}
 use Rattle.omega_game.specs.Player.{player_number}
 use Rattle.omega_pg.specs.declared.solution.stage.Stage.{Stage}
 use Rattle.omega_pg.specs.declared.solution.stage.Stage.TheVariants.{Chosen, Ended, Identifier, Number, Start, Winner, Word}
@@ -17,19 +17,19 @@ use Rattle.omega_pg.proofs.reader.Runs.{run_by_shown}
 use Rattle.omega_pg.proofs.games.Players.{player_of-number}
 
 -- a state with these parts
-abbrev at : Stage → ℕ → List Line → State
+abbrev at : Stage → ℕ → List SolutionLine → SolutionReaderState
 at stage greatest lines = record { stage = stage; greatest = greatest; lines = lines }
 
 -- the raw text that a state has kept
-abbrev pub raw_of : State → RawSolution
+abbrev pub raw_of : SolutionReaderState → RawSolution
 raw_of state = record { greatest = state.greatest; lines = state.lines }
 
 -- the symbols of a header and lines
-abbrev spelled : ℕ → List Line → List Symbol
+abbrev spelled : ℕ → List SolutionLine → List PgSymbol
 spelled greatest lines = paritysol ∷ number greatest ∷ semicolon ∷ flat_map line_symbols lines
 
 -- what completes a text from a stage
-abbrev completion : Stage → List Symbol
+abbrev completion : Stage → List PgSymbol
 completion Start = paritysol ∷ number 0 ∷ semicolon ∷ []
 completion Word = number 0 ∷ semicolon ∷ []
 completion (Number greatest) = semicolon ∷ []
@@ -39,11 +39,11 @@ completion (Winner id winner) = semicolon ∷ []
 completion (Chosen id winner successor) = semicolon ∷ []
 
 -- a text has ended behind the header or a line
-abbrev pub IsEnded : State → Type 0
+abbrev pub IsEnded : SolutionReaderState → Type 0
 IsEnded state = state.stage ≡ Ended
 
 -- the completion leads to the end of the header or of a line
-completes : (stage : Stage) (greatest : ℕ) (lines : List Line) → Completes step IsEnded (at stage greatest lines)
+completes : (stage : Stage) (greatest : ℕ) (lines : List SolutionLine) → Completes step IsEnded (at stage greatest lines)
 completes Start greatest lines = record { more = completion Start; state = _; runs = refl; ended = refl }
 completes Word greatest lines = record { more = completion Word; state = _; runs = refl; ended = refl }
 completes (Number n) greatest lines = record { more = completion (Number n); state = _; runs = refl; ended = refl }
@@ -54,7 +54,7 @@ completes (Chosen id winner successor) greatest lines =
     record { more = completion (Chosen id winner successor); state = _; runs = refl; ended = refl }
 
 -- the symbols of a line add it
-run_line : (greatest : ℕ) (lines : List Line) (id : ℕ) (winner : Player) (successor : Option ℕ) (rest : List Symbol)
+run_line : (greatest : ℕ) (lines : List SolutionLine) (id : ℕ) (winner : Player) (successor : Option ℕ) (rest : List PgSymbol)
     → run (at Ended greatest lines) (line_symbols (record { identifier = id; winner = winner; successor = successor }) ++ rest)
     ≡ run (at Ended greatest (lines ++ record { identifier = id; winner = winner; successor = successor } ∷ [])) rest
 run_line greatest lines id Zero None rest = refl
@@ -62,7 +62,7 @@ run_line greatest lines id Zero (Some chosen) rest = refl
 run_line greatest lines id One None rest = refl
 run_line greatest lines id One (Some chosen) rest = refl
 
-run_lines : (greatest : ℕ) (lines more : List Line) → run (at Ended greatest lines) (flat_map line_symbols more) ≡ Some (at Ended greatest (lines ++ more))
+run_lines : (greatest : ℕ) (lines more : List SolutionLine) → run (at Ended greatest lines) (flat_map line_symbols more) ≡ Some (at Ended greatest (lines ++ more))
 run_lines greatest lines [] = ap (λ list. Some (at Ended greatest list)) (sym (append-nil lines))
 run_lines greatest lines (line ∷ more) =
     run_line greatest lines line.identifier line.winner line.successor (flat_map line_symbols more)
@@ -70,17 +70,17 @@ run_lines greatest lines (line ∷ more) =
     ∙ ap (λ list. Some (at Ended greatest list)) (append_assoc lines (line ∷ []) more)
 
 -- each text of the grammar is run to its end
-reads : (symbols : List Symbol) (raw : RawSolution) → SpellsSolution symbols raw → Reads step initial IsEnded raw_of symbols raw
+reads : (symbols : List PgSymbol) (raw : RawSolution) → SpellsSolution symbols raw → Reads step initial IsEnded raw_of symbols raw
 reads symbols raw text =
     record { state = at Ended raw.greatest raw.lines; runs = ap (run initial) text ∙ run_lines raw.greatest [] raw.lines; ended = refl; kept = refl }
 
 -- nothing but the beginning of a header
-record IsHeader (lines : List Line) (begun symbols : List Symbol) : Type 0 where
+record IsHeader (lines : List SolutionLine) (begun symbols : List PgSymbol) : Type 0 where
   pub empty : lines ≡ []
   pub shown : symbols ≡ begun
 
 -- the symbols that lead to a state
-abbrev Shows : Stage → ℕ → List Line → List Symbol → Type 0
+abbrev Shows : Stage → ℕ → List SolutionLine → List PgSymbol → Type 0
 Shows Start greatest lines symbols = IsHeader lines [] symbols
 Shows Word greatest lines symbols = IsHeader lines (paritysol ∷ []) symbols
 Shows (Number n) greatest lines symbols = IsHeader lines (paritysol ∷ number n ∷ []) symbols
@@ -91,11 +91,11 @@ Shows (Chosen id winner successor) greatest lines symbols =
     symbols ≡ spelled greatest lines ++ number id ∷ number (player_number winner) ∷ number successor ∷ []
 
 -- what a state shows
-abbrev IsShown : State → List Symbol → Type 0
+abbrev IsShown : SolutionReaderState → List PgSymbol → Type 0
 IsShown state symbols = Shows state.stage state.greatest state.lines symbols
 
 -- what a number leads to is shown
-number_shown : (stage : Stage) (greatest : ℕ) (lines : List Line) (symbols : List Symbol) (n : ℕ) → Shows stage greatest lines symbols
+number_shown : (stage : Stage) (greatest : ℕ) (lines : List SolutionLine) (symbols : List PgSymbol) (n : ℕ) → Shows stage greatest lines symbols
     → IfSome (after_number stage (at stage greatest lines) n) (λ next. IsShown next (symbols ++ number n ∷ []))
 number_shown Start greatest lines symbols n shows = tt
 number_shown Word greatest lines symbols n shows = record { empty = shows.empty; shown = ap (λ list. list ++ number n ∷ []) shows.shown }
@@ -115,19 +115,19 @@ number_shown (Winner id winner) greatest lines symbols n shows =
 number_shown (Chosen id winner successor) greatest lines symbols n shows = tt
 
 -- what the word `paritysol` leads to is shown
-word_shown : (stage : Stage) (greatest : ℕ) (lines : List Line) (symbols : List Symbol) → Shows stage greatest lines symbols
+word_shown : (stage : Stage) (greatest : ℕ) (lines : List SolutionLine) (symbols : List PgSymbol) → Shows stage greatest lines symbols
     → IfSome (after_word stage (at stage greatest lines)) (λ next. IsShown next (symbols ++ paritysol ∷ []))
 word_shown Start greatest lines symbols shows = record { empty = shows.empty; shown = ap (λ list. list ++ paritysol ∷ []) shows.shown }
 word_shown _ greatest lines symbols shows = tt
 
 -- a line more is spelled behind the others
-spelled-push : (greatest : ℕ) (lines : List Line) (line : Line) → spelled greatest (lines ++ line ∷ []) ≡ spelled greatest lines ++ line_symbols line
+spelled-push : (greatest : ℕ) (lines : List SolutionLine) (line : SolutionLine) → spelled greatest (lines ++ line ∷ []) ≡ spelled greatest lines ++ line_symbols line
 spelled-push greatest lines line =
     ap (λ list. paritysol ∷ number greatest ∷ semicolon ∷ list)
     (flat_map-append line_symbols lines (line ∷ []) ∙ ap (λ list. flat_map line_symbols lines ++ list) (append-nil (line_symbols line)))
 
 -- what a semicolon leads to is shown
-semicolon_shown : (stage : Stage) (greatest : ℕ) (lines : List Line) (symbols : List Symbol) → Shows stage greatest lines symbols
+semicolon_shown : (stage : Stage) (greatest : ℕ) (lines : List SolutionLine) (symbols : List PgSymbol) → Shows stage greatest lines symbols
     → IfSome (after_semicolon stage (at stage greatest lines)) (λ next. IsShown next (symbols ++ semicolon ∷ []))
 semicolon_shown (Number n) greatest lines symbols shows =
     ap (λ list. list ++ semicolon ∷ []) shows.shown ∙ ap (λ list. paritysol ∷ number n ∷ semicolon ∷ flat_map line_symbols list) (sym shows.empty)
@@ -142,7 +142,7 @@ semicolon_shown (Chosen id winner successor) greatest lines symbols shows =
 semicolon_shown _ greatest lines symbols shows = tt
 
 -- what a symbol leads to is shown
-step_shown : (state : State) (symbols : List Symbol) (symbol : Symbol) → IsShown state symbols
+step_shown : (state : SolutionReaderState) (symbols : List PgSymbol) (symbol : PgSymbol) → IsShown state symbols
     → IfSome (step state symbol) (λ next. IsShown next (symbols ++ symbol ∷ []))
 step_shown state symbols (number n) shows = number_shown state.stage state.greatest state.lines symbols n shows
 step_shown state symbols parity shows = tt
@@ -152,7 +152,7 @@ step_shown state symbols comma shows = tt
 step_shown state symbols (name bytes) shows = tt
 
 -- a run that ends behind the header or a line has read a text
-pub SpellsSolution-from_run : (symbols : List Symbol) (state : State) → run initial symbols ≡ Some state → state.stage ≡ Ended
+pub SpellsSolution-from_run : (symbols : List PgSymbol) (state : SolutionReaderState) → run initial symbols ≡ Some state → state.stage ≡ Ended
     → SpellsSolution symbols (raw_of state)
 SpellsSolution-from_run symbols state e ended =
     let shown : IfSome (run initial symbols) (λ next. IsShown next symbols) = run_by_shown step IsShown step_shown initial [] symbols (record { empty = refl; shown = refl }) in

@@ -6,7 +6,7 @@ use Rattle.std.proofs.Math.Seq.{get_or-append_seam}
 use Rattle.omega_game.specs.Game.{Node, owner_at}
 use Rattle.omega_game.specs.declared.player.Player.{Player}
 use Rattle.omega_game.specs.declared.player.Player.TheVariants.{One, Zero}
-use Rattle.omega_pg.specs.solution.Grammar.{Line, no_line}
+use Rattle.omega_pg.specs.solution.Grammar.{SolutionLine, no_line}
 use Rattle.omega_pg.specs.solution.reader.Lines.{AreJudged, AreSaid, IsKept, IsWrongLine, Says, entry_of}
 
 -- what is mapped is none where it was
@@ -17,7 +17,7 @@ none_mapped (Some x) None P Q e f h = absurd (let clash : false ≡ true = e in 
 none_mapped (Some x) (Some y) P Q e f h = tt
 
 -- a wrong line stays wrong
-pub judged_wrong : (nodes : List Node) (lines more : List Line) (good : Bool) (winners : List Player) (zero one : List (Option ℕ)) → good ≡ false
+pub judged_wrong : (nodes : List Node) (lines more : List SolutionLine) (good : Bool) (winners : List Player) (zero one : List (Option ℕ)) → good ≡ false
     → AreJudged nodes lines good winners zero one → AreJudged nodes (lines ++ more) good winners zero one
 judged_wrong nodes lines more true winners zero one e judged = absurd (let clash : true ≡ false = e in cc)
 judged_wrong nodes lines more false winners zero one e judged = record {
@@ -27,7 +27,7 @@ judged_wrong nodes lines more false winners zero one e judged = record {
 }
 
 -- a line that is said is kept
-kept_more : (nodes : List Node) (lines : List Line) (line : Line) (choice : Option ℕ) (winners : List Player) (zero one : List (Option ℕ))
+kept_more : (nodes : List Node) (lines : List SolutionLine) (line : SolutionLine) (choice : Option ℕ) (winners : List Player) (zero one : List (Option ℕ))
     → Says nodes (length winners) line choice → AreSaid nodes lines winners zero one
     → AreSaid nodes (lines ++ line ∷ []) (winners ++ line.winner ∷ [])
     (zero ++ entry_of Zero (owner_at nodes (length winners)) choice ∷ []) (one ++ entry_of One (owner_at nodes (length winners)) choice ∷ [])
@@ -57,7 +57,7 @@ kept_more nodes lines line choice winners zero one says said =
     let here : P n = record {
       choice = choice;
       says = subst (λ x. Says nodes n x choice) (sym at_line) says;
-      winner_kept = at_winner ∙ ap (λ (x : Line). x.winner) (sym at_line);
+      winner_kept = at_winner ∙ ap (λ (x : SolutionLine). x.winner) (sym at_line);
       zero_kept = at_zero;
       one_kept = at_one;
     } in
@@ -69,7 +69,7 @@ kept_more nodes lines line choice winners zero one says said =
     }
 
 -- the same, as a call leaves it
-pub judged_kept : (nodes : List Node) (lines : List Line) (line : Line) (choice : Option ℕ) (good after : Bool)
+pub judged_kept : (nodes : List Node) (lines : List SolutionLine) (line : SolutionLine) (choice : Option ℕ) (good after : Bool)
     (winners winners' : List Player) (zero zero' one one' : List (Option ℕ)) (place : ℕ) (owner : Player)
     → place ≡ length winners → owner ≡ owner_at nodes place → good ≡ true → after ≡ good → Says nodes place line choice
     → winners' ≡ winners ++ line.winner ∷ [] → zero' ≡ zero ++ entry_of Zero owner choice ∷ [] → one' ≡ one ++ entry_of One owner choice ∷ []

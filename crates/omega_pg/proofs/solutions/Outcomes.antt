@@ -10,40 +10,40 @@ use Rattle.omega_game.specs.Winning.{Chooses, choice_at}
 use Rattle.omega_game.specs.declared.player.Player.{Player}
 use Rattle.omega_game.specs.declared.player.Player.TheVariants.{One, Zero}
 use Rattle.omega_pg.specs.solution.BadSolution.{IsNoSolution}
-use Rattle.omega_pg.specs.solution.Grammar.{Line, RawSolution, no_line}
+use Rattle.omega_pg.specs.solution.Grammar.{SolutionLine, RawSolution, no_line}
 use Rattle.omega_game.specs.Solution.{IsSolution, choices_of}
 use Rattle.omega_pg.specs.solution.Text.{line_at, raw_solution}
 use Rattle.omega_pg.specs.solution.reader.Lines.{AreJudged, AreSaid, IsKept, entry_of}
 use Rattle.omega_game.specs.declared.solution.Solution.{Solution}
 
 -- a header with another number
-pub other_number : (nodes : List Node) (greatest : ℕ) (lines : List Line) → greatest_identifier nodes ≢ greatest
+pub other_number : (nodes : List Node) (greatest : ℕ) (lines : List SolutionLine) → greatest_identifier nodes ≢ greatest
     → IsNoSolution nodes (record { greatest = greatest; lines = lines })
 other_number nodes greatest lines other = inl (λ e. other (sym e))
 
 -- another number of lines
-other_length : (nodes : List Node) (greatest : ℕ) (lines : List Line) → length lines ≢ length nodes
+other_length : (nodes : List Node) (greatest : ℕ) (lines : List SolutionLine) → length lines ≢ length nodes
     → IsNoSolution nodes (record { greatest = greatest; lines = lines })
 other_length nodes greatest lines other =
     inr (inl (λ e. other
-    (sym (length-map lines (λ (line : Line). line.identifier)) ∙ ap length e ∙ length-map nodes (λ (node : Node). node.identifier))))
+    (sym (length-map lines (λ (line : SolutionLine). line.identifier)) ∙ ap length e ∙ length-map nodes (λ (node : Node). node.identifier))))
 
-pub other_count : (nodes : List Node) (greatest : ℕ) (lines : List Line) (good : Bool) (winners : List Player) (zeros ones : List (Option ℕ))
+pub other_count : (nodes : List Node) (greatest : ℕ) (lines : List SolutionLine) (good : Bool) (winners : List Player) (zeros ones : List (Option ℕ))
     → good ≡ true → length winners ≢ length nodes → AreJudged nodes lines good winners zeros ones → IsNoSolution nodes (record { greatest = greatest; lines = lines })
 other_count nodes greatest lines false winners zeros ones e other judged = absurd (let clash : false ≡ true = e in cc)
 other_count nodes greatest lines true winners zeros ones e other judged =
     other_length nodes greatest lines (λ same. other (judged.winners_count ∙ same))
 
 -- another identifier in some line
-other_identifier : (nodes : List Node) (greatest : ℕ) (lines : List Line) (v : ℕ) → v < length lines → v < length nodes
+other_identifier : (nodes : List Node) (greatest : ℕ) (lines : List SolutionLine) (v : ℕ) → v < length lines → v < length nodes
     → (get_or lines v no_line).identifier ≢ identifier_at nodes v → IsNoSolution nodes (record { greatest = greatest; lines = lines })
 other_identifier nodes greatest lines v h k other =
     inr (inl (λ e. other
-    (sym (get_or-map (λ (line : Line). line.identifier) lines v no_line 0 h) ∙ ap (λ list. get_or list v 0) e
+    (sym (get_or-map (λ (line : SolutionLine). line.identifier) lines v no_line 0 h) ∙ ap (λ list. get_or list v 0) e
     ∙ get_or-map (λ (node : Node). node.identifier) nodes v no_node 0 k)))
 
 -- a wrong line
-pub wrong_line : (nodes : List Node) (greatest : ℕ) (lines : List Line) (good : Bool) (winners : List Player) (zeros ones : List (Option ℕ))
+pub wrong_line : (nodes : List Node) (greatest : ℕ) (lines : List SolutionLine) (good : Bool) (winners : List Player) (zeros ones : List (Option ℕ))
     → good ≡ false → AreJudged nodes lines good winners zeros ones → IsNoSolution nodes (record { greatest = greatest; lines = lines })
 wrong_line nodes greatest lines true winners zeros ones e judged = absurd (let clash : true ≡ false = e in cc)
 wrong_line nodes greatest lines false winners zeros ones e judged =
@@ -90,7 +90,7 @@ abbrev pub solution_of : List Player → List (Option ℕ) → List (Option ℕ)
 solution_of winners zeros ones = record { winners = winners; zero = record { choice = zeros }; one = record { choice = ones } }
 
 -- what is kept of a player's choice
-kept_entry : (nodes : List Node) (v : ℕ) (line : Line) (winners : List Player) (zeros ones : List (Option ℕ)) (player : Player)
+kept_entry : (nodes : List Node) (v : ℕ) (line : SolutionLine) (winners : List Player) (zeros ones : List (Option ℕ)) (player : Player)
     → (kept : IsKept nodes v line (get_or winners v Zero) (get_or zeros v None) (get_or ones v None))
     → choice_at (choices_of (solution_of winners zeros ones) player) v ≡ entry_of player (owner_at nodes v) kept.choice
 kept_entry nodes v line winners zeros ones Zero kept = kept.zero_kept
@@ -98,11 +98,11 @@ kept_entry nodes v line winners zeros ones One kept = kept.one_kept
 
 -- a line with the parts of another is that line
 line_same : (id id' : ℕ) (winner winner' : Player) (successor successor' : Option ℕ) → id ≡ id' → winner ≡ winner' → successor ≡ successor'
-    → ◌≡◌ {A = Line} (record { identifier = id; winner = winner; successor = successor }) (record { identifier = id'; winner = winner'; successor = successor' })
+    → ◌≡◌ {A = SolutionLine} (record { identifier = id; winner = winner; successor = successor }) (record { identifier = id'; winner = winner'; successor = successor' })
 line_same id id' winner winner' successor successor' a b c = cc
 
 -- the entries of as many lines as nodes are a solution, which is written so
-module _ (nodes : List Node) (lines : List Line) (winners : List Player) (zeros ones : List (Option ℕ))
+module _ (nodes : List Node) (lines : List SolutionLine) (winners : List Player) (zeros ones : List (Option ℕ))
     (count : length winners ≡ length nodes) (said : AreSaid nodes lines winners zeros ones) where
   kept : (v : ℕ) → v < length nodes → IsKept nodes v (get_or lines v no_line) (get_or winners v Zero) (get_or zeros v None) (get_or ones v None)
   kept v h = said.said v (omega (arith, h, count, said.winners_count))
@@ -152,7 +152,7 @@ module _ (nodes : List Node) (lines : List Line) (winners : List Player) (zeros 
       ap (λ n. record { greatest = n; lines = lines }) e ∙ ap (λ list. record { greatest = greatest_identifier nodes; lines = list }) same
 
 -- the same, as a call leaves it
-pub outcome_kept : (nodes : List Node) (greatest : ℕ) (lines : List Line) (good : Bool) (winners ws : List Player) (zeros zs ones os : List (Option ℕ))
+pub outcome_kept : (nodes : List Node) (greatest : ℕ) (lines : List SolutionLine) (good : Bool) (winners ws : List Player) (zeros zs ones os : List (Option ℕ))
     → good ≡ true → length winners ≡ length nodes → greatest ≡ greatest_identifier nodes → ws ≡ winners → zs ≡ zeros → os ≡ ones
     → AreJudged nodes lines good winners zeros ones
     → IsSolution nodes (solution_of ws zs os) × (◌≡◌ {A = RawSolution} (record { greatest = greatest; lines = lines }) (raw_solution nodes (solution_of ws zs os)))

@@ -7,13 +7,13 @@ use Rattle.std.proofs.lemmas.List.FromFn.{get_or-map-range_with_len, length-map-
 use Rattle.omega_text.specs.pg.Laws.{EndsAreGaps, NamesAreLongest, NumbersAreLongest, SignsAreLongest, TokensFollow, WordsAreLongest}
 use Rattle.omega_game.specs.Game.{IsGame, IsWithinLimits, Node, owner_at, greatest_identifier, identifier_at}
 use Rattle.omega_text.specs.Limits.{most_number}
-use Rattle.omega_pg.specs.solution.Grammar.{Line, RawSolution, no_line, choice_symbols, line_symbols}
+use Rattle.omega_pg.specs.solution.Grammar.{SolutionLine, RawSolution, no_line, choice_symbols, line_symbols}
 use Rattle.omega_game.specs.Solution.{IsSolution, choices_of}
 use Rattle.omega_game.specs.Winning.{choice_at}
 use Rattle.omega_pg.specs.solution.Text.{line_at, raw_solution}
 use Rattle.omega_pg.specs.solution.Laws.{WrittenSolutionsAreRead}
-use Rattle.omega_pg.specs.solution.Canonical.{choice_part, solution_line, solution_text, written}
-use Rattle.omega_pg.specs.Symbols.{Symbol, number, paritysol, semicolon}
+use Rattle.omega_pg.specs.solution.Canonical.{choice_part, solution_line, solution_text, written_solution}
+use Rattle.omega_pg.specs.Symbols.{PgSymbol, number, paritysol, semicolon}
 use Rattle.omega_game.specs.Player.{player_number}
 use Rattle.omega_game.specs.declared.solution.Solution.{Solution}
 use Rattle.omega_pg.proofs.games.Written.{line_feed, player_number-le, space}
@@ -22,7 +22,7 @@ use Rattle.omega_pg.proofs.games.RoundTrip.{identifier_fits}
 use Rattle.omega_pg.proofs.solutions.Choices.{chosen_inside}
 
 -- a line whose numbers a text can hold
-record IsWritableLine (line : Line) : Type 0 where
+record IsWritableLine (line : SolutionLine) : Type 0 where
   pub identifier : line.identifier ≤ most_number
   pub successor : IfSome line.successor (λ id. id ≤ most_number)
 
@@ -33,7 +33,7 @@ choice_ends (Some id) rest = refl
 
 module _ (tokens : TokensFollow) (gaps : EndsAreGaps) (numbers : NumbersAreLongest) (words : WordsAreLongest) (signs : SignsAreLongest) (names : NamesAreLongest) where
   -- a successor, the semicolon, and what is behind
-  choice_end_written : (successor : Option ℕ) (rest : List ℕ) (symbols : List Symbol) → IfSome successor (λ id. id ≤ most_number) → IsWritten rest symbols
+  choice_end_written : (successor : Option ℕ) (rest : List ℕ) (symbols : List PgSymbol) → IfSome successor (λ id. id ≤ most_number) → IsWritten rest symbols
       → IsWritten (choice_part successor ++ (59 ∷ rest)) (choice_symbols successor ++ (semicolon ∷ symbols))
   choice_end_written None rest symbols fits then = semicolon_written tokens gaps numbers words signs names rest symbols then
   choice_end_written (Some id) rest symbols fits then =
@@ -41,7 +41,7 @@ module _ (tokens : TokensFollow) (gaps : EndsAreGaps) (numbers : NumbersAreLonge
       (semicolon_written tokens gaps numbers words signs names rest symbols then)
 
   -- a line behind a line feed
-  line_written : (line : Line) (rest : List ℕ) (symbols : List Symbol) → IsWritableLine line → IsWritten (10 ∷ rest) symbols
+  line_written : (line : SolutionLine) (rest : List ℕ) (symbols : List PgSymbol) → IsWritableLine line → IsWritten (10 ∷ rest) symbols
       → IsWritten (10 ∷ (solution_line line ++ rest)) (line_symbols line ++ symbols)
   line_written line rest symbols fits then =
       let ending = choice_part line.successor ++ (59 ∷ 10 ∷ rest) in
@@ -56,7 +56,7 @@ module _ (tokens : TokensFollow) (gaps : EndsAreGaps) (numbers : NumbersAreLonge
       (choice_end_written line.successor (10 ∷ rest) symbols fits.successor then))))
 
   -- lines behind a line feed
-  lines_written : (lines : List Line) → All IsWritableLine lines → IsWritten (10 ∷ flat_map solution_line lines) (flat_map line_symbols lines)
+  lines_written : (lines : List SolutionLine) → All IsWritableLine lines → IsWritten (10 ∷ flat_map solution_line lines) (flat_map line_symbols lines)
   lines_written [] fits = end_written tokens gaps numbers words signs names
   lines_written (line ∷ lines) fits =
       line_written line (flat_map solution_line lines) (flat_map line_symbols lines) (All-head IsWritableLine line lines fits)
@@ -64,7 +64,7 @@ module _ (tokens : TokensFollow) (gaps : EndsAreGaps) (numbers : NumbersAreLonge
 
   -- a header and lines
   raw_written : (raw : RawSolution) → raw.greatest ≤ most_number → All IsWritableLine raw.lines
-      → IsWritten (written raw) (paritysol ∷ number raw.greatest ∷ semicolon ∷ flat_map line_symbols raw.lines)
+      → IsWritten (written_solution raw) (paritysol ∷ number raw.greatest ∷ semicolon ∷ flat_map line_symbols raw.lines)
   raw_written raw fits all =
       let lines = flat_map solution_line raw.lines in
       paritysol_written tokens gaps numbers words signs names (decimal raw.greatest ++ (59 ∷ 10 ∷ lines)) _

@@ -4,16 +4,16 @@ use Rattle.std.specs.Prelude.{◌↔◌, IsTrue, option_map}
 use Rattle.omega_text.specs.declared.refusal.Refusal.{Refusal}
 use Rattle.omega_game.specs.Game.{Node}
 use Rattle.omega_game.specs.declared.player.Player.{Player}
-use Rattle.omega_pg.specs.solution.Grammar.{Line}
-use Rattle.omega_pg.specs.solution.reader.Automaton.{State, after_number, after_semicolon, after_word, stage_after_number, stage_after_word, step, to_stage, with_line}
+use Rattle.omega_pg.specs.solution.Grammar.{SolutionLine}
+use Rattle.omega_pg.specs.solution.reader.Automaton.{SolutionReaderState, after_number, after_semicolon, after_word, stage_after_number, stage_after_word, step, to_stage, with_line}
 use Rattle.omega_pg.specs.solution.reader.Lines.{AreJudged}
-use Rattle.omega_pg.specs.solution.reader.Reading.{GoesOn, HasTaken, Keeps, KeepsNext}
+use Rattle.omega_pg.specs.solution.reader.Reading.{GoesOnTo, HasTaken, Keeps, KeepsNext}
 use Rattle.omega_pg.specs.solution.Grammar.{solution_syntax}
 use Rattle.omega_text.specs.Lexeme.{Lexeme}
 use Rattle.omega_text.specs.Reading.{IsWholeOrUnfinished, TakesOrRefuses}
 use Rattle.omega_text.specs.Syntax.{TokensBegin, TokensComplete}
 use Rattle.omega_text.specs.declared.pg.kind.PgKind.{PgKind}
-use Rattle.omega_pg.specs.Symbols.{symbol_of, symbols_of}
+use Rattle.omega_pg.specs.Symbols.{pg_symbol_of, symbols_of}
 use Rattle.omega_pg.specs.solution.reader.Reader.{HasBecome}
 use Rattle.omega_pg.specs.declared.solution.lines.Lines.{Lines}
 use Rattle.omega_pg.specs.declared.solution.reader.Reader.{Reader}
@@ -23,8 +23,8 @@ use Rattle.omega_pg.proofs.reader.Deciding.{refused_from_run, run_taken, unfinis
 use Rattle.omega_pg.proofs.solutions.Grammar.{SpellsSolution-from_run, decides_solutions, raw_of}
 
 -- a call that goes on by the stage keeps the next state
-went_on : (nodes : List Node) (state : State) (taken : Bool) (next : Option Stage) (stage stage' : Stage) (greatest greatest' : ℕ) (lines lines' : Lines)
-    → GoesOn taken next stage greatest lines stage' greatest' lines' → Keeps nodes state stage greatest lines
+went_on : (nodes : List Node) (state : SolutionReaderState) (taken : Bool) (next : Option Stage) (stage stage' : Stage) (greatest greatest' : ℕ) (lines lines' : Lines)
+    → GoesOnTo taken next stage greatest lines stage' greatest' lines' → Keeps nodes state stage greatest lines
     → KeepsNext taken nodes (option_map (λ next. to_stage next state) next) stage' greatest' lines'
 went_on nodes state true next stage stage' greatest greatest' lines lines' goes keeps = (
   to_stage stage' state,
@@ -37,16 +37,16 @@ went_on nodes state true next stage stage' greatest greatest' lines lines' goes 
 )
 went_on nodes state false next stage stage' greatest greatest' lines lines' goes keeps = ap (option_map (λ next. to_stage next state)) goes
 
-pub number_goes : (nodes : List Node) (state : State) (taken : Bool) (n : ℕ) (next : Option Stage) (stage stage' : Stage) (greatest greatest' : ℕ) (lines lines' : Lines)
-    → next ≡ stage_after_number stage n → GoesOn taken next stage greatest lines stage' greatest' lines' → Keeps nodes state stage greatest lines
+pub number_goes : (nodes : List Node) (state : SolutionReaderState) (taken : Bool) (n : ℕ) (next : Option Stage) (stage stage' : Stage) (greatest greatest' : ℕ) (lines lines' : Lines)
+    → next ≡ stage_after_number stage n → GoesOnTo taken next stage greatest lines stage' greatest' lines' → Keeps nodes state stage greatest lines
     → KeepsNext taken nodes (after_number state.stage state n) stage' greatest' lines'
 number_goes nodes state taken n next stage stage' greatest greatest' lines lines' e goes keeps =
     subst (λ stage. KeepsNext taken nodes (option_map (λ next. to_stage next state) stage) stage' greatest' lines')
     (e ∙ ap (λ s. stage_after_number s n) keeps.same_stage)
     (went_on nodes state taken next stage stage' greatest greatest' lines lines' goes keeps)
 
-pub word_goes : (nodes : List Node) (state : State) (taken : Bool) (next : Option Stage) (stage stage' : Stage) (greatest greatest' : ℕ) (lines lines' : Lines)
-    → next ≡ stage_after_word stage → GoesOn taken next stage greatest lines stage' greatest' lines' → Keeps nodes state stage greatest lines
+pub word_goes : (nodes : List Node) (state : SolutionReaderState) (taken : Bool) (next : Option Stage) (stage stage' : Stage) (greatest greatest' : ℕ) (lines lines' : Lines)
+    → next ≡ stage_after_word stage → GoesOnTo taken next stage greatest lines stage' greatest' lines' → Keeps nodes state stage greatest lines
     → KeepsNext taken nodes (after_word state.stage state) stage' greatest' lines'
 word_goes nodes state taken next stage stage' greatest greatest' lines lines' e goes keeps =
     subst (λ stage. KeepsNext taken nodes (option_map (λ next. to_stage next state) stage) stage' greatest' lines')
@@ -54,7 +54,7 @@ word_goes nodes state taken next stage stage' greatest greatest' lines lines' e 
     (went_on nodes state taken next stage stage' greatest greatest' lines lines' goes keeps)
 
 -- the header ends
-pub header_ends : (nodes : List Node) (state : State) (stage : Stage) (greatest n : ℕ) (lines : Lines)
+pub header_ends : (nodes : List Node) (state : SolutionReaderState) (stage : Stage) (greatest n : ℕ) (lines : Lines)
     → stage ≡ Number n → Keeps nodes state stage greatest lines
     → KeepsNext true nodes (after_semicolon state.stage state) Ended n lines
 header_ends nodes state stage greatest n lines is keeps = (
@@ -64,9 +64,9 @@ header_ends nodes state stage greatest n lines is keeps = (
 )
 
 -- a line ends
-pub line_ends : (nodes : List Node) (state : State) (stage : Stage) (greatest id : ℕ) (winner : Player) (successor : Option ℕ) (lines lines' : Lines)
+pub line_ends : (nodes : List Node) (state : SolutionReaderState) (stage : Stage) (greatest id : ℕ) (winner : Player) (successor : Option ℕ) (lines lines' : Lines)
     → after_semicolon stage state ≡ Some (with_line id winner successor state) → Keeps nodes state stage greatest lines
-    → ((before : List Line) → AreJudged nodes before lines.good lines.winners.items lines.zero.items lines.one.items
+    → ((before : List SolutionLine) → AreJudged nodes before lines.good lines.winners.items lines.zero.items lines.one.items
     → AreJudged nodes (before ++ record { identifier = id; winner = winner; successor = successor } ∷ []) lines'.good lines'.winners.items lines'.zero.items lines'.one.items)
     → KeepsNext true nodes (after_semicolon state.stage state) Ended greatest lines'
 line_ends nodes state stage greatest id winner successor lines lines' is keeps added = (
@@ -77,7 +77,7 @@ line_ends nodes state stage greatest id winner successor lines lines' is keeps a
 
 -- a token that is taken leads on, and one that is refused ends what begins a text
 taken_on : (taken : Bool) (nodes : List Node) (lexemes : List (Lexeme PgKind)) (lexeme : Lexeme PgKind) (stage stage' : Stage) (greatest greatest' : ℕ) (lines lines' : Lines)
-    → ((state : State) → Keeps nodes state stage greatest lines → KeepsNext taken nodes (step state (symbol_of lexeme)) stage' greatest' lines')
+    → ((state : SolutionReaderState) → Keeps nodes state stage greatest lines → KeepsNext taken nodes (step state (pg_symbol_of lexeme)) stage' greatest' lines')
     → HasTaken nodes (symbols_of lexemes) stage greatest lines
     → TakesOrRefuses taken (TokensBegin solution_syntax) (λ all. HasTaken nodes (symbols_of all) stage' greatest' lines') lexemes lexeme
 taken_on true nodes lexemes lexeme stage stage' greatest greatest' lines lines' takes has =
@@ -88,8 +88,8 @@ taken_on false nodes lexemes lexeme stage stage' greatest greatest' lines lines'
 
 -- the same of a call, which keeps the game
 pub taken_on_all : (result : Result Bool Refusal) (reader next : Reader) (lexeme : Lexeme PgKind) → next.game.now ≡ reader.game.now
-    → IfOk result (λ taken. (state : State) → Keeps reader.game.now state reader.stage reader.greatest reader.lines
-    → KeepsNext taken reader.game.now (step state (symbol_of lexeme)) next.stage next.greatest next.lines)
+    → IfOk result (λ taken. (state : SolutionReaderState) → Keeps reader.game.now state reader.stage reader.greatest reader.lines
+    → KeepsNext taken reader.game.now (step state (pg_symbol_of lexeme)) next.stage next.greatest next.lines)
     → IfOk result (λ taken. (start : Reader) (lexemes : List (Lexeme PgKind)) → HasBecome start lexemes reader
     → TakesOrRefuses taken (TokensBegin solution_syntax) (λ all. HasBecome start all next) lexemes lexeme)
 taken_on_all (Err refusal) reader next lexeme same takes = tt

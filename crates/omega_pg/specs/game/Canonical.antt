@@ -32,6 +32,6 @@ node_line spec =
     ++ (codes " " ++ (listed spec.successors ++ (name_part spec.name ++ codes ";\n")))))))
 
 -- the canonical text of a game
-abbrev pub canonical : List Node → List ℕ
-canonical nodes =
+abbrev pub canonical_game : List Node → List ℕ
+canonical_game nodes =
     header_line (greatest_identifier nodes) ++ flat_map node_line (map (specified nodes) nodes)

@@ -3,7 +3,7 @@ use Rattle.std.specs.Prelude.{◌≡◌, ℕ, ◌≤◌, ◌⊎◌, List, length
 use Rattle.omega_text.specs.Limits.{most_text}
 use Rattle.omega_text.specs.declared.refusal.Refusal.{Refusal}
 use Rattle.omega_game.specs.Game.{Node, IsGame, IsWithinLimits}
-use Rattle.omega_pg.specs.game.Canonical.{canonical}
+use Rattle.omega_pg.specs.game.Canonical.{canonical_game}
 use Rattle.omega_pg.specs.game.Refusing.{IsRefusal}
 use Rattle.omega_pg.specs.game.Text.{IsGameText}
 
@@ -13,8 +13,8 @@ GamesOfTextsAreOne =
     (source : List ℕ) (one other : List Node) → IsGameText source one → IsGameText source other → one ≡ other
 
 -- a text has at most one refusal
-abbrev pub RefusalsAreOne : Type 0
-RefusalsAreOne =
+abbrev pub GameRefusalsAreOne : Type 0
+GameRefusalsAreOne =
     (source : List ℕ) (one other : Refusal) → IsRefusal source one → IsRefusal source other → one ≡ other
 
 -- a text that stands for a game has no refusal
@@ -28,7 +28,7 @@ TextsAreReadOrRefused =
     (source : List ℕ) → ((game : List Node) × IsGameText source game) ⊎ ((refusal : Refusal) × IsRefusal source refusal)
 
 -- the canonical text of a game, within the limit of texts, stands for that game
-abbrev pub CanonicalTextsAreRead : Type 0
-CanonicalTextsAreRead =
-    (nodes : List Node) → IsGame nodes → IsWithinLimits nodes → length (canonical nodes) ≤ most_text
-    → IsGameText (canonical nodes) nodes
+abbrev pub CanonicalGamesAreRead : Type 0
+CanonicalGamesAreRead =
+    (nodes : List Node) → IsGame nodes → IsWithinLimits nodes → length (canonical_game nodes) ≤ most_text
+    → IsGameText (canonical_game nodes) nodes

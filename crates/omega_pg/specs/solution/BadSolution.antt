@@ -2,7 +2,7 @@
 use Rattle.std.specs.Prelude.{◌≡◌, ◌≢◌, ℕ, ◌<◌, ◌⊎◌, Option, Some, None, List, length, map, All, slice_index_or}
 use Rattle.omega_game.specs.Game.{Node, identifiers, owner_at, successors_at, greatest_identifier, identifier_at}
 use Rattle.omega_game.specs.declared.player.Player.{Player}
-use Rattle.omega_pg.specs.solution.Grammar.{Line, RawSolution, no_line}
+use Rattle.omega_pg.specs.solution.Grammar.{SolutionLine, RawSolution, no_line}
 
 -- the header's number is not the game's greatest identifier
 abbrev pub HasOtherNumber : List Node → RawSolution → Type 0
@@ -20,7 +20,7 @@ IsWrongSuccessor nodes v winner (Some id) =
     (owner_at nodes v ≢ winner) ⊎ All (λ w. identifier_at nodes w ≢ id) (successors_at nodes v)
 
 -- the successor of some line is wrong
-pub record HasWrongSuccessor (nodes : List Node) (lines : List Line) : Type 0 where
+pub record HasWrongSuccessor (nodes : List Node) (lines : List SolutionLine) : Type 0 where
   pub place : ℕ
   pub inside : place < length lines
   pub wrong : IsWrongSuccessor nodes place (slice_index_or lines place no_line).winner (slice_index_or lines place no_line).successor

@@ -3,7 +3,7 @@ use Rattle.std.specs.Prelude.{ℕ, Option, Some, None, List, [], ◌++◌, codes
 use Rattle.std.specs.List.{flat_map}
 use Rattle.omega_game.specs.Game.{Node}
 use Rattle.omega_game.specs.Player.{player_number}
-use Rattle.omega_pg.specs.solution.Grammar.{Line, RawSolution}
+use Rattle.omega_pg.specs.solution.Grammar.{SolutionLine, RawSolution}
 use Rattle.omega_pg.specs.solution.Text.{raw_solution}
 use Rattle.omega_game.specs.declared.solution.Solution.{Solution}
 
@@ -13,15 +13,15 @@ choice_part None = []
 choice_part (Some id) = codes " " ++ decimal id
 
 -- identifier and winner, and a successor if there is one, with single spaces between them, then `;` and a line feed
-abbrev pub solution_line : Line → List ℕ
+abbrev pub solution_line : SolutionLine → List ℕ
 solution_line line =
     decimal line.identifier ++ (codes " " ++ (decimal (player_number line.winner) ++ (choice_part line.successor ++ codes ";\n")))
 
 -- the written form of what is written: `paritysol`, a space, the number and `;`, then the lines
-abbrev pub written : RawSolution → List ℕ
-written raw =
+abbrev pub written_solution : RawSolution → List ℕ
+written_solution raw =
     codes "paritysol " ++ (decimal raw.greatest ++ (codes ";\n" ++ flat_map solution_line raw.lines))
 
 -- the text of a solution of a game
 abbrev pub solution_text : List Node → Solution → List ℕ
-solution_text nodes solution = written (raw_solution nodes solution)
+solution_text nodes solution = written_solution (raw_solution nodes solution)

@@ -4,13 +4,13 @@ use Rattle.std.specs.List.{range_with_len}
 use Rattle.omega_text.specs.Limits.{most_text}
 use Rattle.omega_game.specs.Game.{Node, node_at, owner_at, greatest_identifier}
 use Rattle.omega_text.specs.Syntax.{IsTextOf}
-use Rattle.omega_pg.specs.solution.Grammar.{Line, RawSolution, solution_syntax}
+use Rattle.omega_pg.specs.solution.Grammar.{SolutionLine, RawSolution, solution_syntax}
 use Rattle.omega_game.specs.Solution.{IsSolution, choices_of, winner_at}
 use Rattle.omega_game.specs.Winning.{choice_at}
 use Rattle.omega_game.specs.declared.solution.Solution.{Solution}
 
 -- the line of the node at a place: the choice of its owner stands there by its identifier
-abbrev pub line_at : List Node → Solution → ℕ → Line
+abbrev pub line_at : List Node → Solution → ℕ → SolutionLine
 line_at nodes solution v = record {
   identifier = (node_at nodes v).identifier;
   winner = winner_at solution v;

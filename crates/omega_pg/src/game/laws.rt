@@ -1,7 +1,7 @@
 //! What holds of every text of a game, for callers' proofs: each call does nothing and states one law.
 
 ghost use Rattle.omega_pg.specs.game.Grammar.{game_syntax};
-ghost use Rattle.omega_pg.specs.game.Laws.{CanonicalTextsAreRead, GamesAreNotRefused, GamesOfTextsAreOne, RefusalsAreOne, TextsAreReadOrRefused};
+ghost use Rattle.omega_pg.specs.game.Laws.{CanonicalGamesAreRead, GamesAreNotRefused, GamesOfTextsAreOne, GameRefusalsAreOne, TextsAreReadOrRefused};
 ghost use Rattle.omega_text.specs.Syntax.{SyntaxFaultsAreFirst};
 
 use crate::game::syntax::GameSyntax;
@@ -27,7 +27,7 @@ pub fn games_of_texts_are_one()
 
 /// A text has at most one refusal.
 pub fn refusals_are_one()
-    ensures { RefusalsAreOne }
+    ensures { GameRefusalsAreOne }
 {
     cuts_are_one::<PgKind>();
     text_faults_are_one::<GameSyntax>();
@@ -61,7 +61,7 @@ pub fn syntax_faults_are_first()
 
 /// The canonical text of a game, within the limit of texts, stands for that game.
 pub fn canonical_texts_are_read()
-    ensures { CanonicalTextsAreRead }
+    ensures { CanonicalGamesAreRead }
 {
     tokens_follow();
     ends_are_gaps();

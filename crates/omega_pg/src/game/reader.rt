@@ -2,7 +2,7 @@ ghost use Rattle.std.specs.Prelude.{◌≡◌, ◌≤◌, ◌↔◌, IfOk, OnOk,
 ghost use Rattle.omega_text.specs.pg.Forms.{IsQuoted};
 ghost use Rattle.omega_text.specs.Limits.{most_number};
 ghost use Rattle.omega_game.specs.Game.{IsNameByte};
-ghost use Rattle.omega_pg.specs.Symbols.{between_quotes};
+ghost use Rattle.omega_text.specs.Forms.{between_quotes};
 ghost use Rattle.omega_pg.specs.game.reader.Automaton.{is_above};
 
 use crate::game::stage::Stage;
@@ -25,11 +25,11 @@ pub(crate) struct Reader {
 impl Reader {
     ghost use Rattle.omega_pg.specs.declared.game.stage.Stage.TheVariants.{Owner};
     ghost use Rattle.omega_pg.specs.game.reader.Automaton.{IsReady, Takes, after_comma, after_name, after_number, after_semicolon, after_word, begun, initial, player_of, to_stage, with_node};
-    ghost use Rattle.omega_pg.specs.game.reader.Reader.{state_of};
+    ghost use Rattle.omega_pg.specs.game.reader.Reader.{game_reader_state};
     ghost use Rattle.omega_game.specs.Game.{IsNameByte};
 
     pub(crate) fn new(alloc: Global) -> Self
-        ensures { state_of result ≡ initial }
+        ensures { game_reader_state result ≡ initial }
     {
         Reader {
             stage: Stage::Start,
@@ -42,9 +42,9 @@ impl Reader {
     /// Takes a number, unless no text goes on so.
     #[tactic(auto, using(crate::proofs::games::Changes::length_with_last))]
     pub(crate) fn take_number(&mut self, number: u32) -> Result<bool, Refusal>
-        requires ready { IsReady (state_of self.old) }
+        requires ready { IsReady (game_reader_state self.old) }
         requires number { number ≤ most_number }
-        ensures takes { IfOk result (λ taken. Takes taken (after_number self.old.stage (state_of self.old) number) (state_of self.new)) }
+        ensures takes { IfOk result (λ taken. Takes taken (after_number self.old.stage (game_reader_state self.old) number) (game_reader_state self.new)) }
         ensures memory { IsOkUnless result Refusal.Memory }
     {
         match self.stage {
@@ -84,7 +84,7 @@ impl Reader {
     fn take_owner(&mut self, id: u32, priority: u32, number: u32) -> bool
         requires id { id ≤ most_number }
         requires priority { priority ≤ most_number }
-        ensures { Takes result (option_map (λ owner. to_stage (Owner id priority owner) (state_of self.old)) (player_of number)) (state_of self.new) }
+        ensures { Takes result (option_map (λ owner. to_stage (Owner id priority owner) (game_reader_state self.old)) (player_of number)) (game_reader_state self.new) }
     {
         match Player::of_number(number) {
             None => false,
@@ -110,7 +110,7 @@ impl Reader {
         requires id { id ≤ most_number }
         requires priority { priority ≤ most_number }
         requires first { first ≤ most_number }
-        ensures begun { OnOk result (state_of self.new ≡ with_node (begun id priority owner first) (state_of self.old)) }
+        ensures begun { OnOk result (game_reader_state self.new ≡ with_node (begun id priority owner first) (game_reader_state self.old)) }
         ensures memory { IsOkUnless result Refusal.Memory }
     {
         self.builder.add_node(id, priority, owner, first)?;
@@ -121,7 +121,7 @@ impl Reader {
 
     /// Takes the word `parity`, unless no text goes on so.
     pub(crate) fn take_word(&mut self) -> bool
-        ensures { Takes result (after_word self.old.stage (state_of self.old)) (state_of self.new) }
+        ensures { Takes result (after_word self.old.stage (game_reader_state self.old)) (game_reader_state self.new) }
     {
         match self.stage {
             Stage::Start => {
@@ -134,8 +134,8 @@ impl Reader {
 
     /// Takes a semicolon, unless no text goes on so.
     pub(crate) fn take_semicolon(&mut self) -> bool
-        requires { IsReady (state_of self.old) }
-        ensures { Takes result (after_semicolon self.old.stage (state_of self.old)) (state_of self.new) }
+        requires { IsReady (game_reader_state self.old) }
+        ensures { Takes result (after_semicolon self.old.stage (game_reader_state self.old)) (game_reader_state self.new) }
     {
         match self.stage {
             Stage::Number { header } => {
@@ -153,8 +153,8 @@ impl Reader {
 
     /// Takes a comma, unless no text goes on so.
     pub(crate) fn take_comma(&mut self) -> bool
-        requires { IsReady (state_of self.old) }
-        ensures { Takes result (after_comma self.old.stage (state_of self.old)) (state_of self.new) }
+        requires { IsReady (game_reader_state self.old) }
+        ensures { Takes result (after_comma self.old.stage (game_reader_state self.old)) (game_reader_state self.new) }
     {
         match self.stage {
             Stage::Listed => {
@@ -168,9 +168,9 @@ impl Reader {
     /// Takes a name without its quotes, unless no text goes on so.
     #[tactic(auto, using(crate::proofs::games::Changes::length_with_last))]
     pub(crate) fn take_name(&mut self, name: &[u8]) -> Result<bool, Refusal>
-        requires ready { IsReady (state_of self.old) }
+        requires ready { IsReady (game_reader_state self.old) }
         requires bytes { All IsNameByte name.now }
-        ensures takes { IfOk result (λ taken. Takes taken (after_name self.old.stage (state_of self.old) name.now) (state_of self.new)) }
+        ensures takes { IfOk result (λ taken. Takes taken (after_name self.old.stage (game_reader_state self.old) name.now) (game_reader_state self.new)) }
         ensures memory { IsOkUnless result Refusal.Memory }
     {
         match self.stage {
@@ -185,25 +185,25 @@ impl Reader {
 }
 
 impl TokenReader<PgKind> for Reader {
-    ghost use Rattle.omega_pg.specs.Symbols.{symbol_of, symbols_of};
+    ghost use Rattle.omega_pg.specs.Symbols.{pg_symbol_of, symbols_of};
     ghost use Rattle.omega_pg.specs.game.Grammar.{game_syntax};
-    ghost use Rattle.omega_pg.specs.game.reader.Automaton.{IsReached, IsReady, Takes, step};
-    ghost use Rattle.omega_pg.specs.game.reader.Reader.{state_of};
+    ghost use Rattle.omega_pg.specs.game.reader.Automaton.{IsReachedBy, IsReady, Takes, step};
+    ghost use Rattle.omega_pg.specs.game.reader.Reader.{game_reader_state};
     ghost use Rattle.omega_pg.specs.declared.game.stage.Stage.TheVariants.{Ended};
     ghost use Rattle.omega_text.specs.Lexeme.{lexeme_of};
     ghost use Rattle.omega_text.specs.Syntax.{TokensBegin, TokensComplete};
     ghost use Rattle.omega_text.specs.pg.Forms.{Spells};
 
-    ghost becomes = { λ _ lexemes reader. IsReached (symbols_of lexemes) (state_of reader) };
+    ghost becomes = { λ _ lexemes reader. IsReachedBy (symbols_of lexemes) (game_reader_state reader) };
 
     ghost begins = { TokensBegin game_syntax };
 
     ghost completes = { TokensComplete game_syntax };
 
     fn take(&mut self, token: &Token<'_, PgKind>) -> Result<bool, Refusal>
-        requires ready { IsReady (state_of self.old) }
+        requires ready { IsReady (game_reader_state self.old) }
         requires token { Spells token.now.kind token.now.value token.now.text.now }
-        ensures takes { IfOk result (λ taken. Takes taken (step (state_of self.old) (symbol_of (lexeme_of token.now))) (state_of self.new)) }
+        ensures takes { IfOk result (λ taken. Takes taken (step (game_reader_state self.old) (pg_symbol_of (lexeme_of token.now))) (game_reader_state self.new)) }
         ensures memory { IsOkUnless result Refusal.Memory }
     {
         match token.kind {

@@ -4,13 +4,13 @@ use omega_text::{PgKind, TextSyntax, TokenKind};
 pub(crate) struct GameSyntax;
 
 impl TextSyntax for GameSyntax {
-    ghost use Rattle.omega_pg.specs.Symbols.{Symbol};
+    ghost use Rattle.omega_pg.specs.Symbols.{PgSymbol};
     ghost use Rattle.omega_text.specs.declared.pg.kind.PgKind.{PgKind};
     ghost use Rattle.omega_pg.specs.game.Grammar.{RawGame, game_syntax};
 
     ghost Kind = { PgKind };
 
-    ghost Symbol = { Symbol };
+    ghost Symbol = { PgSymbol };
 
     ghost Raw = { RawGame };
 

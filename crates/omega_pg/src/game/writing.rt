@@ -1,7 +1,7 @@
 ghost use Rattle.std.specs.Prelude.{◌≡◌, ◌<◌, ◌++◌, All, IfOk, IsOkUnless, OnOk, codes, decimal, length, map, option_map};
 ghost use Rattle.omega_game.specs.Building.{specified};
 ghost use Rattle.omega_game.specs.Game.{IsGame, node_at, identifier_at};
-ghost use Rattle.omega_pg.specs.game.Canonical.{canonical, header_line, listed, listed_behind, name_part, node_line};
+ghost use Rattle.omega_pg.specs.game.Canonical.{canonical_game, header_line, listed, listed_behind, name_part, node_line};
 
 use omega_game::{Game, Refusal};
 use omega_text::write_number;
@@ -12,7 +12,7 @@ use std::alloc::Global;
 /// If it has at most `MOST_TEXT` bytes, it is read back to the same game, by `laws::canonical_texts_are_read`. The
 /// cost is linear in the text.
 pub fn write_game(alloc: Global, game: &Game) -> Result<Vec<u8>, Refusal>
-    ensures text { IfOk result (λ text. text.items ≡ canonical game.now) }
+    ensures text { IfOk result (λ text. text.items ≡ canonical_game game.now) }
     ensures memory { IsOkUnless result Refusal.Memory }
 {
     let nodes = game.len();

@@ -17,7 +17,7 @@ pub(crate) struct Lines {
 
 impl Lines {
     ghost use Rattle.std.specs.Prelude.{List};
-    ghost use Rattle.omega_pg.specs.solution.Grammar.{Line};
+    ghost use Rattle.omega_pg.specs.solution.Grammar.{SolutionLine};
     ghost use Rattle.omega_pg.specs.solution.reader.Lines.{AreJudged, IsOutcome, entry_of};
     ghost use Rattle.omega_game.specs.declared.player.Player.TheVariants.{One, Zero};
 
@@ -43,7 +43,7 @@ impl Lines {
         winner: Player,
         successor: Option<u32>,
     ) -> Result<(), Refusal>
-        ensures judged { OnOk result ((lines : List Line) → AreJudged game.now lines self.old.good self.old.winners.items self.old.zero.items self.old.one.items
+        ensures judged { OnOk result ((lines : List SolutionLine) → AreJudged game.now lines self.old.good self.old.winners.items self.old.zero.items self.old.one.items
             → AreJudged game.now (lines ++ record { identifier = id; winner = winner; successor = successor } ∷ []) self.new.good self.new.winners.items self.new.zero.items self.new.one.items) }
         ensures memory { IsOkUnless result Refusal.Memory }
     {
@@ -62,7 +62,7 @@ impl Lines {
 
     /// The solution of the lines, if they are those of one behind a header with this number. 53 else.
     pub(crate) fn finish(self, game: &Game, greatest: u32) -> Result<Solution, Refusal>
-        ensures judged { (lines : List Line) → AreJudged game.now lines self.good self.winners.items self.zero.items self.one.items
+        ensures judged { (lines : List SolutionLine) → AreJudged game.now lines self.good self.winners.items self.zero.items self.one.items
             → IsOutcome game.now (record { greatest = greatest; lines = lines }) result }
     {
         let nodes = game.len();

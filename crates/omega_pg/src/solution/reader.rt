@@ -18,8 +18,8 @@ pub(crate) struct Reader<'g> {
 }
 
 impl<'g> Reader<'g> {
-    ghost use Rattle.omega_pg.specs.solution.reader.Automaton.{State, after_semicolon, initial};
-    ghost use Rattle.omega_pg.specs.solution.reader.Reading.{GoesOn, Keeps, KeepsNext};
+    ghost use Rattle.omega_pg.specs.solution.reader.Automaton.{SolutionReaderState, after_semicolon, initial};
+    ghost use Rattle.omega_pg.specs.solution.reader.Reading.{GoesOnTo, Keeps, KeepsNext};
 
     pub(crate) fn new(alloc: Global, game: &'g Game) -> Self
         ensures game { result.game.now ≡ game.now }
@@ -35,7 +35,7 @@ impl<'g> Reader<'g> {
 
     /// Goes on to a stage, if there is one.
     fn go_on(&mut self, next: Option<Stage>) -> bool
-        ensures goes { GoesOn result next self.old.stage self.old.greatest self.old.lines self.new.stage self.new.greatest self.new.lines }
+        ensures goes { GoesOnTo result next self.old.stage self.old.greatest self.old.lines self.new.stage self.new.greatest self.new.lines }
         ensures game { self.new.game.now ≡ self.old.game.now }
     {
         match next {
@@ -49,7 +49,7 @@ impl<'g> Reader<'g> {
 
     /// Takes a semicolon, unless no text goes on so.
     fn take_semicolon(&mut self) -> Result<bool, Refusal>
-        ensures takes { IfOk result (λ taken. (state : State) → Keeps self.old.game.now state self.old.stage self.old.greatest self.old.lines
+        ensures takes { IfOk result (λ taken. (state : SolutionReaderState) → Keeps self.old.game.now state self.old.stage self.old.greatest self.old.lines
             → KeepsNext taken self.old.game.now (after_semicolon state.stage state) self.new.stage self.new.greatest self.new.lines) }
         ensures game { self.new.game.now ≡ self.old.game.now }
         ensures memory { IsOkUnless result Refusal.Memory }
@@ -80,9 +80,9 @@ impl<'g> Reader<'g> {
 }
 
 impl TokenReader<PgKind> for Reader<'_> {
-    ghost use Rattle.omega_pg.specs.Symbols.{symbol_of};
+    ghost use Rattle.omega_pg.specs.Symbols.{pg_symbol_of};
     ghost use Rattle.omega_pg.specs.solution.Grammar.{solution_syntax};
-    ghost use Rattle.omega_pg.specs.solution.reader.Automaton.{State, step};
+    ghost use Rattle.omega_pg.specs.solution.reader.Automaton.{SolutionReaderState, step};
     ghost use Rattle.omega_pg.specs.solution.reader.Reader.{HasBecome};
     ghost use Rattle.omega_pg.specs.solution.reader.Reading.{Keeps, KeepsNext};
     ghost use Rattle.omega_pg.specs.declared.solution.stage.Stage.TheVariants.{Ended};
@@ -96,8 +96,8 @@ impl TokenReader<PgKind> for Reader<'_> {
     ghost completes = { TokensComplete solution_syntax };
 
     fn take(&mut self, token: &Token<'_, PgKind>) -> Result<bool, Refusal>
-        ensures takes { IfOk result (λ taken. (state : State) → Keeps self.old.game.now state self.old.stage self.old.greatest self.old.lines
-            → KeepsNext taken self.old.game.now (step state (symbol_of (lexeme_of token.now))) self.new.stage self.new.greatest self.new.lines) }
+        ensures takes { IfOk result (λ taken. (state : SolutionReaderState) → Keeps self.old.game.now state self.old.stage self.old.greatest self.old.lines
+            → KeepsNext taken self.old.game.now (step state (pg_symbol_of (lexeme_of token.now))) self.new.stage self.new.greatest self.new.lines) }
         ensures game { self.new.game.now ≡ self.old.game.now }
         ensures memory { IsOkUnless result Refusal.Memory }
     {

@@ -4,13 +4,13 @@ use omega_text::{PgKind, TextSyntax, TokenKind};
 pub(crate) struct SolutionSyntax;
 
 impl TextSyntax for SolutionSyntax {
-    ghost use Rattle.omega_pg.specs.Symbols.{Symbol};
+    ghost use Rattle.omega_pg.specs.Symbols.{PgSymbol};
     ghost use Rattle.omega_text.specs.declared.pg.kind.PgKind.{PgKind};
     ghost use Rattle.omega_pg.specs.solution.Grammar.{RawSolution, solution_syntax};
 
     ghost Kind = { PgKind };
 
-    ghost Symbol = { Symbol };
+    ghost Symbol = { PgSymbol };
 
     ghost Raw = { RawSolution };
 

@@ -7,10 +7,10 @@ use Rattle.omega_raw.proofs.RowLemmas.{edge_same, state_same}
 use Rattle.omega_raw.proofs.uniqueness.Rows.{IsOne, each_one, int_one, optional_one, string_one}
 use Rattle.omega_raw.proofs.uniqueness.Tokens.{expression_one, sign_passed, token_one}
 use Rattle.omega_raw.specs.steps.Beginnings.{edge_begun, edge_follows, state_begun, state_follows}
-use Rattle.omega_raw.specs.Grammar.{IsConj, IsEdge, IsState, conj_row, each, edge_row, int_row, joined_row, label_row, optional, sig_row, state_row, string_row}
+use Rattle.omega_raw.specs.Grammar.{IsConj, IsRawEdge, IsRawState, conj_row, each, edge_row, int_row, joined_row, label_row, optional_row, sig_row, state_row, string_row}
 use Rattle.omega_raw.specs.steps.Parts.{EndsConj, EndsEdge, EndsState, is_and, is_brace, is_bracket, is_edge, is_header, is_int, is_string}
 use Rattle.omega_raw.specs.steps.Reading.{IsAny, IsKind}
-use Rattle.omega_raw.specs.Symbols.{FirstIs, Symbol, header, label, number, sign}
+use Rattle.omega_raw.specs.Symbols.{FirstIs, AutomatonSymbol, header, label, number, sign}
 use Rattle.omega_raw.specs.declared.raw_state.RawState.{RawState}
 use Rattle.omega_text.specs.declared.hoa.kind.HoaKind.TheVariants as kind
 
@@ -29,10 +29,10 @@ label_part = record { begun = λ it others is. refl; follows = λ kind is. tt }
 sig_part : IsPart IsAny sig_row is_brace IsKind
 sig_part = record { begun = λ it others is. refl; follows = λ kind is. tt }
 
-edge_part : IsPart IsEdge edge_row is_edge EndsEdge
+edge_part : IsPart IsRawEdge edge_row is_edge EndsEdge
 edge_part = record { begun = edge_begun; follows = edge_follows }
 
-pub state_part : IsPart IsState state_row is_header EndsState
+pub state_part : IsPart IsRawState state_row is_header EndsState
 state_part = record { begun = state_begun; follows = state_follows }
 
 joined_one : IsOne IsAny joined_row (FirstIs IsKind)
@@ -62,28 +62,28 @@ sig_one tokens x y others more rest left _ _ ends last spells reads =
     (all_any x) (all_any y) (refl, tt) (refl, tt) inside.one inside.other in
     (behind.0, sign_passed kind.CloseBrace behind.1.middle others more rest left (λ lexeme. refl) behind.1.one behind.1.other)
 
-edge_one : LabelsAreOne → IsOne IsEdge edge_row (FirstIs EndsEdge)
+edge_one : LabelsAreOne → IsOne IsRawEdge edge_row (FirstIs EndsEdge)
 edge_one labels tokens x y others more rest left is so ends last spells reads =
-    let a = optional_one IsAny label_row is_bracket IsKind label_part (label_one labels) tokens x.label y.label (conj_row x.targets (optional sig_row x.marks others)) (conj_row y.targets (optional sig_row y.marks more)) rest left
+    let a = optional_one IsAny label_row is_bracket IsKind label_part (label_one labels) tokens x.label y.label (conj_row x.targets (optional_row sig_row x.marks others)) (conj_row y.targets (optional_row sig_row y.marks more)) rest left
     (some_any x.label) (some_any y.label) (guard_ends x.targets _ is) (guard_ends y.targets _ so) spells reads in
-    let b = conj_one a.1.middle x.targets y.targets (optional sig_row x.marks others) (optional sig_row y.marks more) rest left is so (targets_end x.marks others ends) (targets_end y.marks more last) a.1.one a.1.other in
+    let b = conj_one a.1.middle x.targets y.targets (optional_row sig_row x.marks others) (optional_row sig_row y.marks more) rest left is so (targets_end x.marks others ends) (targets_end y.marks more last) a.1.one a.1.other in
     let c = optional_one IsAny sig_row is_brace IsKind sig_part sig_one b.1.middle x.marks y.marks others more rest left (some_any x.marks) (some_any y.marks) (sig_ends others ends) (sig_ends more last) b.1.one b.1.other in
     (edge_same x.label x.targets x.marks y a.0 b.0 c.0, c.1)
 
 -- what stands behind the number of a state
-abbrev behind_number : RawState → List Symbol → List Symbol
-behind_number state others = optional string_row state.name (optional sig_row state.marks (each edge_row state.edges others))
+abbrev behind_number : RawState → List AutomatonSymbol → List AutomatonSymbol
+behind_number state others = optional_row string_row state.name (optional_row sig_row state.marks (each edge_row state.edges others))
 
-pub state_one : LabelsAreOne → IsOne IsState state_row (FirstIs EndsState)
+pub state_one : LabelsAreOne → IsOne IsRawState state_row (FirstIs EndsState)
 state_one labels tokens x y others more rest left is so ends last spells reads =
-    let name = token_one (header _) (header _) tokens (optional label_row x.label (number x.number ∷ behind_number x others)) (optional label_row y.label (number y.number ∷ behind_number y more)) rest left tt tt spells reads in
+    let name = token_one (header _) (header _) tokens (optional_row label_row x.label (number x.number ∷ behind_number x others)) (optional_row label_row y.label (number y.number ∷ behind_number y more)) rest left tt tt spells reads in
     let a = optional_one IsAny label_row is_bracket IsKind label_part (label_one labels) name.1.middle x.label y.label (number x.number ∷ behind_number x others) (number y.number ∷ behind_number y more) rest left
     (some_any x.label) (some_any y.label) (refl, tt) (refl, tt) name.1.one name.1.other in
     let b = token_one (number x.number) (number y.number) a.1.middle (behind_number x others) (behind_number y more) rest left tt tt a.1.one a.1.other in
-    let c = optional_one IsAny string_row is_string IsKind string_part (string_one (FirstIs IsKind)) b.1.middle x.name y.name (optional sig_row x.marks (each edge_row x.edges others)) (optional sig_row y.marks (each edge_row y.edges more)) rest left
+    let c = optional_one IsAny string_row is_string IsKind string_part (string_one (FirstIs IsKind)) b.1.middle x.name y.name (optional_row sig_row x.marks (each edge_row x.edges others)) (optional_row sig_row y.marks (each edge_row y.edges more)) rest left
     (some_any x.name) (some_any y.name) (name_ends x.marks _ (edges_begin x.edges others is ends)) (name_ends y.marks _ (edges_begin y.edges more so last)) b.1.one b.1.other in
     let d = optional_one IsAny sig_row is_brace IsKind sig_part sig_one c.1.middle x.marks y.marks (each edge_row x.edges others) (each edge_row y.edges more) rest left
     (some_any x.marks) (some_any y.marks) (sig_ends _ (edges_begin x.edges others is ends)) (sig_ends _ (edges_begin y.edges more so last)) c.1.one c.1.other in
-    let e = each_one IsEdge edge_row is_edge EndsEdge edge_part (edge_one labels) d.1.middle x.edges y.edges others more rest left is so (edges_end others ends) (edges_end more last) d.1.one d.1.other in
+    let e = each_one IsRawEdge edge_row is_edge EndsEdge edge_part (edge_one labels) d.1.middle x.edges y.edges others more rest left is so (edges_end others ends) (edges_end more last) d.1.one d.1.other in
     let id : x.number ≡ y.number = let same : number x.number ≡ number y.number = b.0 in cc in
     (state_same x.label x.number x.name x.marks x.edges y a.0 id c.0 d.0 e.0, e.1)

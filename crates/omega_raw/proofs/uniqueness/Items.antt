@@ -12,10 +12,10 @@ use Rattle.omega_raw.proofs.uniqueness.Body.{conj_one, string_part}
 use Rattle.omega_raw.proofs.uniqueness.Rows.{IsOne, each_one, optional_one, parameter_one, string_one, value_one, word_one}
 use Rattle.omega_raw.proofs.uniqueness.Tokens.{Both, expression_one, token_one}
 use Rattle.omega_raw.specs.steps.Beginnings.{item_begun, item_follows, parameter_begun, value_begun}
-use Rattle.omega_raw.specs.Grammar.{IsItem, content_row, each, header_named, item_header, item_name, item_row, optional, parameter_row, string_row, value_row, word_row}
+use Rattle.omega_raw.specs.Grammar.{IsRawItem, content_row, each, header_named, item_header, item_name, item_row, optional_row, parameter_row, string_row, value_row, word_row}
 use Rattle.omega_raw.specs.steps.Parts.{EndsItem, is_header, is_identifier, is_parameter, is_string, is_value}
 use Rattle.omega_raw.specs.steps.Reading.{IsAny, IsKind}
-use Rattle.omega_raw.specs.Symbols.{FirstIs, Spells, Symbol, Tokens, alias, formula, header, label, number, text, word}
+use Rattle.omega_raw.specs.Symbols.{FirstIs, ReadsSymbols, AutomatonSymbol, Tokens, alias, formula, header, label, number, text, word}
 use Rattle.omega_raw.specs.declared.header_value.HeaderValue.{HeaderValue}
 use Rattle.omega_raw.specs.declared.raw_item.RawItem.{RawItem}
 use Rattle.omega_raw.specs.declared.raw_item.RawItem.TheVariants as item
@@ -29,20 +29,20 @@ parameter_part = record { begun = parameter_begun; follows = λ kind is. tt }
 value_part : IsPart IsAny value_row is_value IsKind
 value_part = record { begun = value_begun; follows = λ kind is. tt }
 
-pub item_part : IsPart IsItem item_row is_header EndsItem
+pub item_part : IsPart IsRawItem item_row is_header EndsItem
 item_part = record { begun = item_begun; follows = item_follows }
 
-module _ (labels : LabelsAreOne) (formulas : FormulasAreOne) (tokens : Tokens) (others more : List Symbol) (rest left : Tokens) (ends : FirstIs EndsItem others) (last : FirstIs EndsItem more) where
+module _ (labels : LabelsAreOne) (formulas : FormulasAreOne) (tokens : Tokens) (others more : List AutomatonSymbol) (rest left : Tokens) (ends : FirstIs EndsItem others) (last : FirstIs EndsItem more) where
   -- an item that is read where another is written is that item
   abbrev IsSame : RawItem → RawItem → Type 0
-  IsSame x y = Spells tokens (content_row x others) rest → Spells tokens (content_row y more) left → (x ≡ y) × Both others more rest left
+  IsSame x y = ReadsSymbols tokens (content_row x others) rest → ReadsSymbols tokens (content_row y more) left → (x ≡ y) × Both others more rest left
 
   state_count_one : (x y : ℕ) → IsSame (item.States x) (item.States y)
   state_count_one x y spells reads =
       let a = token_one (number x) (number y) tokens others more rest left tt tt spells reads in
       (let same : number x ≡ number y = a.0 in cc, a.1)
 
-  start_one : (x y : List ℕ) → IsItem (item.Start x) → IsItem (item.Start y) → IsSame (item.Start x) (item.Start y)
+  start_one : (x y : List ℕ) → IsRawItem (item.Start x) → IsRawItem (item.Start y) → IsSame (item.Start x) (item.Start y)
   start_one x y is so spells reads =
       let a = conj_one tokens x y others more rest left is so (start_ends others ends) (start_ends more last) spells reads in
       (ap item.Start a.0, a.1)
@@ -75,7 +75,7 @@ module _ (labels : LabelsAreOne) (formulas : FormulasAreOne) (tokens : Tokens) (
 
   tool_one : (n m : List ℕ) (x y : Option (List ℕ)) → IsSame (item.Tool n x) (item.Tool m y)
   tool_one n m x y spells reads =
-      let a = token_one (text n) (text m) tokens (optional string_row x others) (optional string_row y more) rest left tt tt spells reads in
+      let a = token_one (text n) (text m) tokens (optional_row string_row x others) (optional_row string_row y more) rest left tt tt spells reads in
       let b = optional_one IsAny string_row is_string IsKind string_part (string_one (FirstIs IsKind)) a.1.middle x y others more rest left (some_any x) (some_any y) (strings_end others ends) (strings_end more last) a.1.one a.1.other in
       (let first : text n ≡ text m = a.0 in let second = b.0 in cc, b.1)
 
@@ -95,9 +95,9 @@ module _ (labels : LabelsAreOne) (formulas : FormulasAreOne) (tokens : Tokens) (
       (let values = a.0 in cc, a.1)
 
   -- items of one header and one name
-  content_one : (x y : RawItem) → IsItem x → IsItem y → item_header y ≡ item_header x → item_name y ≡ item_name x → IsSame x y
+  content_one : (x y : RawItem) → IsRawItem x → IsRawItem y → item_header y ≡ item_header x → item_name y ≡ item_name x → IsSame x y
   content_one (item.States n) y is so same name = of_state_count (IsSame (item.States n)) (state_count_one n) y same
-  content_one (item.Start x) y is so same name = of_start (λ y. IsItem y → IsSame (item.Start x) y) (λ states so. start_one x states is so) y same so
+  content_one (item.Start x) y is so same name = of_start (λ y. IsRawItem y → IsSame (item.Start x) y) (λ states so. start_one x states is so) y same so
   content_one (item.Propositions n x) y is so same name = of_propositions (IsSame (item.Propositions n x)) (λ m names. propositions_one n m x names) y same
   content_one (item.Alias n x) y is so same name = of_alias (IsSame (item.Alias n x)) (λ m tree. alias_one n m x tree) y same
   content_one (item.Acceptance n x) y is so same name = of_acceptance (IsSame (item.Acceptance n x)) (λ m tree. acceptance_one n m x tree) y same
@@ -107,7 +107,7 @@ module _ (labels : LabelsAreOne) (formulas : FormulasAreOne) (tokens : Tokens) (
   content_one (item.Properties x) y is so same name = of_properties (IsSame (item.Properties x)) (properties_one x) y same
   content_one (item.Unknown n x) y is so same name = of_unknown (λ y. item_name y ≡ n → IsSame (item.Unknown n x) y) (λ m values name. unknown_one n m x values name) y same name
 
-pub item_one : LabelsAreOne → FormulasAreOne → IsOne IsItem item_row (FirstIs EndsItem)
+pub item_one : LabelsAreOne → FormulasAreOne → IsOne IsRawItem item_row (FirstIs EndsItem)
 item_one labels formulas tokens x y others more rest left is so ends last spells reads =
     let a = token_one (header (item_name x)) (header (item_name y)) tokens (content_row x others) (content_row y more) rest left tt tt spells reads in
     let name : item_name y ≡ item_name x = let same : header (item_name x) ≡ header (item_name y) = a.0 in cc in

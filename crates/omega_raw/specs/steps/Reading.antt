@@ -5,7 +5,7 @@ use Rattle.omega_acc.specs.Depth.{IsMemory}
 use Rattle.omega_acc.specs.Symbols.{IsUnread}
 use Rattle.omega_text.specs.declared.hoa.kind.HoaKind.{HoaKind}
 use Rattle.omega_text.specs.declared.refusal.Refusal.{Refusal}
-use Rattle.omega_raw.specs.Symbols.{Spells, Symbol, Tokens}
+use Rattle.omega_raw.specs.Symbols.{ReadsSymbols, AutomatonSymbol, Tokens}
 
 -- the next token is not of this kind
 abbrev pub NextIsNot : HoaKind → Tokens → Type 0
@@ -23,8 +23,8 @@ NextMayBe Holds [] = Unit {0}
 NextMayBe Holds (lexeme ∷ rest) = Holds lexeme.kind
 
 -- want of memory, or the fault of a syntax
-abbrev pub IsRefusal : Refusal → Type 0
-IsRefusal = IsUnread (Unit {0})
+abbrev pub IsReadingRefusal : Refusal → Type 0
+IsReadingRefusal = IsUnread (Unit {0})
 
 -- the result is this value, and this holds; or memory is wanting
 abbrev pub Found : {X : Type 0} → Result X Refusal → X → Type 0 → Type 0
@@ -38,19 +38,19 @@ FoundThere (Err refusal) left = IsMemory refusal
 
 -- this is what was read: whatever the tokens that are left are written as,
 -- those before were written as this and then that
-pub record Given {X : Type 0} (Is : X → Type 0) (row : X → List Symbol → List Symbol) (old new : Tokens) (it : X) : Type 0 where
+pub record Given {X : Type 0} (Is : X → Type 0) (row : X → List AutomatonSymbol → List AutomatonSymbol) (old new : Tokens) (it : X) : Type 0 where
   pub is : Is it
-  pub spells : (others : List Symbol) (rest : Tokens) → Spells new others rest → Spells old (row it others) rest
+  pub spells : (others : List AutomatonSymbol) (rest : Tokens) → ReadsSymbols new others rest → ReadsSymbols old (row it others) rest
 
 -- what is read is what was written
-abbrev pub Gives : {X : Type 0} → (X → Type 0) → (X → List Symbol → List Symbol) → (old new : Tokens) → Result X Refusal → Type 0
-Gives Is row old new result = IfOk result (Given Is row old new)
+abbrev pub GivesRow : {X : Type 0} → (X → Type 0) → (X → List AutomatonSymbol → List AutomatonSymbol) → (old new : Tokens) → Result X Refusal → Type 0
+GivesRow Is row old new result = IfOk result (Given Is row old new)
 
 -- what was written is read, where such symbols follow
-abbrev pub Finds : {X : Type 0} → (X → Type 0) → (X → List Symbol → List Symbol) → (List Symbol → Type 0) → (old new : Tokens) → Result X Refusal → Type 0
+abbrev pub Finds : {X : Type 0} → (X → Type 0) → (X → List AutomatonSymbol → List AutomatonSymbol) → (List AutomatonSymbol → Type 0) → (old new : Tokens) → Result X Refusal → Type 0
 Finds {X} Is row Follow old new result =
-    (it : X) (others : List Symbol) (rest : Tokens) → Is it → Follow others → Spells old (row it others) rest
-    → Found result it (Spells new others rest)
+    (it : X) (others : List AutomatonSymbol) (rest : Tokens) → Is it → Follow others → ReadsSymbols old (row it others) rest
+    → Found result it (ReadsSymbols new others rest)
 
 -- the kind does not go on with a list of parts, and may follow a part
 abbrev pub EndsList : (HoaKind → Bool) → (HoaKind → Type 0) → HoaKind → Type 0
@@ -61,7 +61,7 @@ abbrev pub IsKind : HoaKind → Type 0
 IsKind kind = Unit {0}
 
 -- anything may follow
-abbrev pub Anything : List Symbol → Type 0
+abbrev pub Anything : List AutomatonSymbol → Type 0
 Anything others = Unit {0}
 
 -- nothing is asked of the value

@@ -1,9 +1,9 @@
 ghost use Rattle.std.specs.Prelude.{IfErr};
 ghost use Rattle.std.specs.List.{AllByRecursion};
 ghost use Rattle.omega_raw.specs.Symbols.{FirstIs};
-ghost use Rattle.omega_raw.specs.steps.Reading.{EndsList, Finds, Gives, IsRefusal};
+ghost use Rattle.omega_raw.specs.steps.Reading.{EndsList, Finds, GivesRow, IsReadingRefusal};
 ghost use Rattle.omega_raw.specs.steps.Beginnings.{edge_begun, edge_follows};
-ghost use Rattle.omega_raw.specs.Grammar.{IsEdge, each, edge_row};
+ghost use Rattle.omega_raw.specs.Grammar.{IsRawEdge, each, edge_row};
 ghost use Rattle.omega_raw.specs.steps.Parts.{EndsEdge, is_edge};
 
 use crate::body::guard::Guard;
@@ -21,7 +21,7 @@ struct Edge;
 impl<'a, S: TokenSource<'a, HoaKind>> Part<'a, S> for Edge {
     type Value = RawEdge;
 
-    ghost valid = { IsEdge };
+    ghost valid = { IsRawEdge };
 
     ghost written = { edge_row };
 
@@ -54,9 +54,9 @@ pub(crate) fn read_edges<'a, S: TokenSource<'a, HoaKind>>(
     alloc: Global,
     source: &mut S,
 ) -> Result<RawEdges, Refusal>
-    ensures gives { Gives (AllByRecursion IsEdge) (each edge_row) (S.left source.old) (S.left source.new) result }
-    ensures finds { Finds (AllByRecursion IsEdge) (each edge_row) (FirstIs (EndsList is_edge EndsEdge)) (S.left source.old) (S.left source.new) result }
-    ensures err { IfErr result IsRefusal }
+    ensures gives { GivesRow (AllByRecursion IsRawEdge) (each edge_row) (S.left source.old) (S.left source.new) result }
+    ensures finds { Finds (AllByRecursion IsRawEdge) (each edge_row) (FirstIs (EndsList is_edge EndsEdge)) (S.left source.old) (S.left source.new) result }
+    ensures err { IfErr result IsReadingRefusal }
 {
     let edges = read_raw_edges::<Edge, S>(alloc, source)?;
     let edges = edges.exact(alloc)?;

@@ -1,8 +1,8 @@
 ghost use Rattle.std.specs.Prelude.{IfErr, IfSome, refl};
-ghost use Rattle.omega_raw.specs.Grammar.{optional, sig_row};
+ghost use Rattle.omega_raw.specs.Grammar.{optional_row, sig_row};
 ghost use Rattle.omega_raw.specs.Symbols.{FirstIs};
 ghost use Rattle.omega_raw.specs.steps.Parts.{is_brace};
-ghost use Rattle.omega_raw.specs.steps.Reading.{EndsList, Finds, Gives, IsAny, IsKind, IsRefusal};
+ghost use Rattle.omega_raw.specs.steps.Reading.{EndsList, Finds, GivesRow, IsAny, IsKind, IsReadingRefusal};
 
 use crate::part::{Part, read_if, read_numbers};
 use crate::single::Int;
@@ -45,9 +45,9 @@ pub(crate) fn read_marks<'a, S: TokenSource<'a, HoaKind>>(
     alloc: Global,
     source: &mut S,
 ) -> Result<Marks, Refusal>
-    ensures gives { Gives (λ it. IfSome it IsAny) (optional sig_row) (S.left source.old) (S.left source.new) result }
-    ensures finds { Finds (λ it. IfSome it IsAny) (optional sig_row) (FirstIs (EndsList is_brace IsKind)) (S.left source.old) (S.left source.new) result }
-    ensures err { IfErr result IsRefusal }
+    ensures gives { GivesRow (λ it. IfSome it IsAny) (optional_row sig_row) (S.left source.old) (S.left source.new) result }
+    ensures finds { Finds (λ it. IfSome it IsAny) (optional_row sig_row) (FirstIs (EndsList is_brace IsKind)) (S.left source.old) (S.left source.new) result }
+    ensures err { IfErr result IsReadingRefusal }
 {
     let sets = read_if::<Sig, S>(alloc, source)?;
     Ok(match sets {

@@ -1,8 +1,8 @@
 ghost use Rattle.std.specs.Prelude.{IfErr, IfSome};
 ghost use Rattle.omega_raw.specs.Symbols.{FirstIs};
-ghost use Rattle.omega_raw.specs.steps.Reading.{EndsList, Finds, Gives, IsAny, IsKind, IsRefusal};
+ghost use Rattle.omega_raw.specs.steps.Reading.{EndsList, Finds, GivesRow, IsAny, IsKind, IsReadingRefusal};
 ghost use Rattle.omega_raw.specs.steps.Beginnings.{state_begun, state_follows};
-ghost use Rattle.omega_raw.specs.Grammar.{IsState, optional, state_row, string_row};
+ghost use Rattle.omega_raw.specs.Grammar.{IsRawState, optional_row, state_row, string_row};
 ghost use Rattle.omega_raw.specs.steps.Parts.{EndsState, is_header, is_string};
 
 use crate::body::edge::read_edges;
@@ -22,7 +22,7 @@ pub(crate) struct State;
 impl<'a, S: TokenSource<'a, HoaKind>> Part<'a, S> for State {
     type Value = RawState;
 
-    ghost valid = { IsState };
+    ghost valid = { IsRawState };
 
     ghost written = { state_row };
 
@@ -60,9 +60,9 @@ fn read_name<'a, S: TokenSource<'a, HoaKind>>(
     alloc: Global,
     source: &mut S,
 ) -> Result<StateName, Refusal>
-    ensures gives { Gives (λ it. IfSome it IsAny) (optional string_row) (S.left source.old) (S.left source.new) result }
-    ensures finds { Finds (λ it. IfSome it IsAny) (optional string_row) (FirstIs (EndsList is_string IsKind)) (S.left source.old) (S.left source.new) result }
-    ensures err { IfErr result IsRefusal }
+    ensures gives { GivesRow (λ it. IfSome it IsAny) (optional_row string_row) (S.left source.old) (S.left source.new) result }
+    ensures finds { Finds (λ it. IfSome it IsAny) (optional_row string_row) (FirstIs (EndsList is_string IsKind)) (S.left source.old) (S.left source.new) result }
+    ensures err { IfErr result IsReadingRefusal }
 {
     let bytes = read_if::<Quoted, S>(alloc, source)?;
     match bytes {

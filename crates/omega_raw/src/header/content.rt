@@ -1,11 +1,11 @@
 ghost use Rattle.std.specs.Prelude.{◌≡◌, IfErr};
 ghost use Rattle.omega_raw.specs.steps.Contents.{FindsNamed, GivesNamed, FindsUnknown, GivesUnknown};
 ghost use Rattle.omega_raw.specs.Grammar.{header_named};
-ghost use Rattle.omega_raw.specs.steps.Reading.{IsRefusal};
-ghost use Rattle.omega_raw.specs.declared.header.name.Header.TheVariants as header;
+ghost use Rattle.omega_raw.specs.steps.Reading.{IsReadingRefusal};
+ghost use Rattle.omega_raw.specs.declared.header.name.HeaderKind.TheVariants as header;
 
 use crate::header::known;
-use crate::header::name::Header;
+use crate::header::name::HeaderKind;
 use crate::part::read_each;
 use crate::raw_item::RawItem;
 use crate::single::UnknownValue;
@@ -23,20 +23,20 @@ pub(crate) fn content<'a, S: TokenSource<'a, HoaKind>>(
 ) -> Result<RawItem, Refusal>
     ensures gives { GivesNamed name.now (S.left source.old) (S.left source.new) result }
     ensures finds { FindsNamed name.now (S.left source.old) (S.left source.new) result }
-    ensures err { IfErr result IsRefusal }
+    ensures err { IfErr result IsReadingRefusal }
 {
-    match Header::of_name(name) {
-        Header::Format | Header::State => Err(Refusal::Text(TextFault::Syntax { at })),
-        Header::States => known::state_count(source),
-        Header::Start => known::start(alloc, source),
-        Header::Propositions => known::propositions(alloc, source),
-        Header::Alias => known::alias(alloc, source),
-        Header::Acceptance => known::acceptance(alloc, source),
-        Header::AccName => known::acc_name(alloc, source),
-        Header::Tool => known::tool(alloc, source),
-        Header::Name => known::title(alloc, source),
-        Header::Properties => known::properties(alloc, source),
-        Header::Unknown => unknown(alloc, name, source),
+    match HeaderKind::of_name(name) {
+        HeaderKind::Format | HeaderKind::State => Err(Refusal::Text(TextFault::Syntax { at })),
+        HeaderKind::States => known::state_count(source),
+        HeaderKind::Start => known::start(alloc, source),
+        HeaderKind::Propositions => known::propositions(alloc, source),
+        HeaderKind::Alias => known::alias(alloc, source),
+        HeaderKind::Acceptance => known::acceptance(alloc, source),
+        HeaderKind::AccName => known::acc_name(alloc, source),
+        HeaderKind::Tool => known::tool(alloc, source),
+        HeaderKind::Name => known::title(alloc, source),
+        HeaderKind::Properties => known::properties(alloc, source),
+        HeaderKind::Unknown => unknown(alloc, name, source),
     }
 }
 
@@ -49,7 +49,7 @@ fn unknown<'a, S: TokenSource<'a, HoaKind>>(
     requires { header_named name.now ≡ header.Unknown }
     ensures gives { GivesUnknown name.now (S.left source.old) (S.left source.new) result }
     ensures finds { FindsUnknown name.now (S.left source.old) (S.left source.new) result }
-    ensures err { IfErr result IsRefusal }
+    ensures err { IfErr result IsReadingRefusal }
 {
     let name = copied(alloc, name)?;
     let values = read_each::<UnknownValue, S>(alloc, source)?;

@@ -1,5 +1,5 @@
 ghost use Rattle.omega_raw.specs.steps.Beginnings.{item_begun, item_follows};
-ghost use Rattle.omega_raw.specs.Grammar.{IsItem, item_row};
+ghost use Rattle.omega_raw.specs.Grammar.{IsRawItem, item_row};
 ghost use Rattle.omega_raw.specs.steps.Parts.{EndsItem, is_header};
 
 use crate::header::content::content;
@@ -15,7 +15,7 @@ pub(crate) struct Item;
 impl<'a, S: TokenSource<'a, HoaKind>> Part<'a, S> for Item {
     type Value = RawItem;
 
-    ghost valid = { IsItem };
+    ghost valid = { IsRawItem };
 
     ghost written = { item_row };
 

@@ -3,7 +3,7 @@ ghost use Rattle.omega_raw.specs.Grammar.{header_named};
 
 /// What the name of a header says that it is.
 #[derive(Clone, Copy, Debug, PartialEq, Eq)]
-pub enum Header {
+pub enum HeaderKind {
     /// `HOA:`, which begins an automaton and is no item.
     Format,
     /// `State:`, which begins a state and is no item.
@@ -21,35 +21,35 @@ pub enum Header {
     Unknown,
 }
 
-impl Header {
+impl HeaderKind {
     /// The header of a name, which is without its colon.
-    pub(crate) fn of_name(name: &[u8]) -> Header
+    pub(crate) fn of_name(name: &[u8]) -> HeaderKind
         ensures { result ≡ header_named name.now }
     {
         if name == b"HOA".as_slice() {
-            Header::Format
+            HeaderKind::Format
         } else if name == b"State".as_slice() {
-            Header::State
+            HeaderKind::State
         } else if name == b"States".as_slice() {
-            Header::States
+            HeaderKind::States
         } else if name == b"Start".as_slice() {
-            Header::Start
+            HeaderKind::Start
         } else if name == b"AP".as_slice() {
-            Header::Propositions
+            HeaderKind::Propositions
         } else if name == b"Alias".as_slice() {
-            Header::Alias
+            HeaderKind::Alias
         } else if name == b"Acceptance".as_slice() {
-            Header::Acceptance
+            HeaderKind::Acceptance
         } else if name == b"acc-name".as_slice() {
-            Header::AccName
+            HeaderKind::AccName
         } else if name == b"tool".as_slice() {
-            Header::Tool
+            HeaderKind::Tool
         } else if name == b"name".as_slice() {
-            Header::Name
+            HeaderKind::Name
         } else if name == b"properties".as_slice() {
-            Header::Properties
+            HeaderKind::Properties
         } else {
-            Header::Unknown
+            HeaderKind::Unknown
         }
     }
 }

@@ -1,7 +1,7 @@
 -- Which command is of which kind: of a stream, of one text, or of a text beside that of a file.
-use Rattle.omega_line.specs.declared.command.Command.{Command}
-use Rattle.omega_line.specs.declared.command.Command.TheVariants as command
-use Rattle.omega_line.specs.declared.command.Format.TheVariants.{Hoa, Pg}
+use Rattle.omega_command.specs.declared.command.Command.{Command}
+use Rattle.omega_command.specs.declared.command.Command.TheVariants as command
+use Rattle.omega_command.specs.declared.command.Format.TheVariants.{Hoa, Pg}
 use Rattle.omega_run.specs.declared.kinds.Kind.{Kind}
 use Rattle.omega_run.specs.declared.kinds.Kind.TheVariants as kind
 use Rattle.omega_run.specs.declared.kinds.OfFile.{OfFile}

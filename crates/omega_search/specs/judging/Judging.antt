@@ -13,6 +13,6 @@ pub record ChoosesWhereWon (nodes : List Node) (player : Player) (winners : List
   pub chosen : (v : ℕ) → v < length nodes → IsSome (choice_at choices v) ↔ ((owner_at nodes v ≡ player) × (slice_index_or winners v Zero ≡ player))
 
 -- the player's choices are a strategy that wins from all nodes given to the player
-pub record IsAccepted (nodes : List Node) (solution : Solution) (player : Player) : Type 0 where
+pub record IsAcceptedFor (nodes : List Node) (solution : Solution) (player : Player) : Type 0 where
   pub strategy : IsStrategy nodes player (choices_of solution player)
   pub wins : WinsGiven nodes solution player

@@ -11,7 +11,7 @@ use Rattle.omega_lift.specs.Measure.{Measure}
 use Rattle.omega_lift.specs.Allowance.{measure_at}
 use Rattle.omega_lift.specs.Answer.{AreChoices, won_in}
 use Rattle.omega_lift.specs.Laws.{ChoicesAreAStrategy, ChoicesWin, RegionsStayBelowTop}
-use Rattle.omega_lift.specs.Run.{IsRun, IsStable, IsTable, zero_table}
+use Rattle.omega_lift.specs.Run.{IsLiftingRun, IsStable, IsTable, zero_table}
 use Rattle.omega_solve.specs.Headline.{IsExact}
 
 -- a table of a game has a measure for each node
@@ -45,7 +45,7 @@ chosen_won nodes player table choices v w (Some entries) are node entry chooses 
 -- where no lift is due, the answer of a table that is reached is exact
 pub answer_exact : (nodes : List Node) (player : Player) (places : List ℕ) (table : List Measure) (choices : List (Option ℕ))
     → ChoicesAreAStrategy → ChoicesWin → RegionsStayBelowTop
-    → IsGame nodes → IsTable player (priorities nodes) table → IsRun nodes player (zero_table player (priorities nodes)) places table
+    → IsGame nodes → IsTable player (priorities nodes) table → IsLiftingRun nodes player (zero_table player (priorities nodes)) places table
     → IsStable nodes player table → AreChoices nodes player table choices → IsExact nodes player (won_in table) choices
 answer_exact nodes player places table choices is_strategy win stay game is lifted stable chosen =
     let strategy = is_strategy nodes player table choices chosen in

@@ -9,20 +9,20 @@ use Rattle.omega_lift.specs.Measure.{Measure}
 use Rattle.omega_lift.specs.Allowance.{measure_at}
 use Rattle.omega_lift.specs.Answer.{won_in}
 use Rattle.omega_lift.specs.Laws.{RegionsStayBelowTop, RunsKeepTables, WonPlacesAreInRegions, ZeroTablesAreTables}
-use Rattle.omega_lift.specs.Run.{IsRun, IsStable, IsTable, zero_table}
+use Rattle.omega_lift.specs.Run.{IsLiftingRun, IsStable, IsTable, zero_table}
 use Rattle.omega_region.specs.Laws.{RegionsAreApart, RegionsCover}
 use Rattle.omega_solve.specs.Determinacy.{AnswersPartTheGame, IsInOne}
-use Rattle.omega_solve.specs.Solver.{State, IsFinished, IsReached}
+use Rattle.omega_solve.specs.Solver.{SolverState, IsFinished, IsReached}
 use Rattle.omega_solve.proofs.answers.Exactness.{entries_are, told_at}
 
 -- a table of the game for the player in which no lift is due, and to which a lifting run leads from the all-zero table
 record IsFinal (nodes : List Node) (player : Player) (table : List Measure) : Type 0 where
   pub places : List ℕ
-  pub lifted : IsRun nodes player (zero_table player (priorities nodes)) places table
+  pub lifted : IsLiftingRun nodes player (zero_table player (priorities nodes)) places table
   pub stable : IsStable nodes player table
 
 -- such is the table of a solver that is done
-final : (nodes : List Node) (player : Player) (state : State) → state.nodes ≡ nodes → state.player ≡ player
+final : (nodes : List Node) (player : Player) (state : SolverState) → state.nodes ≡ nodes → state.player ≡ player
     → IsReached state → IsFinished state → IsFinal nodes player state.table.measures
 final nodes player state same_nodes same_player reached finished =
     subst (λ (n : List Node). IsFinal n player state.table.measures) same_nodes

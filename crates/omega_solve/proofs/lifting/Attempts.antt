@@ -9,10 +9,10 @@ use Rattle.std.proofs.lemmas.List.Elements.{All-nil, All-cons, Contains-get_or}
 use Rattle.std.proofs.lemmas.List.Sums.{count_by-le-length, sum_by-cons, sum_by-le}
 use Rattle.omega_game.specs.declared.player.Player.{Player}
 use Rattle.omega_game.specs.Bound.{product_of}
-use Rattle.omega_game.specs.Game.{Node, IsGame, edge_count, listed_times, no_node, priorities, successors_at}
+use Rattle.omega_game.specs.Game.{Node, IsGame, successor_count, listed_times, no_node, priorities, successors_at}
 use Rattle.omega_game.specs.Limits.{most_successors}
 use Rattle.omega_lift.specs.Measure.{Measure}
-use Rattle.omega_lift.specs.Run.{IsRun, zero_table}
+use Rattle.omega_lift.specs.Run.{IsLiftingRun, zero_table}
 use Rattle.omega_lift.specs.Laws.{PlacesAreLiftedBoundedly}
 use Rattle.omega_solve.specs.Limits.{most_lifts}
 use Rattle.omega_solve.specs.solving.Progress.{in_degree}
@@ -27,11 +27,11 @@ in_degree_is nodes v =
     (λ u _. length-replicate (listed_times nodes u v) u))
 
 -- the edges are those of all nodes
-edges_are : (nodes : List Node) → edge_count nodes ≡ total (λ u. length (successors_at nodes u)) (length nodes)
+edges_are : (nodes : List Node) → successor_count nodes ≡ total (λ u. length (successors_at nodes u)) (length nodes)
 edges_are nodes = sum_by-indices (λ (node : Node). length node.successors) nodes no_node
 
 -- at most all edges lead into one place
-pub in_degree_le : (nodes : List Node) (v : ℕ) → in_degree nodes v ≤ edge_count nodes
+pub in_degree_le : (nodes : List Node) (v : ℕ) → in_degree nodes v ≤ successor_count nodes
 in_degree_le nodes v =
     omega (
       arith,
@@ -53,7 +53,7 @@ length_is_times n xs all =
     ∙ (sym (sum_by-times (λ v. 1) n xs all) ∙ sum_by-ones xs)
 
 -- the edges into all places are all edges
-pub edges_enter : (nodes : List Node) → IsGame nodes → total (in_degree nodes) (length nodes) ≡ edge_count nodes
+pub edges_enter : (nodes : List Node) → IsGame nodes → total (in_degree nodes) (length nodes) ≡ successor_count nodes
 edges_enter nodes game =
     total_same (in_degree nodes) (λ v. total (λ u. listed_times nodes u v) (length nodes)) (length nodes) (λ v _. in_degree_is nodes v)
     ∙ (total_swap (λ u v. listed_times nodes u v) (length nodes) (length nodes)
@@ -63,7 +63,7 @@ edges_enter nodes game =
 
 -- the places of a run are places of the game
 pub run_inside : (nodes : List Node) (player : Player) (old new : List Measure) (places : List ℕ)
-    → IsRun nodes player old places new → All (λ v. v < length nodes) places
+    → IsLiftingRun nodes player old places new → All (λ v. v < length nodes) places
 run_inside nodes player old new [] lifted = All-nil (λ v. v < length nodes)
 run_inside nodes player old new (v ∷ vs) lifted =
     All-cons (λ v. v < length nodes) v vs lifted.1 (run_inside nodes player (set old v lifted.0) new vs lifted.3)
@@ -71,8 +71,8 @@ run_inside nodes player old new (v ∷ vs) lifted =
 -- the edges into the places of a run from the all-zero table are at most all edges as often as the product
 pub in_degrees_bounded : (nodes : List Node) (player : Player) (places : List ℕ) (new : List Measure)
     → IsGame nodes → PlacesAreLiftedBoundedly
-    → IsRun nodes player (zero_table player (priorities nodes)) places new
-    → sum_by (in_degree nodes) places ≤ edge_count nodes * product_of player (priorities nodes)
+    → IsLiftingRun nodes player (zero_table player (priorities nodes)) places new
+    → sum_by (in_degree nodes) places ≤ successor_count nodes * product_of player (priorities nodes)
 in_degrees_bounded nodes player places new game bounded lifted =
     let n = length nodes in
     let p = product_of player (priorities nodes) in
@@ -80,16 +80,16 @@ in_degrees_bounded nodes player places new game bounded lifted =
     let few : total (λ v. times_in places v * in_degree nodes v) n ≤ total (λ v. p * in_degree nodes v) n =
     total_le (λ v. times_in places v * in_degree nodes v) (λ v. p * in_degree nodes v) n
     (λ v _. mul-le-mul_right (in_degree nodes v) (bounded nodes player places new v lifted)) in
-    let all : total (in_degree nodes) n ≡ edge_count nodes = edges_enter nodes game in
-    let most : p * total (in_degree nodes) n ≡ edge_count nodes * p = ap (λ m. p * m) all ∙ mul_comm p (edge_count nodes) in
+    let all : total (in_degree nodes) n ≡ successor_count nodes = edges_enter nodes game in
+    let most : p * total (in_degree nodes) n ≡ successor_count nodes * p = ap (λ m. p * m) all ∙ mul_comm p (successor_count nodes) in
     omega (arith, sum_by-times (in_degree nodes) n places inside, total_times p (in_degree nodes) n)
 
 -- and within the limits at most the most successors of a game for each of the most lifts
-pub in_degrees_fits : (nodes : List Node) (places : List ℕ) → edge_count nodes ≤ most_successors → length places ≤ most_lifts
+pub in_degrees_fits : (nodes : List Node) (places : List ℕ) → successor_count nodes ≤ most_successors → length places ≤ most_lifts
     → sum_by (in_degree nodes) places ≤ most_lifts * most_successors
 in_degrees_fits nodes places few short =
     omega (
       arith,
-      sum_by-le (in_degree nodes) (edge_count nodes) places (λ k d _. in_degree_le nodes (get_or places k d)),
-      mul-le (length places) (edge_count nodes) most_lifts most_successors short few,
+      sum_by-le (in_degree nodes) (successor_count nodes) places (λ k d _. in_degree_le nodes (get_or places k d)),
+      mul-le (length places) (successor_count nodes) most_lifts most_successors short few,
     )

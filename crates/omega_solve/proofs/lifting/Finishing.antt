@@ -6,50 +6,50 @@ use Rattle.std.proofs.lemmas.Option.{same_Some}
 use Rattle.omega_lift.specs.Laws.{PlacesAreLiftedBoundedly, RunsAreBounded}
 use Rattle.omega_solve.specs.Limits.{most_lifts}
 use Rattle.omega_solve.specs.Schedule.{IsIdle, IsPending}
-use Rattle.omega_solve.specs.Solver.{IsFinished, IsReached, State, attempt_bound, lift_bound}
+use Rattle.omega_solve.specs.Solver.{IsFinished, IsReached, SolverState, attempt_bound, lift_bound}
 use Rattle.omega_solve.specs.solving.Progress.{IsSolving}
 use Rattle.omega_solve.proofs.lifting.Attempts.{in_degrees_bounded, in_degrees_fits}
 use Rattle.omega_solve.proofs.schedules.Flags.{pending_inside, waits_none}
 
 -- where no place is pending, no lift is due
-pub finished_idle : (state : State) → IsSolving state → IsIdle state.pending → IsFinished state
+pub finished_idle : (state : SolverState) → IsSolving state → IsIdle state.pending → IsFinished state
 finished_idle state s idle v lt due =
     let waiting = s.due v due in
     let not_waiting = idle v (pending_inside state.pending v waiting) in
     false≢true (same_Some false true (sym not_waiting ∙ waiting))
 
 -- what a look tells of the game
-pub looked : (state : State) (look : Option ℕ) → IsSolving state → MatchOption look (IsIdle state.pending) (IsPending state.pending)
+pub looked : (state : SolverState) (look : Option ℕ) → IsSolving state → MatchOption look (IsIdle state.pending) (IsPending state.pending)
     → MatchOption look (IsFinished state) (λ place. place < length state.nodes)
 looked state None s idle = finished_idle state s idle
 looked state (Some place) s waiting = omega (arith, pending_inside state.pending place waiting, s.entries)
 
 -- the takes leave room for a take with each of the most lifts
-pub takes_leave : (state : State) → IsSolving state → state.pending.taken + most_lifts ≤ 2 ^ 64 - 1
+pub takes_leave : (state : SolverState) → IsSolving state → state.pending.taken + most_lifts ≤ 2 ^ 64 - 1
 takes_leave state s =
     let short : length s.places ≤ most_lifts = omega (arith, s.counted, s.few) in
     omega (arith, s.most, s.limits.few_nodes, in_degrees_fits state.nodes s.places s.limits.few_edges short)
 
 -- the takes fit their type
-pub takes_fit : (state : State) → IsSolving state → state.pending.taken < 2 ^ 64 - 1
+pub takes_fit : (state : SolverState) → IsSolving state → state.pending.taken < 2 ^ 64 - 1
 takes_fit state s =
     let short : length s.places ≤ most_lifts = omega (arith, s.counted, s.few) in
     omega (arith, s.most, s.limits.few_nodes, in_degrees_fits state.nodes s.places s.limits.few_edges short)
 
 -- and are bounded
-pub takes_bounded : (state : State) → PlacesAreLiftedBoundedly → IsSolving state → state.pending.taken ≤ attempt_bound state
+pub takes_bounded : (state : SolverState) → PlacesAreLiftedBoundedly → IsSolving state → state.pending.taken ≤ attempt_bound state
 takes_bounded state bounded s =
     omega (arith, s.most, in_degrees_bounded state.nodes state.player s.places state.table.measures s.game bounded s.lifted)
 
 -- each place was taken where none is pending
-pub takes_each : (state : State) → IsSolving state → IsIdle state.pending → length state.nodes ≤ state.pending.taken
+pub takes_each : (state : SolverState) → IsSolving state → IsIdle state.pending → length state.nodes ≤ state.pending.taken
 takes_each state s idle = omega (arith, s.least, waits_none state.pending idle)
 
 -- the table of a solver is reached
-pub solving_reached : (state : State) → IsSolving state → IsReached state
+pub solving_reached : (state : SolverState) → IsSolving state → IsReached state
 solving_reached state s = record { places = s.places; lifted = s.lifted; counted = s.counted }
 
 -- by at most as many lifts as the bound
-pub reached_bounded : (state : State) → RunsAreBounded → IsReached state → state.lifts ≤ lift_bound state
+pub reached_bounded : (state : SolverState) → RunsAreBounded → IsReached state → state.lifts ≤ lift_bound state
 reached_bounded state bounded reached =
     omega (arith, bounded state.nodes state.player reached.places state.table.measures reached.lifted, reached.counted)

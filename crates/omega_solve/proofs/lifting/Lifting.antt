@@ -12,12 +12,12 @@ use Rattle.omega_game.specs.declared.player.Player.TheVariants.{One, Zero}
 use Rattle.omega_game.specs.Game.{Node, HasEdge, owner_at, predecessors_of, priorities, priority_at, successors_at}
 use Rattle.omega_lift.specs.Measure.{Measure, IsAbove}
 use Rattle.omega_lift.specs.Allowance.{IsAllowance, IsAllowanceOf, IsLiftValue, measure_at}
-use Rattle.omega_lift.specs.Run.{IsDue, IsRun, IsTable, Lifts}
+use Rattle.omega_lift.specs.Run.{IsDue, IsLiftingRun, IsTable, Lifts}
 use Rattle.omega_lift.specs.Laws.{AllowancesAreUnique, RunsKeepTables}
 use Rattle.omega_measure.specs.Table.{Content, Exceeds, Raises, with_measure}
 use Rattle.omega_solve.specs.Limits.{most_lifts}
 use Rattle.omega_solve.specs.Schedule.{IsPending, Pending, waits, with_taken}
-use Rattle.omega_solve.specs.Solver.{LiftsWithin, State}
+use Rattle.omega_solve.specs.Solver.{LiftsWithin, SolverState}
 use Rattle.omega_solve.specs.solving.Successor.{IsDueTowards, IsTableOf}
 use Rattle.omega_solve.specs.solving.Repeating.{LiftsAgain}
 use Rattle.omega_solve.specs.solving.Wake.{Wakes}
@@ -28,10 +28,10 @@ use Rattle.omega_solve.proofs.schedules.Flags.{pending_taken, waits_taken}
 
 -- a run goes on by one lift
 pub run_more : (nodes : List Node) (player : Player) (old table : List Measure) (places : List ℕ) (v : ℕ) (x : Measure)
-    → IsRun nodes player old places table → v < length nodes → Lifts nodes player table v x
-    → IsRun nodes player old (places ++ v ∷ []) (set table v x)
+    → IsLiftingRun nodes player old places table → v < length nodes → Lifts nodes player table v x
+    → IsLiftingRun nodes player old (places ++ v ∷ []) (set table v x)
 run_more nodes player old table [] v x same lt lifts =
-    subst (λ (start : List Measure). IsRun nodes player start (v ∷ []) (set table v x)) (sym same) (x, lt, lifts, refl)
+    subst (λ (start : List Measure). IsLiftingRun nodes player start (v ∷ []) (set table v x)) (sym same) (x, lt, lifts, refl)
 run_more nodes player old table (u ∷ us) v x lifted lt lifts =
     (lifted.0, lifted.1, lifted.2, run_more nodes player (set old u lifted.0) table us v x lifted.3 lt lifts)
 
@@ -102,20 +102,20 @@ due_below_top x (Some ys) above = refl
 
 -- a run of lifts of v changes no other measure
 run_elsewhere : (nodes : List Node) (player : Player) (old new : List Measure) (v count : ℕ)
-    → IsRun nodes player old (replicate count v) new → (w : ℕ) → w ≢ v → measure_at new w ≡ measure_at old w
+    → IsLiftingRun nodes player old (replicate count v) new → (w : ℕ) → w ≢ v → measure_at new w ≡ measure_at old w
 run_elsewhere nodes player old new v zero same w ne = ap (λ (t : List Measure). measure_at t w) (sym same)
 run_elsewhere nodes player old new v (suc count) lifted w ne =
     run_elsewhere nodes player (set old v lifted.0) new v count lifted.3 w ne ∙ get_or-set_other old v w lifted.0 None ne
 
 -- a run of no lifts changes none
 run_nowhere : (nodes : List Node) (player : Player) (old new : List Measure) (v count : ℕ) → count ≡ 0
-    → IsRun nodes player old (replicate count v) new → old ≡ new
-run_nowhere nodes player old new v count none lifted = subst (λ (n : ℕ). IsRun nodes player old (replicate n v) new) none lifted
+    → IsLiftingRun nodes player old (replicate count v) new → old ≡ new
+run_nowhere nodes player old new v count none lifted = subst (λ (n : ℕ). IsLiftingRun nodes player old (replicate n v) new) none lifted
 
 -- after lifts of v, and with its predecessors woken, each place where a lift is due is pending
 pub due_pending : (nodes : List Node) (player : Player) (table other : List Measure) (old again new : Pending) (v count : ℕ) (x : Measure)
     → v < length table → Lifts nodes player table v x
-    → IsRun nodes player (set table v x) (replicate count v) other → (0 < count → HasEdge nodes v v)
+    → IsLiftingRun nodes player (set table v x) (replicate count v) other → (0 < count → HasEdge nodes v v)
     → ((u : ℕ) → IsDue nodes player table u → IsPending old u)
     → again.flags ≡ (with_taken old v).flags
     → Wakes other (predecessors_of nodes v) (length (predecessors_of nodes v)) again new
@@ -183,23 +183,23 @@ table_raised nodes player old new v w unique keep table due raises =
 
 -- one run behind another
 pub run_append : (nodes : List Node) (player : Player) (old table new : List Measure) (places more : List ℕ)
-    → IsRun nodes player old places table → IsRun nodes player table more new → IsRun nodes player old (places ++ more) new
+    → IsLiftingRun nodes player old places table → IsLiftingRun nodes player table more new → IsLiftingRun nodes player old (places ++ more) new
 run_append nodes player old table new [] more same on =
-    subst (λ (start : List Measure). IsRun nodes player start more new) (sym same) on
+    subst (λ (start : List Measure). IsLiftingRun nodes player start more new) (sym same) on
 run_append nodes player old table new (u ∷ us) more lifted on =
     (lifted.0, lifted.1, lifted.2, run_append nodes player _ table new us more lifted.3 on)
 
 -- a raise and further lifts of the same place are a run
 pub run_raised : (nodes : List Node) (player : Player) (old new content : Content) (v w count : ℕ) → AllowancesAreUnique
     → IsTableOf nodes player old → IsDueTowards nodes player old.measures v w → Raises old v w new
-    → IsRun nodes player new.measures (replicate count v) content.measures
-    → IsRun nodes player old.measures (v ∷ replicate count v) content.measures
+    → IsLiftingRun nodes player new.measures (replicate count v) content.measures
+    → IsLiftingRun nodes player old.measures (v ∷ replicate count v) content.measures
 run_raised nodes player old new content v w count unique table due raises more =
     let now = raised nodes player old new v w unique table due raises in (
       due.value,
       edge_leaves nodes v w due.listed,
       due.lifts,
-      subst (λ (t : List Measure). IsRun nodes player t (replicate count v) content.measures) (ap (λ (c : Content). c.measures) now) more,
+      subst (λ (t : List Measure). IsLiftingRun nodes player t (replicate count v) content.measures) (ap (λ (c : Content). c.measures) now) more,
     )
 
 -- what is counted once for each is at most what each counts
@@ -212,7 +212,7 @@ at_least_each count each some = elim (cases_lt 0 count) [
 ]
 
 -- what a solver keeps holds after a lift, the take, further lifts of the same place, and the waking of the predecessors
-pub solving_lifted : (state : State) (v w count : ℕ) (new content : Content) (again pending : Pending)
+pub solving_lifted : (state : SolverState) (v w count : ℕ) (new content : Content) (again pending : Pending)
     → AllowancesAreUnique
     → IsSolving state → IsDueTowards state.nodes state.player state.table.measures v w → IsPending state.pending v
     → state.lifts + (1 + count) ≤ most_lifts
@@ -225,7 +225,7 @@ solving_lifted state v w count new content again pending unique s due waiting ro
     let place = edge_leaves nodes v w due.listed in
     let here : v < length state.table.measures = omega (arith, table_entries nodes state.player state.table s.content) in
     let now = raised nodes state.player state.table new v w unique s.content due raises in
-    let from = subst (λ (t : List Measure). IsRun nodes state.player t (replicate count v) content.measures)
+    let from = subst (λ (t : List Measure). IsLiftingRun nodes state.player t (replicate count v) content.measures)
     (ap (λ (c : Content). c.measures) now) more.lifted in
     let degree = in_degree nodes v in
     let degrees = sum_by-append (in_degree nodes) s.places (v ∷ replicate count v) in
@@ -252,7 +252,7 @@ solving_lifted state v w count new content again pending unique s due waiting ro
     }
 
 -- and so many lifts were made
-pub some_lifted : (state : State) (v w most count : ℕ) (new content : Content) (again pending : Pending)
+pub some_lifted : (state : SolverState) (v w most count : ℕ) (new content : Content) (again pending : Pending)
     → AllowancesAreUnique → IsSolving state → IsDueTowards state.nodes state.player state.table.measures v w
     → Raises state.table v w new → count ≤ most - 1 → 0 < most
     → LiftsAgain state.nodes state.player v count new content (with_taken state.pending v) again
@@ -283,7 +283,7 @@ some_lifted state v w most count new content again pending unique s due raises f
 }
 
 -- what a solver keeps holds after the take of a place where no lift is due
-pub solving_settled : (state : State) (v : ℕ) (pending : Pending) → IsSolving state → IsPending state.pending v
+pub solving_settled : (state : SolverState) (v : ℕ) (pending : Pending) → IsSolving state → IsPending state.pending v
     → ¬ IsDue state.nodes state.player state.table.measures v → pending ≡ with_taken state.pending v
     → IsSolving (record { nodes = state.nodes; player = state.player; table = state.table; pending = pending; lifts = state.lifts; done = state.done })
 solving_settled state v pending s waiting settled taken =
@@ -313,12 +313,12 @@ solving_settled state v pending s waiting settled taken =
     })
 
 -- a run of lifts goes on by further lifts
-pub lifts_more : (old state new : State) (made most more : ℕ) → state.nodes ≡ old.nodes → state.player ≡ old.player
+pub lifts_more : (old state new : SolverState) (made most more : ℕ) → state.nodes ≡ old.nodes → state.player ≡ old.player
     → LiftsWithin old made state → IsLifted state most more new → LiftsWithin old (made + more) new
 lifts_more old state new made most more same_nodes same_player so_far lift =
     let places = lift.lifted.places in
-    let lifted = subst (λ (player : Player). IsRun old.nodes player state.table.measures places new.table.measures) same_player
-    (subst (λ (nodes : List Node). IsRun nodes state.player state.table.measures places new.table.measures) same_nodes lift.lifted.lifted) in
+    let lifted = subst (λ (player : Player). IsLiftingRun old.nodes player state.table.measures places new.table.measures) same_player
+    (subst (λ (nodes : List Node). IsLiftingRun nodes state.player state.table.measures places new.table.measures) same_nodes lift.lifted.lifted) in
     record {
       places = so_far.places ++ places;
       lifted = run_append old.nodes old.player old.table.measures state.table.measures new.table.measures so_far.places places so_far.lifted lifted;

@@ -4,7 +4,7 @@ use Rattle.std.proofs.lemmas.Bool.{cases_lt}
 use Rattle.std.proofs.lemmas.List.{replicate-append-replicate}
 use Rattle.omega_game.specs.declared.player.Player.{Player}
 use Rattle.omega_game.specs.Game.{Node, HasEdge}
-use Rattle.omega_lift.specs.Run.{IsRun}
+use Rattle.omega_lift.specs.Run.{IsLiftingRun}
 use Rattle.omega_lift.specs.Laws.{AllowancesAreUnique, RunsKeepTables}
 use Rattle.omega_measure.specs.Table.{Content, Raises}
 use Rattle.omega_solve.specs.Schedule.{Pending, with_taken_again}
@@ -41,7 +41,7 @@ pub again_more : (nodes : List Node) (player : Player) (v count more : ℕ) (old
     → LiftsAgain nodes player v count old content before between → LiftsAgain nodes player v more content new between after
     → LiftsAgain nodes player v (count + more) old new before after
 again_more nodes player v count more old content new before between after one other = record {
-  lifted = subst (λ (places : List ℕ). IsRun nodes player old.measures places new.measures) (replicate-append-replicate count more v)
+  lifted = subst (λ (places : List ℕ). IsLiftingRun nodes player old.measures places new.measures) (replicate-append-replicate count more v)
       (run_append nodes player old.measures content.measures new.measures (replicate count v) (replicate more v) one.lifted other.lifted);
   table = other.table;
   looped = λ some. elim (cases_lt 0 count) [

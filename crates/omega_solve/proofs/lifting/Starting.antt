@@ -5,7 +5,7 @@ use Rattle.std.proofs.lemmas.List.{length-replicate}
 use Rattle.omega_game.specs.declared.player.Player.{Player}
 use Rattle.omega_game.specs.Game.{Node, IsGame, IsWithinLimits, priorities}
 use Rattle.omega_lift.specs.Laws.{ZeroTablesAreTables}
-use Rattle.omega_solve.specs.Solver.{State, start_of}
+use Rattle.omega_solve.specs.Solver.{SolverState, start_of}
 use Rattle.omega_solve.specs.solving.Progress.{IsAnswered, IsSolving}
 use Rattle.omega_solve.proofs.lifting.Edges.{edge_leaves}
 use Rattle.omega_solve.proofs.schedules.Flags.{pending_all, waits_all}
@@ -29,7 +29,7 @@ solving_start nodes player zero game limits = record {
 }
 
 -- the buffers of a solver that is not done need only their entries
-pub answered_open : (state : State) (won : List Bool) (choices : List (Option ℕ)) → state.done ≡ false
+pub answered_open : (state : SolverState) (won : List Bool) (choices : List (Option ℕ)) → state.done ≡ false
     → length won ≡ length state.nodes → length choices ≡ length state.nodes → IsAnswered state won choices
 answered_open state won choices goes_on won_entries choice_entries = record {
   won_entries = won_entries;

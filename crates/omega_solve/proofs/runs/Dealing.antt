@@ -8,19 +8,19 @@ use Rattle.omega_game.specs.declared.player.Player.{Player}
 use Rattle.omega_game.specs.Game.{Node, IsGame, priorities}
 use Rattle.omega_game.specs.Bound.{bearers, bound_of, losing_priorities, product}
 use Rattle.omega_lift.specs.Measure.{Measure}
-use Rattle.omega_lift.specs.Run.{IsDue, IsRun, zero_table}
+use Rattle.omega_lift.specs.Run.{IsDue, IsLiftingRun, zero_table}
 use Rattle.omega_lift.specs.Laws.{RunsAreBounded}
-use Rattle.omega_solve.specs.Solver.{State, IsFinished, IsReached, HasLiftDue, LiftsWithin, start_of}
+use Rattle.omega_solve.specs.Solver.{SolverState, IsFinished, IsReached, HasLiftDue, LiftsWithin, start_of}
 use Rattle.omega_solve.specs.Headline.{DealsOut, Runs}
 use Rattle.omega_solve.proofs.lifting.Edges.{edge_leaves}
 use Rattle.omega_solve.proofs.lifting.Lifting.{run_append, run_more}
 
 -- a run of no lifts
-pub lifts_none : (state : State) (budget : ℕ) → LiftsWithin state budget state
+pub lifts_none : (state : SolverState) (budget : ℕ) → LiftsWithin state budget state
 lifts_none state budget = record { places = []; lifted = refl; counted = omega arith; within = omega arith }
 
 -- a call that ends with no lift due is one of `run`
-pub call_done : (old state new : State) (made budget : ℕ)
+pub call_done : (old state new : SolverState) (made budget : ℕ)
     → state.nodes ≡ old.nodes → state.player ≡ old.player → LiftsWithin old made state → made ≤ budget
     → IsFinished state → new ≡ record state { done = true } → Runs old budget new
 call_done old state new made budget same_nodes same_player lifts within finished told =
@@ -38,7 +38,7 @@ call_done old state new made budget same_nodes same_player lifts within finished
     })
 
 -- a call that ends with a lift due used up the whole budget
-pub call_spent : (old new : State) (made budget : ℕ)
+pub call_spent : (old new : SolverState) (made budget : ℕ)
     → new.nodes ≡ old.nodes → new.player ≡ old.player → LiftsWithin old made new → new.lifts ≡ old.lifts + made → made ≡ budget
     → new.done ≡ false → HasLiftDue new → Runs old budget new
 call_spent old new made budget same_nodes same_player lifts counted used goes_on due = record {
@@ -55,7 +55,7 @@ call_spent old new made budget same_nodes same_player lifts counted used goes_on
 }
 
 -- so is one of a solver that is done
-pub call_over : (state : State) (budget : ℕ) → state.done ≡ true → IsFinished state → Runs state budget state
+pub call_over : (state : SolverState) (budget : ℕ) → state.done ≡ true → IsFinished state → Runs state budget state
 call_over state budget done finished = record {
   same_nodes = refl;
   same_player = refl;
@@ -66,14 +66,14 @@ call_over state budget done finished = record {
 
 -- a run from the all-zero table is one for the same game and player
 reached_for : (nodes other : List Node) (player rival : Player) (places : List ℕ) (table : List Measure) → other ≡ nodes → rival ≡ player
-    → IsRun nodes player (zero_table player (priorities nodes)) places table
-    → IsRun other rival (zero_table rival (priorities other)) places table
+    → IsLiftingRun nodes player (zero_table player (priorities nodes)) places table
+    → IsLiftingRun other rival (zero_table rival (priorities other)) places table
 reached_for nodes other player rival places table same_nodes same_player lifted =
-    subst (λ (n : List Node). IsRun n rival (zero_table rival (priorities n)) places table) (sym same_nodes)
-    (subst (λ (p : Player). IsRun nodes p (zero_table p (priorities nodes)) places table) (sym same_player) lifted)
+    subst (λ (n : List Node). IsLiftingRun n rival (zero_table rival (priorities n)) places table) (sym same_nodes)
+    (subst (λ (p : Player). IsLiftingRun nodes p (zero_table p (priorities nodes)) places table) (sym same_player) lifted)
 
 -- a call leads to a table that is reached
-pub call_reaches : (old new : State) (budget : ℕ) → IsReached old → Runs old budget new → IsReached new
+pub call_reaches : (old new : SolverState) (budget : ℕ) → IsReached old → Runs old budget new → IsReached new
 call_reaches old new budget reached call = record {
   places = reached.places ++ call.lifted.places;
   lifted = reached_for old.nodes new.nodes old.player new.player _ new.table.measures call.same_nodes call.same_player
@@ -82,30 +82,30 @@ call_reaches old new budget reached call = record {
 }
 
 -- and so do many
-pub deals_reach : (old new : State) (budgets : List ℕ) → IsReached old → DealsOut old budgets new → IsReached new
-deals_reach old new [] reached same = subst (λ (s : State). IsReached s) same reached
+pub deals_reach : (old new : SolverState) (budgets : List ℕ) → IsReached old → DealsOut old budgets new → IsReached new
+deals_reach old new [] reached same = subst (λ (s : SolverState). IsReached s) same reached
 deals_reach old new (budget ∷ budgets) reached dealt =
     deals_reach dealt.0 new budgets (call_reaches old dealt.0 budget reached dealt.1) dealt.2
 
 -- they keep the game
-pub deals_keep_nodes : (old new : State) (budgets : List ℕ) → DealsOut old budgets new → new.nodes ≡ old.nodes
-deals_keep_nodes old new [] same = ap (λ (s : State). s.nodes) (sym same)
+pub deals_keep_nodes : (old new : SolverState) (budgets : List ℕ) → DealsOut old budgets new → new.nodes ≡ old.nodes
+deals_keep_nodes old new [] same = ap (λ (s : SolverState). s.nodes) (sym same)
 deals_keep_nodes old new (budget ∷ budgets) dealt = deals_keep_nodes dealt.0 new budgets dealt.2 ∙ dealt.1.same_nodes
 
 -- and the player
-pub deals_keep_player : (old new : State) (budgets : List ℕ) → DealsOut old budgets new → new.player ≡ old.player
-deals_keep_player old new [] same = ap (λ (s : State). s.player) (sym same)
+pub deals_keep_player : (old new : SolverState) (budgets : List ℕ) → DealsOut old budgets new → new.player ≡ old.player
+deals_keep_player old new [] same = ap (λ (s : SolverState). s.player) (sym same)
 deals_keep_player old new (budget ∷ budgets) dealt = deals_keep_player dealt.0 new budgets dealt.2 ∙ dealt.1.same_player
 
 -- where they are done, no lift is due
-pub deals_finish : (old new : State) (budgets : List ℕ) → (old.done ≡ true → IsFinished old) → DealsOut old budgets new
+pub deals_finish : (old new : SolverState) (budgets : List ℕ) → (old.done ≡ true → IsFinished old) → DealsOut old budgets new
     → new.done ≡ true → IsFinished new
-deals_finish old new [] before same = subst (λ (s : State). s.done ≡ true → IsFinished s) same before
+deals_finish old new [] before same = subst (λ (s : SolverState). s.done ≡ true → IsFinished s) same before
 deals_finish old new (budget ∷ budgets) before dealt = deals_finish dealt.0 new budgets dealt.1.done dealt.2
 
 -- where no lift is due, none is due after a call
-none_due : (old new : State) (places : List ℕ) (v : ℕ) → IsFinished old → new.nodes ≡ old.nodes → new.player ≡ old.player
-    → IsRun old.nodes old.player old.table.measures places new.table.measures
+none_due : (old new : SolverState) (places : List ℕ) (v : ℕ) → IsFinished old → new.nodes ≡ old.nodes → new.player ≡ old.player
+    → IsLiftingRun old.nodes old.player old.table.measures places new.table.measures
     → ¬ IsDue new.nodes new.player new.table.measures v
 none_due old new [] v finished same_nodes same_player same due =
     let due_before : IsDue old.nodes old.player old.table.measures v =
@@ -116,7 +116,7 @@ none_due old new [] v finished same_nodes same_player same due =
 none_due old new (u ∷ us) v finished same_nodes same_player lifted due = finished u lifted.1 (lifted.0, lifted.2)
 
 -- then a call is done
-call_stays : (old new : State) (budget : ℕ) (done : Bool) → new.done ≡ done → IsFinished old → Runs old budget new → new.done ≡ true
+call_stays : (old new : SolverState) (budget : ℕ) (done : Bool) → new.done ≡ done → IsFinished old → Runs old budget new → new.done ≡ true
 call_stays old new budget true is finished call = is
 call_stays old new budget false is finished call =
     let due = (call.spent is).1 in
@@ -124,23 +124,23 @@ call_stays old new budget false is finished call =
     (none_due old new call.lifted.places due.0 finished call.same_nodes call.same_player call.lifted.lifted due.1)
 
 -- and so are many
-deals_stay : (old new : State) (budgets : List ℕ) → old.done ≡ true → IsFinished old → DealsOut old budgets new → new.done ≡ true
-deals_stay old new [] done finished same = ap (λ (s : State). s.done) (sym same) ∙ done
+deals_stay : (old new : SolverState) (budgets : List ℕ) → old.done ≡ true → IsFinished old → DealsOut old budgets new → new.done ≡ true
+deals_stay old new [] done finished same = ap (λ (s : SolverState). s.done) (sym same) ∙ done
 deals_stay old new (budget ∷ budgets) done finished dealt =
     let still = call_stays old dealt.0 budget dealt.0.done refl finished dealt.1 in
     deals_stay dealt.0 new budgets still (dealt.1.done still) dealt.2
 
 -- calls that are not done used up all their budgets, and leave a lift due
-pub record UsesUp (old : State) (budgets : List ℕ) (new : State) : Type 0 where
+pub record UsesUp (old : SolverState) (budgets : List ℕ) (new : SolverState) : Type 0 where
   pub used : new.lifts ≡ old.lifts + sum budgets
   pub due : 0 < length budgets → HasLiftDue new
 
 -- a call that is not done uses up its budget before them
-uses_more : (old next new : State) (budget : ℕ) (budgets : List ℕ) → next.done ≡ false → Runs old budget next
+uses_more : (old next new : SolverState) (budget : ℕ) (budgets : List ℕ) → next.done ≡ false → Runs old budget next
     → DealsOut next budgets new → UsesUp next budgets new → UsesUp old (budget ∷ budgets) new
 uses_more old next new budget [] goes_on call same so_far = record {
   used = omega (arith, so_far.used, (call.spent goes_on).0, sum_by-cons (λ (x : ℕ). x) budget []);
-  due = λ some. subst (λ (s : State). HasLiftDue s) same (call.spent goes_on).1;
+  due = λ some. subst (λ (s : SolverState). HasLiftDue s) same (call.spent goes_on).1;
 }
 uses_more old next new budget (other ∷ budgets) goes_on call dealt so_far = record {
   used = omega (arith, so_far.used, (call.spent goes_on).0, sum_by-cons (λ (x : ℕ). x) budget (other ∷ budgets));
@@ -148,9 +148,9 @@ uses_more old next new budget (other ∷ budgets) goes_on call dealt so_far = re
 }
 
 -- calls are done, or used up all their budgets
-pub deals_end : (old new : State) (budgets : List ℕ) → DealsOut old budgets new → (new.done ≡ true) ⊎ UsesUp old budgets new
+pub deals_end : (old new : SolverState) (budgets : List ℕ) → DealsOut old budgets new → (new.done ≡ true) ⊎ UsesUp old budgets new
 deals_end old new [] same = inr (record {
-  used = omega (arith, ap (λ (s : State). s.lifts) same);
+  used = omega (arith, ap (λ (s : SolverState). s.lifts) same);
   due = λ some. absurd (omega arith);
 })
 deals_end old new (budget ∷ budgets) dealt = elim (cases_Bool dealt.0.done) [
@@ -173,7 +173,7 @@ bound_some nodes player game =
     mul-pos some (product_some (bearers (priorities nodes)) (losing_priorities player (priorities nodes)))
 
 -- where a lift is due, the lifts so far are below the bound
-lifts_below : (solver : State) → RunsAreBounded → IsReached solver → HasLiftDue solver
+lifts_below : (solver : SolverState) → RunsAreBounded → IsReached solver → HasLiftDue solver
     → solver.lifts < bound_of solver.player (priorities solver.nodes)
 lifts_below solver bounded reached due =
     let lifts = due.1.1 in
@@ -182,7 +182,7 @@ lifts_below solver bounded reached due =
     omega (arith, bounded solver.nodes solver.player (reached.places ++ due.0 ∷ []) _ longer, length_push reached.places due.0, reached.counted)
 
 -- so calls that used up all their budgets had less than the bound
-spent_less : (nodes : List Node) (player : Player) (budgets : List ℕ) (solver : State) → RunsAreBounded → IsGame nodes
+spent_less : (nodes : List Node) (player : Player) (budgets : List ℕ) (solver : SolverState) → RunsAreBounded → IsGame nodes
     → DealsOut (start_of nodes player) budgets solver → IsReached solver
     → bound_of player (priorities nodes) ≤ sum budgets → UsesUp (start_of nodes player) budgets solver → ⊥
 spent_less nodes player [] solver bounded game dealt reached enough up = omega (arith, bound_some nodes player game)
@@ -196,7 +196,7 @@ spent_less nodes player (budget ∷ budgets) solver bounded game dealt reached e
     omega (arith, below_bound, up.used)
 
 -- budgets that together reach the bound suffice
-pub deals_suffice : (nodes : List Node) (player : Player) (budgets : List ℕ) (solver : State) → RunsAreBounded → IsGame nodes
+pub deals_suffice : (nodes : List Node) (player : Player) (budgets : List ℕ) (solver : SolverState) → RunsAreBounded → IsGame nodes
     → DealsOut (start_of nodes player) budgets solver → IsReached solver
     → bound_of player (priorities nodes) ≤ sum budgets → solver.done ≡ true
 deals_suffice nodes player budgets solver bounded game dealt reached enough =

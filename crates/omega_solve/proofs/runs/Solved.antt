@@ -4,7 +4,7 @@ use Rattle.std.proofs.lemmas.Bool.{false≢true}
 use Rattle.omega_game.specs.declared.player.Player.{Player}
 use Rattle.omega_game.specs.Game.{Node, priorities}
 use Rattle.omega_lift.specs.Laws.{ChoicesAreAStrategy, ChoicesWin, RegionsStayBelowTop, RunsAreBounded, RunsKeepTables, ZeroTablesAreTables}
-use Rattle.omega_lift.specs.Run.{IsRun, IsStable, zero_table}
+use Rattle.omega_lift.specs.Run.{IsLiftingRun, IsStable, zero_table}
 use Rattle.omega_solve.specs.Solver.{IsReached, start_of}
 use Rattle.omega_solve.specs.Headline.{Headline}
 use Rattle.omega_solve.proofs.runs.Dealing.{deals_finish, deals_keep_nodes, deals_keep_player, deals_reach, deals_suffice}
@@ -21,9 +21,9 @@ solved zero keep bounded strategy win stay nodes player budgets solver game deal
     let same_nodes = deals_keep_nodes start solver budgets dealt in
     let same_player = deals_keep_player start solver budgets dealt in
     let reached = deals_reach start solver budgets (start_reached nodes player) dealt in
-    let lifted : IsRun nodes player (zero_table player (priorities nodes)) reached.places solver.table.measures =
-    subst (λ (n : List Node). IsRun n player (zero_table player (priorities n)) reached.places solver.table.measures) same_nodes
-    (subst (λ (p : Player). IsRun solver.nodes p (zero_table p (priorities solver.nodes)) reached.places solver.table.measures) same_player
+    let lifted : IsLiftingRun nodes player (zero_table player (priorities nodes)) reached.places solver.table.measures =
+    subst (λ (n : List Node). IsLiftingRun n player (zero_table player (priorities n)) reached.places solver.table.measures) same_nodes
+    (subst (λ (p : Player). IsLiftingRun solver.nodes p (zero_table p (priorities solver.nodes)) reached.places solver.table.measures) same_player
     reached.lifted) in
     let is_table = keep nodes player _ solver.table.measures reached.places (zero player (priorities nodes)) lifted in
     record {

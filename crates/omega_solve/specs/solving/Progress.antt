@@ -2,10 +2,10 @@
 use Rattle.std.specs.Prelude.{◌≡◌, ℕ, ◌+◌, ◌<◌, ◌≤◌, Bool, true, Option, List, length, sum_by}
 use Rattle.omega_game.specs.Game.{Node, IsGame, IsWithinLimits, predecessors_of, priorities}
 use Rattle.omega_lift.specs.Answer.{AreChoices, won_in}
-use Rattle.omega_lift.specs.Run.{IsDue, IsRun, zero_table}
+use Rattle.omega_lift.specs.Run.{IsDue, IsLiftingRun, zero_table}
 use Rattle.omega_solve.specs.Limits.{most_lifts}
 use Rattle.omega_solve.specs.Schedule.{IsIdle, IsPending, waits}
-use Rattle.omega_solve.specs.Solver.{LiftsWithin, State}
+use Rattle.omega_solve.specs.Solver.{LiftsWithin, SolverState}
 use Rattle.omega_solve.specs.solving.Successor.{IsTableOf}
 
 -- how many edges lead into a place
@@ -14,12 +14,12 @@ in_degree nodes v = length (predecessors_of nodes v)
 
 -- what each solver keeps: the places lifted so far; each place where a lift is due is pending; takes and pending places
 -- together are as many as the places, and at most one more for each edge into a place with each of its lifts
-pub record IsSolving (state : State) : Type 0 where
+pub record IsSolving (state : SolverState) : Type 0 where
   pub game : IsGame state.nodes
   pub limits : IsWithinLimits state.nodes
   pub content : IsTableOf state.nodes state.player state.table
   pub places : List ℕ
-  pub lifted : IsRun state.nodes state.player (zero_table state.player (priorities state.nodes)) places state.table.measures
+  pub lifted : IsLiftingRun state.nodes state.player (zero_table state.player (priorities state.nodes)) places state.table.measures
   pub counted : length places ≡ state.lifts
   pub few : state.lifts ≤ most_lifts
   pub entries : length state.pending.flags ≡ length state.nodes
@@ -29,7 +29,7 @@ pub record IsSolving (state : State) : Type 0 where
   pub below : state.lifts ≤ state.pending.taken
 
 -- the buffers have an entry for each place, and hold the answer once the solver is done
-pub record IsAnswered (state : State) (won : List Bool) (choices : List (Option ℕ)) : Type 0 where
+pub record IsAnswered (state : SolverState) (won : List Bool) (choices : List (Option ℕ)) : Type 0 where
   pub won_entries : length won ≡ length state.nodes
   pub choice_entries : length choices ≡ length state.nodes
   pub idle : state.done ≡ true → IsIdle state.pending
@@ -37,7 +37,7 @@ pub record IsAnswered (state : State) (won : List Bool) (choices : List (Option 
   pub chosen : state.done ≡ true → AreChoices state.nodes state.player state.table.measures choices
 
 -- at least one lift was made, and at most so many
-pub record IsLifted (old : State) (most made : ℕ) (new : State) : Type 0 where
+pub record IsLifted (old : SolverState) (most made : ℕ) (new : SolverState) : Type 0 where
   pub lifted : LiftsWithin old made new
   pub some : 0 < made
   pub within : made ≤ most
@@ -48,6 +48,6 @@ pub record IsLifted (old : State) (most made : ℕ) (new : State) : Type 0 where
   pub room : waits new.pending ≤ length new.nodes
 
 -- what each solver keeps of its state and its buffers
-pub record IsSolver (state : State) (won : List Bool) (choices : List (Option ℕ)) : Type 0 where
+pub record IsSolver (state : SolverState) (won : List Bool) (choices : List (Option ℕ)) : Type 0 where
   pub solving : IsSolving state
   pub answered : IsAnswered state won choices

@@ -2,7 +2,7 @@
 use Rattle.std.specs.Prelude.{◌≡◌, ℕ, ◌+◌, ◌<◌, List, replicate}
 use Rattle.omega_game.specs.declared.player.Player.{Player}
 use Rattle.omega_game.specs.Game.{Node, HasEdge}
-use Rattle.omega_lift.specs.Run.{IsRun}
+use Rattle.omega_lift.specs.Run.{IsLiftingRun}
 use Rattle.omega_measure.specs.Table.{Content}
 use Rattle.omega_solve.specs.Schedule.{Pending}
 use Rattle.omega_solve.specs.solving.Successor.{IsTableOf}
@@ -10,7 +10,7 @@ use Rattle.omega_solve.specs.solving.Successor.{IsTableOf}
 -- v, which leads to itself if it is lifted at all, is lifted so many times in a row. Each is counted as a take, and the
 -- same places are pending
 pub record LiftsAgain (nodes : List Node) (player : Player) (v count : ℕ) (old new : Content) (before after : Pending) : Type 0 where
-  pub lifted : IsRun nodes player old.measures (replicate count v) new.measures
+  pub lifted : IsLiftingRun nodes player old.measures (replicate count v) new.measures
   pub table : IsTableOf nodes player new
   pub looped : 0 < count → HasEdge nodes v v
   pub taken : after.taken ≡ before.taken + count

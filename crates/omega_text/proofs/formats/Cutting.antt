@@ -2,17 +2,17 @@
 use Rattle.std.proofs.Common.{ℕ, zero, suc, ◌+◌, ◌≤◌, ◌⊎◌, inl, inr, ⊎_elim, List, [], ◌∷◌, ◌++◌, length, map, refl, sym, subst, arith}
 use Rattle.std.proofs.lemmas.List.{map_push}
 use Rattle.omega_text.specs.Cut.{CutOrFault, Cuts}
-use Rattle.omega_text.specs.Format.{Format, GoesOneWay}
+use Rattle.omega_text.specs.Format.{TextFormat, GoesOneWay}
 use Rattle.omega_text.specs.Lexeme.{Lexeme, lexeme_of}
 use Rattle.omega_text.specs.declared.refusal.text.TextFault.{TextFault}
 use Rattle.omega_text.specs.declared.token.Token.{Token}
 
 -- some tokens are the text up to a place
-pub record IsCutTo {Kind : Type 0} (format : Format Kind) (source : List ℕ) (to : ℕ) : Type 0 where
+pub record IsCutTo {Kind : Type 0} (format : TextFormat Kind) (source : List ℕ) (to : ℕ) : Type 0 where
   pub lexemes : List (Lexeme Kind)
   pub cuts : Cuts format source 0 lexemes to
 
-module _ {Kind : Type 0} (format : Format Kind) where
+module _ {Kind : Type 0} (format : TextFormat Kind) where
   -- two cuts, one behind the other, are a cut
   pub cuts_join : (source : List ℕ) (from middle to : ℕ) (front back : List (Lexeme Kind)) → Cuts format source from front middle → Cuts format source middle back to → Cuts format source from (front ++ back) to
   cuts_join source from middle to [] back is cuts = subst (λ n. Cuts format source n back to) (sym is) cuts
@@ -33,11 +33,11 @@ module _ {Kind : Type 0} (format : Format Kind) where
       (cuts_more source 0 at (map lexeme_of tokens) (lexeme_of token) cuts follows)
 
 -- from a place on, a text is cut to its end or to a fault
-abbrev pub CutFrom : {Kind : Type 0} → Format Kind → List ℕ → ℕ → Type 0
+abbrev pub CutFrom : {Kind : Type 0} → TextFormat Kind → List ℕ → ℕ → Type 0
 CutFrom {Kind} format source from = ((lexemes : List (Lexeme Kind)) × (to : ℕ) × Cuts format source from lexemes to × format.ends source to)
     ⊎ ((lexemes : List (Lexeme Kind)) × (to : ℕ) × (fault : TextFault) × Cuts format source from lexemes to × format.faults source to fault)
 
-module _ {Kind : Type 0} (format : Format Kind) (exact : GoesOneWay format) where
+module _ {Kind : Type 0} (format : TextFormat Kind) (exact : GoesOneWay format) where
   -- where a token follows, a longer text is left than behind it
   shorter : (left : ℕ) (source : List ℕ) (from : ℕ) (lexeme : Lexeme Kind) → format.follows source from lexeme → length source ≤ from + suc left
       → (lexeme.span.end ≤ length source) × (length source ≤ lexeme.span.end + left)

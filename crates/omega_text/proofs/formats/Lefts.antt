@@ -5,21 +5,21 @@ use Rattle.std.specs.Prelude.{drop, option_map, slice_get, IfNone, IfSome}
 use Rattle.omega_text.specs.Cursor.{next_place}
 use Rattle.std.proofs.Math.Logic.{∥∥₁_elim, ∥∥₁_map}
 use Rattle.omega_text.specs.Cut.{Cuts, IsCut}
-use Rattle.omega_text.specs.Format.{Format, GoesOneWay, IsPartBehind}
-use Rattle.omega_text.specs.Left.{IsAllLeft, IsLeft, IsNext, IsRest, Left, lexeme_code, next_of}
+use Rattle.omega_text.specs.Format.{TextFormat, GoesOneWay, IsPartBehind}
+use Rattle.omega_text.specs.Left.{IsAllLeft, IsLeft, IsNextOfLeft, IsRestOfText, Left, lexeme_code, next_of}
 use Rattle.omega_text.specs.Lexeme.{Lexeme, lexeme_of}
 use Rattle.omega_text.specs.declared.refusal.text.TextFault.{TextFault}
 use Rattle.omega_text.specs.declared.token.Span.{Span}
 use Rattle.omega_text.specs.declared.token.Token.{Token}
 use Rattle.omega_text.proofs.formats.Stops.{one_stop}
 
-module _ {Kind : Type 0} (format : Format Kind) (source : List ℕ) where
+module _ {Kind : Type 0} (format : TextFormat Kind) (source : List ℕ) where
   -- a cut is the rest behind nothing
-  pub cut_is_rest : (lexemes : List (Lexeme Kind)) → IsCut format source lexemes → IsRest format source 0 lexemes
+  pub cut_is_rest : (lexemes : List (Lexeme Kind)) → IsCut format source lexemes → IsRestOfText format source 0 lexemes
   cut_is_rest lexemes cut = record { end = cut.end; cuts = cut.cuts; rest = cut.rest }
 
   -- and the rest behind nothing is a cut
-  pub rest_is_cut : (lexemes : List (Lexeme Kind)) → IsRest format source 0 lexemes → IsCut format source lexemes
+  pub rest_is_cut : (lexemes : List (Lexeme Kind)) → IsRestOfText format source 0 lexemes → IsCut format source lexemes
   rest_is_cut lexemes rest = record { end = rest.end; cuts = rest.cuts; rest = rest.rest }
 
   module _ (exact : GoesOneWay format) where
@@ -33,7 +33,7 @@ module _ {Kind : Type 0} (format : Format Kind) (source : List ℕ) where
 
     -- where a token follows, it is the first of the rest
     rest_first : (at : ℕ) (token : Lexeme Kind) (lexemes : List (Lexeme Kind)) → format.follows source at token → token.span.end ≤ length source
-        → IsRest format source at lexemes → IsAllLeft format source (Some token) lexemes
+        → IsRestOfText format source at lexemes → IsAllLeft format source (Some token) lexemes
     rest_first at token [] follows within rest = absurd (exact.no_token_at_end source at token follows (subst (format.ends source) (sym rest.cuts) rest.rest))
     rest_first at token (lexeme ∷ others) follows within rest =
         let same : lexeme ≡ token = exact.one_token source at lexeme token rest.cuts.0 follows in
@@ -46,29 +46,29 @@ module _ {Kind : Type 0} (format : Format Kind) (source : List ℕ) where
         record { are_left = left; only = λ more again. left_once (Some token) (lexeme ∷ others) more left again }
 
     -- where nothing more follows, the rest is empty
-    rest_none : (at : ℕ) (lexemes : List (Lexeme Kind)) → format.ends source at → IsRest format source at lexemes → IsAllLeft format source None lexemes
+    rest_none : (at : ℕ) (lexemes : List (Lexeme Kind)) → format.ends source at → IsRestOfText format source at lexemes → IsAllLeft format source None lexemes
     rest_none at [] ends rest = record { are_left = refl; only = λ others again. sym again }
     rest_none at (lexeme ∷ others) ends rest = absurd (exact.no_token_at_end source at lexeme rest.cuts.0 ends)
 
     -- the same of a token that may have been told
     pub told_first : (at : ℕ) (next : Option (Token Kind)) → IfSome next (λ token. format.follows source at (lexeme_of token)) → IfSome next (λ token. IsPartBehind source at token.span)
-        → IfSome next (λ token. (lexemes : List (Lexeme Kind)) → IsRest format source at lexemes → IsAllLeft format source (Some (lexeme_of token)) lexemes)
+        → IfSome next (λ token. (lexemes : List (Lexeme Kind)) → IsRestOfText format source at lexemes → IsAllLeft format source (Some (lexeme_of token)) lexemes)
     told_first at None follows part = tt
     told_first at (Some token) follows part = λ lexemes rest. rest_first at (lexeme_of token) lexemes follows part.within rest
 
     -- what comes next is all that is left
     pub rest_next : (at : ℕ) (next : Option (Token Kind)) → IfSome next (λ token. format.follows source at (lexeme_of token)) → IfSome next (λ token. IsPartBehind source at token.span)
-        → IfNone next (format.ends source at) → (lexemes : List (Lexeme Kind)) → IsRest format source at lexemes → IsAllLeft format source (option_map lexeme_of next) lexemes
+        → IfNone next (format.ends source at) → (lexemes : List (Lexeme Kind)) → IsRestOfText format source at lexemes → IsAllLeft format source (option_map lexeme_of next) lexemes
     rest_next at None follows part ends lexemes rest = rest_none at lexemes ends rest
     rest_next at (Some token) follows part ends lexemes rest = rest_first at (lexeme_of token) lexemes follows part.within rest
 
     -- where the rest can be cut, there is no fault
-    no_fault : (at : ℕ) (lexemes : List (Lexeme Kind)) (fault : TextFault) → format.faults source at fault → IsRest format source at lexemes → ⊥
+    no_fault : (at : ℕ) (lexemes : List (Lexeme Kind)) (fault : TextFault) → format.faults source at fault → IsRestOfText format source at lexemes → ⊥
     no_fault at [] fault faults rest = exact.no_fault_at_end source at fault faults (subst (format.ends source) (sym rest.cuts) rest.rest)
     no_fault at (lexeme ∷ others) fault faults rest = exact.no_token_and_fault source at lexeme fault rest.cuts.0 faults
 
     -- nor where it is known that it can be
-    pub rest_faultless : (at : ℕ) (fault : TextFault) → format.faults source at fault → ∥ ((lexemes : List (Lexeme Kind)) × IsRest format source at lexemes) ∥₁ → ⊥
+    pub rest_faultless : (at : ℕ) (fault : TextFault) → format.faults source at fault → ∥ ((lexemes : List (Lexeme Kind)) × IsRestOfText format source at lexemes) ∥₁ → ⊥
     rest_faultless at fault faults some = ∥∥₁_elim some (λ one other. absurd one) (λ rest. no_fault at rest.0 fault faults rest.1)
 
   module _ (kind : Coded Kind) (next : Option (Lexeme Kind)) (left : Left format source next) where
@@ -91,20 +91,20 @@ module _ {Kind : Type 0} (format : Format Kind) (source : List ℕ) where
     -- the next token is the first
     pub left_some : (token : Lexeme Kind) → next ≡ Some token → left.lexemes ≡ token ∷ drop 1 left.lexemes
     left_some token is = ∥∥₁_elim left.all_left (lists_set left.lexemes (token ∷ drop 1 left.lexemes))
-        (λ all. let first : IsNext format source token left.lexemes = subst (λ n. IsLeft format source n left.lexemes) is all.are_left in
+        (λ all. let first : IsNextOfLeft format source token left.lexemes = subst (λ n. IsLeft format source n left.lexemes) is all.are_left in
         first.split ∙ ap (λ others. token ∷ others) (sym (ap (drop 1) first.split)))
 
     -- and stands within the text
     pub left_within : (token : Lexeme Kind) → next ≡ Some token → token.span.end ≤ length source
     left_within token is = ∥∥₁_elim left.all_left le_prop
-        (λ all. let first : IsNext format source token left.lexemes = subst (λ n. IsLeft format source n left.lexemes) is all.are_left in first.within)
+        (λ all. let first : IsNextOfLeft format source token left.lexemes = subst (λ n. IsLeft format source n left.lexemes) is all.are_left in first.within)
 
     -- behind it the others are the rest
-    pub left_behind : (token : Lexeme Kind) → next ≡ Some token → ∥ IsRest format source token.span.end (drop 1 left.lexemes) ∥₁
+    pub left_behind : (token : Lexeme Kind) → next ≡ Some token → ∥ IsRestOfText format source token.span.end (drop 1 left.lexemes) ∥₁
     left_behind token is = ∥∥₁_map left.all_left
         (λ (all : IsAllLeft format source next left.lexemes).
-        let first : IsNext format source token left.lexemes = subst (λ n. IsLeft format source n left.lexemes) is all.are_left in
-        subst (IsRest format source token.span.end) (sym (ap (drop 1) first.split)) first.behind)
+        let first : IsNextOfLeft format source token left.lexemes = subst (λ n. IsLeft format source n left.lexemes) is all.are_left in
+        subst (IsRestOfText format source token.span.end) (sym (ap (drop 1) first.split)) first.behind)
 
     -- the place of the next token is its own
     pub place_some : (token : Lexeme Kind) (size : ℕ) → next ≡ Some token → token.span.start ≡ next_place left.lexemes size
@@ -125,7 +125,7 @@ module _ {Kind : Type 0} (format : Format Kind) (source : List ℕ) where
     pub parts_within : (some : Kind) → kind ≡ Some some → span.end ≤ length source
     parts_within some is = left_within coded _ left _ (next_is some is)
 
-    pub parts_behind : (some : Kind) → kind ≡ Some some → ∥ IsRest format source span.end (drop 1 left.lexemes) ∥₁
+    pub parts_behind : (some : Kind) → kind ≡ Some some → ∥ IsRestOfText format source span.end (drop 1 left.lexemes) ∥₁
     parts_behind some is = left_behind coded _ left _ (next_is some is)
 
     pub parts_none : kind ≡ None → left.lexemes ≡ []

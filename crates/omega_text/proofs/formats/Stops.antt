@@ -1,16 +1,16 @@
 -- A text is cut in at most one way, and stops in at most one.
 use Rattle.std.proofs.Common.{◌≡◌, ℕ, List, [], ◌∷◌, refl, sym, ap, ◌∙◌, subst, Option, None, Some}
 use Rattle.omega_text.specs.Cut.{Cuts, CutsAreOne, CutsHaveNoFault, FaultsAreOne}
-use Rattle.omega_text.specs.Format.{Format, GoesOneWay}
+use Rattle.omega_text.specs.Format.{TextFormat, GoesOneWay}
 use Rattle.omega_text.specs.Lexeme.{Lexeme}
 use Rattle.omega_text.specs.declared.refusal.text.TextFault.{TextFault}
 
 -- how a cut stops: at the end of the text, or at a fault
-abbrev pub Stops : {Kind : Type 0} → Format Kind → List ℕ → ℕ → Option TextFault → Type 0
+abbrev pub Stops : {Kind : Type 0} → TextFormat Kind → List ℕ → ℕ → Option TextFault → Type 0
 Stops format source at None = format.ends source at
 Stops format source at (Some fault) = format.faults source at fault
 
-module _ {Kind : Type 0} (format : Format Kind) (exact : GoesOneWay format) where
+module _ {Kind : Type 0} (format : TextFormat Kind) (exact : GoesOneWay format) where
   -- a cut stops in one way
   stop_once : (source : List ℕ) (at : ℕ) (one other : Option TextFault) → Stops format source at one → Stops format source at other → one ≡ other
   stop_once source at None None first second = refl

@@ -9,7 +9,7 @@ use Rattle.omega_text.specs.declared.hoa.mode.Mode.TheVariants.{Start, Word, At,
 use Rattle.omega_text.specs.hoa.Forms.{spelling}
 use Rattle.omega_text.specs.hoa.scanning.Modes.{IsWithin, run}
 use Rattle.omega_text.specs.hoa.Pieces.{GoesOn}
-use Rattle.omega_text.specs.hoa.scanning.Reading.{IsUnfinished}
+use Rattle.omega_text.specs.hoa.scanning.Reading.{IsUnfinishedUnit}
 use Rattle.omega_text.proofs.hoa_texts.Read.{unit_read}
 use Rattle.omega_text.proofs.hoa_texts.Runs.{answer, run_append}
 use Rattle.omega_text.proofs.hoa_texts.Tests.{choose, pass}
@@ -53,7 +53,7 @@ mark_whole (suc left) kind count inside short =
     ∙ ap (run (Some (Whole kind))) (drop_all (count + 1) text past))
     (order (count + 1) (length text))
 
-completes : (mode : Mode) (value : ℕ) (begun : List ℕ) (bytes : ℕ) → IsUnfinished mode value begun → IsWithin bytes mode → Completes mode
+completes : (mode : Mode) (value : ℕ) (begun : List ℕ) (bytes : ℕ) → IsUnfinishedUnit mode value begun → IsWithin bytes mode → Completes mode
 completes Start value begun bytes unfinished within = record { more = codes "t"; sort = Some True; some = omega arith; reads = refl }
 completes (Word kind) value begun bytes unfinished within = record { more = codes "a"; sort = Some Identifier; some = omega arith; reads = refl }
 completes At value begun bytes unfinished within = record { more = codes "a"; sort = Some AliasName; some = omega arith; reads = refl }
@@ -77,7 +77,7 @@ completes (Whole kind) value begun bytes unfinished within = absurd unfinished
 completes Blank value begun bytes unfinished within = absurd unfinished
 
 -- what was begun goes on
-pub begun_goes_on : (begun : List ℕ) (mode : Mode) (value : ℕ) → run (Some Start) begun ≡ Some mode → IsUnfinished mode value begun → GoesOn begun
+pub begun_goes_on : (begun : List ℕ) (mode : Mode) (value : ℕ) → run (Some Start) begun ≡ Some mode → IsUnfinishedUnit mode value begun → GoesOn begun
 begun_goes_on begun mode value reached unfinished =
     let completion = completes mode value begun (length begun) unfinished (run_within begun mode reached) in
     record {

@@ -7,7 +7,7 @@ use Rattle.omega_text.specs.declared.hoa.kind.HoaKind.{HoaKind}
 use Rattle.omega_text.specs.declared.refusal.text.TextFault.{TextFault}
 use Rattle.omega_text.specs.hoa.Cut.{Ends, Follows, IsGap, IsGapTo}
 use Rattle.omega_text.specs.hoa.Cut.IsGap.{blank, nothing}
-use Rattle.omega_text.specs.hoa.Fault.{Faults, IsFaultOf}
+use Rattle.omega_text.specs.hoa.Fault.{HasFaultFrom, IsFaultOf}
 use Rattle.omega_text.specs.hoa.Forms.{IsBlank}
 use Rattle.omega_text.specs.hoa.scanning.Modes.{IsFirstUnit}
 
@@ -48,7 +48,7 @@ module _ (source gap : List ℕ) (at start : ℕ) (split : drop at source ≡ ga
   gap_ends within past = record { passed = subst IsGap (sym (split ∙ ap (λ bytes. gap ++ bytes) (drop_all start source past) ∙ append-nil gap)) passed; within = within }
 
   -- no token follows
-  pub gap_faults : (fault : TextFault) → IsFaultOf (drop start source) start fault → Faults source at fault
+  pub gap_faults : (fault : TextFault) → IsFaultOf (drop start source) start fault → HasFaultFrom source at fault
   gap_faults fault there = record { gap = gap; bytes = drop start source; split = split; passed = passed; fault_there = subst (λ n. IsFaultOf (drop start source) n fault) place there }
 
 -- a gap with one white byte more

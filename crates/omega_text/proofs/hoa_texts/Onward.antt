@@ -8,7 +8,7 @@ use Rattle.omega_text.specs.declared.refusal.text.TextFault.{TextFault}
 use Rattle.omega_text.specs.declared.refusal.text.TextFault.TheVariants.{Lex, Number}
 use Rattle.omega_text.specs.hoa.Cut.{Ends, Follows, IsGap, IsLongest}
 use Rattle.omega_text.specs.hoa.Cut.IsGap.{blank, nothing}
-use Rattle.omega_text.specs.hoa.Fault.{Faults, IsFaultOf}
+use Rattle.omega_text.specs.hoa.Fault.{HasFaultFrom, IsFaultOf}
 use Rattle.omega_text.specs.hoa.Forms.{IsBlank, Spells}
 use Rattle.omega_text.specs.hoa.scanning.Modes.{IsStuck, next_mode, run, unit_of}
 use Rattle.omega_text.proofs.hoa_texts.Longest.{stuck_longest, stuck_no_unit}
@@ -110,7 +110,7 @@ way (suc fuel) (byte ∷ bytes) place short = ⊎_elim
     (judged (byte ∷ bytes) place (omega arith) (scan (byte ∷ bytes) Start) (unit_of (scan (byte ∷ bytes) Start).last) refl)
 
 -- how a text goes on from a place
-pub onward : (source : List ℕ) (from : ℕ) → from ≤ length source → Ends source from ⊎ (((lexeme : Lexeme HoaKind) × Follows source from lexeme) ⊎ ((fault : TextFault) × Faults source from fault))
+pub onward : (source : List ℕ) (from : ℕ) → from ≤ length source → Ends source from ⊎ (((lexeme : Lexeme HoaKind) × Follows source from lexeme) ⊎ ((fault : TextFault) × HasFaultFrom source from fault))
 onward source from within =
     let behind = way (length (drop from source)) (drop from source) from (omega arith) in
     ⊎_elim

@@ -24,7 +24,7 @@ use Rattle.omega_text.specs.hoa.Laws.{is_closed}
 use Rattle.omega_text.specs.hoa.Pieces.{IsNoneMark, IsPlain, NoneMarks, SettlesFault, StopsBefore, is_mark, lexeme_in, lexemes_in, settled_lexemes}
 use Rattle.omega_text.specs.hoa.scanning.Modes.{first_mode, letter_kind, next_mode, quoted_mode, run, word_mode}
 use Rattle.omega_text.specs.hoa.scanning.Passing.{EndsWord, HasPassed, HasRoom, IsCourse, IsEndedBy, IsOnWayFor, IsSimple, IsSingle, IsStop, Passed, Passes, PassesAs, is_quoted}
-use Rattle.omega_text.specs.hoa.scanning.Reading.{Any, HasRead, IsAt, IsKept, IsOnWay, IsUnfinished, With}
+use Rattle.omega_text.specs.hoa.scanning.Reading.{Any, HasRead, IsAt, IsKept, IsOnWay, IsUnfinishedUnit, With}
 use Rattle.omega_text.specs.hoa.scanning.Unfinished.{IsPlaced, IsTokenIn, IsValueOf, fresh}
 use Rattle.omega_text.proofs.hoa_texts.Last.{last_unclosed}
 use Rattle.omega_text.proofs.hoa_texts.Pieces.{at_with, fault_stays, grown, judged, kept_settled, parts, split_more}
@@ -54,12 +54,12 @@ unclosed_no_mark kind unclosed = refl
 -- where no unit has been begun, its place is the end of what was read
 pub fresh_place : (seen : List ℕ) (lexemes : List (Lexeme HoaKind)) (pending : Pending) → pending.mode ≡ Start → IsAt Any seen lexemes pending → pending.start ≡ length seen
 fresh_place seen lexemes pending is at =
-    let none = subst (λ mode. IsUnfinished mode pending.value at.begun) is at.unfinished in
+    let none = subst (λ mode. IsUnfinishedUnit mode pending.value at.begun) is at.unfinished in
     omega (arith, ap length none, parts seen at.gap at.begun at.end pending.start at.split at.within at.start)
 
 pub fresh_same : (seen : List ℕ) (lexemes : List (Lexeme HoaKind)) (pending : Pending) → pending.mode ≡ Start → IsAt Any seen lexemes pending → IsAt Any seen lexemes (fresh (length seen))
 fresh_same seen lexemes pending is at =
-    let none = subst (λ mode. IsUnfinished mode pending.value at.begun) is at.unfinished in
+    let none = subst (λ mode. IsUnfinishedUnit mode pending.value at.begun) is at.unfinished in
     record {
       end = at.end;
       gap = at.gap;
@@ -138,7 +138,7 @@ passes_byte start bytes place before after inside reads = record {
 
 -- a unit is read further
 pub read_on : (start : ℕ) (text : List ℕ) (before after : Pending) (next : Mode) → run (Some before.mode) text ≡ Some next → after.mode ≡ next → after.start ≡ before.start
-    → ((begun : List ℕ) → IsUnfinished before.mode before.value begun → IsUnfinished next after.value (begun ++ text)) → PassesAs start text before after
+    → ((begun : List ℕ) → IsUnfinishedUnit before.mode before.value begun → IsUnfinishedUnit next after.value (begun ++ text)) → PassesAs start text before after
 read_on start text before after next is mode begins unfinished seen lexemes place at = record {
   added = [];
   at = subst (λ ls. IsAt Any (seen ++ text) ls after) (sym (append-nil lexemes)) (record {
@@ -151,7 +151,7 @@ read_on start text before after next is mode begins unfinished seen lexemes plac
     passed = at.passed;
     start = begins ∙ at.start;
     reached = run_append (Some Start) at.begun text ∙ ap (λ state. run state text) at.reached ∙ is ∙ ap Some (sym mode);
-    unfinished = subst (λ m. IsUnfinished m after.value (at.begun ++ text)) (sym mode) (unfinished at.begun at.unfinished);
+    unfinished = subst (λ m. IsUnfinishedUnit m after.value (at.begun ++ text)) (sym mode) (unfinished at.begun at.unfinished);
   });
   plain = tt;
 }
@@ -224,7 +224,7 @@ quoted_front (byte ∷ rest) =
 
 -- a unit goes on with a byte
 pub goes_on : (place byte : ℕ) (before after : Pending) (next : Mode) → next_mode before.mode byte ≡ Some next → after.mode ≡ next → after.start ≡ before.start
-    → ((value : ℕ) (begun : List ℕ) → IsUnfinished next value begun) → PassesAs place (byte ∷ []) before after
+    → ((value : ℕ) (begun : List ℕ) → IsUnfinishedUnit next value begun) → PassesAs place (byte ∷ []) before after
 goes_on place byte before after next is mode begins unfinished =
     read_on place (byte ∷ []) before after next is mode begins (λ begun _. unfinished after.value (begun ++ byte ∷ []))
 

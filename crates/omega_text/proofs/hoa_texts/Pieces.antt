@@ -16,12 +16,12 @@ use Rattle.omega_text.specs.declared.refusal.text.TextFault.{TextFault}
 use Rattle.omega_text.specs.declared.refusal.text.TextFault.TheVariants.{Lex, Number}
 use Rattle.omega_text.specs.hoa.Cut.{Follows, IsGap, IsLongest}
 use Rattle.omega_text.specs.hoa.Cut.IsGap.{nothing}
-use Rattle.omega_text.specs.hoa.Fault.{Faults, IsFaultOf}
+use Rattle.omega_text.specs.hoa.Fault.{HasFaultFrom, IsFaultOf}
 use Rattle.omega_text.specs.hoa.Format.{hoa_format}
 use Rattle.omega_text.specs.hoa.Forms.{Spells}
 use Rattle.omega_text.specs.hoa.scanning.Modes.{IsStuck, IsWithin, next_mode, run, unit_of}
 use Rattle.omega_text.specs.hoa.Pieces.{FaultsBehind, IsSettled, SettlesFault, lexeme_in, lexemes_in, settled_lexemes}
-use Rattle.omega_text.specs.hoa.scanning.Reading.{Any, IsAt, IsKept, IsUnfinished, With}
+use Rattle.omega_text.specs.hoa.scanning.Reading.{Any, IsAt, IsKept, IsUnfinishedUnit, With}
 use Rattle.omega_text.specs.hoa.scanning.Unfinished.{Continues, IsFaultIn, IsGrown, IsPlaced, IsTokenIn, IsValueOf, ValueGrows, fresh}
 use Rattle.omega_text.specs.Forms.{IsDigits}
 use Rattle.omega_text.proofs.formats.Cutting.{cuts_more}
@@ -79,7 +79,7 @@ not_digits : (text : List ℕ) (mode : Mode) → run (Some Start) text ≡ Some 
 not_digits text mode reached other digits = other (sym reached ∙ digits_run text digits)
 
 -- the token that a unit is, where it ends
-judged_spells : (mode : Mode) (value start stop : ℕ) (token : PlacedToken) (begun : List ℕ) → run (Some Start) begun ≡ Some mode → IsUnfinished mode value begun
+judged_spells : (mode : Mode) (value start stop : ℕ) (token : PlacedToken) (begun : List ℕ) → run (Some Start) begun ≡ Some mode → IsUnfinishedUnit mode value begun
     → IsTokenIn mode value start stop token → (kind : HoaKind) × (worth : ℕ) × IsPlaced token kind worth start stop × Spells kind worth begun
 judged_spells (Word kind) value start stop token begun reached unfinished is =
     (kind, 0, is, plain_unit (Some kind) begun (unit_read begun (Some kind) (ap answer reached)) (not_digits begun (Word kind) reached (λ same. cc)))
@@ -95,7 +95,7 @@ no_unit_fault mode start fault begun rest reached stuck some unread is =
     let there : IsFaultOf (begun ++ rest) start (Lex start) = (refl, stuck_no_unit begun rest mode reached stuck some unread) in
     subst (IsFaultOf (begun ++ rest) start) (sym is) there
 
-judged_fault : (mode : Mode) (value start : ℕ) (fault : TextFault) (begun rest : List ℕ) → run (Some Start) begun ≡ Some mode → IsUnfinished mode value begun
+judged_fault : (mode : Mode) (value start : ℕ) (fault : TextFault) (begun rest : List ℕ) → run (Some Start) begun ≡ Some mode → IsUnfinishedUnit mode value begun
     → IsStuck mode rest → 0 < length (begun ++ rest) → IsFaultIn mode value start fault → IsFaultOf (begun ++ rest) start fault
 judged_fault (Word kind) value start fault begun rest reached unfinished stuck some is = absurd is
 judged_fault Alias value start fault begun rest reached unfinished stuck some is = absurd is
@@ -141,7 +141,7 @@ module _ (seen : List ℕ) (lexemes : List (Lexeme HoaKind)) (before : Pending) 
 
   -- it is read further
   continued : (next : Mode) (after : Pending) (token : Option PlacedToken) → next_mode before.mode byte ≡ Some next → Continues before next after token
-      → IsUnfinished next after.value (at.begun ++ byte ∷ []) → IsAt Any (seen ++ byte ∷ []) (lexemes ++ lexemes_in (seen ++ byte ∷ []) token) after
+      → IsUnfinishedUnit next after.value (at.begun ++ byte ∷ []) → IsAt Any (seen ++ byte ∷ []) (lexemes ++ lexemes_in (seen ++ byte ∷ []) token) after
   continued next after token is continues unfinished =
       subst (λ t. IsAt Any (seen ++ byte ∷ []) (lexemes ++ lexemes_in (seen ++ byte ∷ []) t) after) (sym continues.none)
       (subst (λ ls. IsAt Any (seen ++ byte ∷ []) ls after) (sym (append-nil lexemes)) (record {
@@ -154,7 +154,7 @@ module _ (seen : List ℕ) (lexemes : List (Lexeme HoaKind)) (before : Pending) 
         passed = at.passed;
         start = continues.start ∙ at.start;
         reached = reached_next next is ∙ ap Some (sym continues.mode);
-        unfinished = subst (λ mode. IsUnfinished mode after.value (at.begun ++ byte ∷ [])) (sym continues.mode) unfinished;
+        unfinished = subst (λ mode. IsUnfinishedUnit mode after.value (at.begun ++ byte ∷ [])) (sym continues.mode) unfinished;
       }))
 
   -- it is a whole part of the gap
@@ -227,7 +227,7 @@ module _ (seen : List ℕ) (lexemes : List (Lexeme HoaKind)) (before : Pending) 
           let all = parts seen at.gap at.begun at.end before.start at.split at.within at.start in
           let digits : IsDigits at.begun = (omega arith, front_all) in
           let mode : before.mode ≡ Digits = let reached = at.reached in let other = digits_run at.begun digits in cc in
-          let value = subst (λ m. IsUnfinished m before.value at.begun) mode at.unfinished in
+          let value = subst (λ m. IsUnfinishedUnit m before.value at.begun) mode at.unfinished in
           grows.later (λ one. omega arith) at.begun digits byte_digit value
         where
           front_all : AllPass is_digit at.begun
@@ -318,7 +318,7 @@ pub fault_stays : (seen : List ℕ) (lexemes : List (Lexeme HoaKind)) (byte : �
 fault_stays seen lexemes byte fault settled = record {
   end = settled.end;
   cuts = λ rest. subst (λ source. Cuts hoa_format source 0 lexemes settled.end) (sym (one_byte_more seen byte rest)) (settled.cuts (byte ∷ rest));
-  faults = λ rest. subst (λ source. Faults source settled.end fault) (sym (one_byte_more seen byte rest)) (settled.faults (byte ∷ rest));
+  faults = λ rest. subst (λ source. HasFaultFrom source settled.end fault) (sym (one_byte_more seen byte rest)) (settled.faults (byte ∷ rest));
 }
 
 -- what is kept is settled
@@ -350,7 +350,7 @@ module _ (seen : List ℕ) (lexemes : List (Lexeme HoaKind)) (pending : Pending)
 
   pub ends_in_gap : pending.mode ≡ Start → IsCut hoa_format seen lexemes
   ends_in_gap start =
-      let none = subst (λ mode. IsUnfinished mode pending.value at.begun) start at.unfinished in
+      let none = subst (λ mode. IsUnfinishedUnit mode pending.value at.begun) start at.unfinished in
       record { end = at.end; cuts = cuts_here; rest = record { passed = subst IsGap (sym (at.split ∙ ap (λ bytes. at.gap ++ bytes) none ∙ append-nil at.gap)) at.passed; within = at.within } }
 
   pub ends_in_token : (token : PlacedToken) → IsTokenIn pending.mode pending.value pending.start (length seen) token → IsCut hoa_format seen (lexemes ++ lexeme_in seen token ∷ [])
@@ -390,7 +390,7 @@ pub ends_in_settled_fault : (seen : List ℕ) (lexemes : List (Lexeme HoaKind)) 
 ends_in_settled_fault seen lexemes fault settled = record {
   end = settled.end;
   cuts = subst (λ source. Cuts hoa_format source 0 lexemes settled.end) (append-nil seen) (settled.cuts []);
-  faults = subst (λ source. Faults source settled.end fault) (append-nil seen) (settled.faults []);
+  faults = subst (λ source. HasFaultFrom source settled.end fault) (append-nil seen) (settled.faults []);
 }
 
 -- before the first byte

@@ -7,7 +7,7 @@ use Rattle.omega_text.specs.declared.refusal.text.TextFault.{TextFault}
 use Rattle.omega_text.specs.declared.refusal.text.TextFault.TheVariants.{Lex, Number, Syntax, TooLong}
 use Rattle.omega_text.specs.hoa.Cut.{Ends, Follows, IsGap, IsLongest}
 use Rattle.omega_text.specs.hoa.Cut.IsGap.{blank, nothing}
-use Rattle.omega_text.specs.hoa.Fault.{BeginsNoUnit, BeginsWrongDigits, Faults, IsFaultOf}
+use Rattle.omega_text.specs.hoa.Fault.{BeginsNoUnit, BeginsWrongDigits, HasFaultFrom, IsFaultOf}
 use Rattle.omega_text.specs.hoa.Forms.{IsBlank, IsForm, IsUnit, Spells}
 use Rattle.omega_text.proofs.hoa_texts.Longest.{blank_longest, fronts}
 use Rattle.omega_text.proofs.hoa_texts.Numbers.{one_value, spelled_form}
@@ -104,7 +104,7 @@ one_fault_of bytes place (Syntax at) other first second = absurd first
 one_fault_of bytes place TooLong other first second = absurd first
 
 -- a place is followed by at most one fault
-pub one_faults : (source : List ℕ) (from : ℕ) (one other : TextFault) → Faults source from one → Faults source from other → one ≡ other
+pub one_faults : (source : List ℕ) (from : ℕ) (one other : TextFault) → HasFaultFrom source from one → HasFaultFrom source from other → one ≡ other
 one_faults source from one other first second =
     let gaps = one_gap first.gap second.gap first.bytes second.bytes first.passed second.passed
     (fault_ends_gap first.bytes (from + length first.gap) one first.fault_there) (fault_ends_gap second.bytes (from + length second.gap) other second.fault_there) (sym first.split ∙ second.split) in
@@ -121,7 +121,7 @@ token_no_fault text rest bytes kind value place (Syntax at) split spells longest
 token_no_fault text rest bytes kind value place TooLong split spells longest faults = faults
 
 -- a place is not followed by a token and by a fault
-pub token_or_fault : (source : List ℕ) (from : ℕ) (lexeme : Lexeme HoaKind) (fault : TextFault) → Follows source from lexeme → Faults source from fault → ⊥
+pub token_or_fault : (source : List ℕ) (from : ℕ) (lexeme : Lexeme HoaKind) (fault : TextFault) → Follows source from lexeme → HasFaultFrom source from fault → ⊥
 token_or_fault source from lexeme fault follows faults =
     let gaps = one_gap follows.gap faults.gap (lexeme.text ++ follows.rest) faults.bytes follows.passed faults.passed
     (follows_ends_gap source from lexeme follows) (fault_ends_gap faults.bytes (from + length faults.gap) fault faults.fault_there) (sym follows.split ∙ faults.split) in
@@ -157,7 +157,7 @@ fault_some bytes place (Syntax at) faults none = faults
 fault_some bytes place TooLong faults none = faults
 
 -- a place that a fault follows is not followed by a gap to the end
-pub fault_or_end : (source : List ℕ) (from : ℕ) (fault : TextFault) → Faults source from fault → Ends source from → ⊥
+pub fault_or_end : (source : List ℕ) (from : ℕ) (fault : TextFault) → HasFaultFrom source from fault → Ends source from → ⊥
 fault_or_end source from fault faults ends =
     fault_some faults.bytes (from + length faults.gap) fault faults.fault_there
     (gap_to_end (drop from source) faults.gap faults.bytes ends.passed faults.passed (fault_ends_gap faults.bytes (from + length faults.gap) fault faults.fault_there) faults.split)

@@ -13,7 +13,7 @@ use Rattle.omega_text.specs.declared.refusal.text.TextFault.{TextFault}
 use Rattle.omega_text.specs.declared.refusal.text.TextFault.TheVariants.{Lex, Number as NumberFault}
 use Rattle.omega_text.specs.declared.pg.kind.PgKind.{PgKind}
 use Rattle.omega_text.specs.declared.pg.kind.PgKind.TheVariants.{Comma, Name, Number, Parity, ParitySol, Semicolon}
-use Rattle.omega_text.specs.pg.Fault.{Faults, IsFaultOf}
+use Rattle.omega_text.specs.pg.Fault.{HasFaultFrom, IsFaultOf}
 use Rattle.omega_text.specs.pg.Forms.{IsLongest, IsNoToken, Spells, is_name_byte}
 use Rattle.omega_text.specs.Lexeme.{Lexeme, lexeme_at}
 use Rattle.omega_text.proofs.pg_texts.Classes.{both_ways, two_ways}
@@ -108,7 +108,7 @@ module _ (bytes : List ℕ) (place : ℕ) (some : 0 < length bytes) where
 
 -- how a text goes on from a place: with white space to its end, a token, or a fault
 abbrev pub Onward : List ℕ → ℕ → Type 0
-Onward source from = IsGap source from (length source) ⊎ (((lexeme : Lexeme PgKind) × Follows source from lexeme) ⊎ ((fault : TextFault) × Faults source from fault))
+Onward source from = IsGap source from (length source) ⊎ (((lexeme : Lexeme PgKind) × Follows source from lexeme) ⊎ ((fault : TextFault) × HasFaultFrom source from fault))
 
 pub onward : (source : List ℕ) (from : ℕ) → from ≤ length source → Onward source from
 onward source from inside =

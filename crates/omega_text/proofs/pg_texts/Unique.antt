@@ -11,7 +11,7 @@ use Rattle.omega_text.specs.declared.refusal.text.TextFault.{TextFault}
 use Rattle.omega_text.specs.declared.refusal.text.TextFault.TheVariants.{Lex, Number as NumberFault, Syntax, TooLong}
 use Rattle.omega_text.specs.declared.pg.kind.PgKind.{PgKind}
 use Rattle.omega_text.specs.declared.pg.kind.PgKind.TheVariants.{Comma, Name, Number, Parity, ParitySol, Semicolon}
-use Rattle.omega_text.specs.pg.Fault.{BeginsNoForm, BeginsWrongDigits, BeginsWrongWord, Faults, IsFaultOf}
+use Rattle.omega_text.specs.pg.Fault.{BeginsNoForm, BeginsWrongDigits, BeginsWrongWord, HasFaultFrom, IsFaultOf}
 use Rattle.omega_text.specs.Forms.{IsDigits, IsWord}
 use Rattle.omega_text.specs.pg.Forms.{IsForm, IsLongest, IsNoToken, Spells}
 use Rattle.omega_text.specs.Lexeme.{Lexeme}
@@ -166,17 +166,17 @@ token_no_fault bytes place lexeme (Syntax at) begins fault = fault
 token_no_fault bytes place lexeme TooLong begins fault = fault
 
 -- where a fault is, the text is black
-fault_black : (source : List ℕ) (from : ℕ) (fault : TextFault) (faults : Faults source from fault) → IsBlack source faults.place
+fault_black : (source : List ℕ) (from : ℕ) (fault : TextFault) (faults : HasFaultFrom source from fault) → IsBlack source faults.place
 fault_black source from fault faults = record { inside = faults.more; black = faults.black }
 
 -- a place is followed by at most one fault
-pub one_faults : (source : List ℕ) (from : ℕ) (one other : TextFault) → Faults source from one → Faults source from other → one ≡ other
+pub one_faults : (source : List ℕ) (from : ℕ) (one other : TextFault) → HasFaultFrom source from one → HasFaultFrom source from other → one ≡ other
 one_faults source from one other first second =
     let place = one_gap source from first.place second.place first.gap second.gap (fault_black source from one first) (fault_black source from other second) in
     one_fault_of (drop second.place source) second.place one other (subst (λ n. IsFaultOf (drop n source) n one) place first.fault_there) second.fault_there
 
 -- a place is not followed by a token and by a fault
-pub token_or_fault : (source : List ℕ) (from : ℕ) (lexeme : Lexeme PgKind) (fault : TextFault) → Follows source from lexeme → Faults source from fault → ⊥
+pub token_or_fault : (source : List ℕ) (from : ℕ) (lexeme : Lexeme PgKind) (fault : TextFault) → Follows source from lexeme → HasFaultFrom source from fault → ⊥
 token_or_fault source from lexeme fault follows faults =
     let place = one_gap source from lexeme.span.start faults.place follows.gap faults.gap (token_black source from lexeme follows) (fault_black source from fault faults) in
     token_no_fault (drop faults.place source) faults.place lexeme fault (subst (λ n. BeginsWith (drop n source) lexeme) place follows.token) faults.fault_there
@@ -188,6 +188,6 @@ token_or_end source from lexeme follows gap =
     omega (arith, gap_stops source from (length source) lexeme.span.start gap follows.gap.forward black, black.inside)
 
 -- a place that a fault follows is not followed by white space to the end
-pub fault_or_end : (source : List ℕ) (from : ℕ) (fault : TextFault) → Faults source from fault → IsGap source from (length source) → ⊥
+pub fault_or_end : (source : List ℕ) (from : ℕ) (fault : TextFault) → HasFaultFrom source from fault → IsGap source from (length source) → ⊥
 fault_or_end source from fault faults gap =
     omega (arith, gap_stops source from (length source) faults.place gap faults.gap.forward (fault_black source from fault faults), faults.more)

@@ -5,12 +5,12 @@ use Rattle.omega_text.specs.Cut.{IsCut, IsFault}
 use Rattle.omega_text.specs.Format.{GoesOneWay, IsLexical}
 use Rattle.omega_text.specs.Lexeme.{Lexeme}
 use Rattle.omega_text.specs.Limits.{most_text}
-use Rattle.omega_text.specs.Syntax.{IsDecided, IsTextFault, IsTextOf, IsWrongAt, Syntax, TextsAreReadOrFaulty, TokensBegin}
+use Rattle.omega_text.specs.Syntax.{IsDecidable, IsTextFault, IsTextOf, IsWrongAt, Syntax, TextsAreReadOrFaulty, TokensBegin}
 use Rattle.omega_text.specs.declared.refusal.text.TextFault.{TextFault}
 use Rattle.omega_text.specs.declared.refusal.text.TextFault.TheVariants.{Lex, Number, Syntax as SyntaxFault, TooLong}
 use Rattle.omega_text.proofs.formats.Cutting.{cut_or_fault}
 
-module _ {Kind Symbol Raw : Type 0} (syntax : Syntax Kind Symbol Raw) (exact : GoesOneWay syntax.format) (decided : IsDecided syntax) where
+module _ {Kind Symbol Raw : Type 0} (syntax : Syntax Kind Symbol Raw) (exact : GoesOneWay syntax.format) (decided : IsDecidable syntax) where
   -- some token is the first wrong one
   abbrev HasWrong : List (Lexeme Kind) → Type 0
   HasWrong lexemes = (place : ℕ) × IsWrongAt (TokensBegin syntax) lexemes place

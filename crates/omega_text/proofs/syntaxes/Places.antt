@@ -1,13 +1,13 @@
 -- The places of tokens, and of a syntax fault among them.
 use Rattle.std.proofs.Common.{ℕ, ◌<◌, ◌≤◌, ◌↔◌, inl, inr, List, [], ◌∷◌, ◌++◌, length, refl, ap, ◌∙◌, subst, append_assoc, arith}
 use Rattle.omega_text.specs.Cut.{Cuts}
-use Rattle.omega_text.specs.Format.{Format, GoesOneWay}
+use Rattle.omega_text.specs.Format.{TextFormat, GoesOneWay}
 use Rattle.omega_text.specs.Lexeme.{Lexeme}
 use Rattle.omega_text.specs.Syntax.{IsWrongAt, Syntax, SyntaxFaultsAreFirst, TokensBegin}
 use Rattle.omega_text.proofs.syntaxes.Faults.{misplaced_in}
 use Rattle.omega_text.proofs.syntaxes.Fronts.{begins_through, cases_split}
 
-module _ {Kind : Type 0} (format : Format Kind) (exact : GoesOneWay format) where
+module _ {Kind : Type 0} (format : TextFormat Kind) (exact : GoesOneWay format) where
   -- a token of a cut begins at its place or behind it
   behind : (source : List ℕ) (from to : ℕ) (front rest : List (Lexeme Kind)) (token : Lexeme Kind) → Cuts format source from (front ++ token ∷ rest) to → from ≤ token.span.start
   behind source from to [] rest token cuts = (exact.behind source from token cuts.0).forward

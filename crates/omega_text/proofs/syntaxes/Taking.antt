@@ -1,7 +1,7 @@
 -- One token more of a text that is read.
 use Rattle.std.proofs.Common.{◌≡◌, ℕ, Bool, true, false, Option, Some, None, List, [], ◌∷◌, ◌++◌, refl}
 use Rattle.std.specs.Prelude.{is_some}
-use Rattle.omega_text.specs.Format.{Format, IsLexical}
+use Rattle.omega_text.specs.Format.{TextFormat, IsLexical}
 use Rattle.omega_text.specs.Lexeme.{Lexeme}
 use Rattle.omega_text.specs.Reading.{TakesOrRefuses}
 use Rattle.omega_text.specs.reader.Taking.{IsReadTo, IsTokenFault}
@@ -11,7 +11,7 @@ use Rattle.omega_text.proofs.formats.Cutting.{cuts_more}
 use Rattle.omega_text.proofs.syntaxes.Fronts.{wrong_more}
 
 -- a fault of tokens behind tokens that were cut is one of the text
-module _ {Kind : Type 0} (format : Format Kind) (begins taken : List (Lexeme Kind) → Type 0) (source : List ℕ) (place : ℕ) (wrong : Option ℕ) (read : IsReadTo format begins taken source place wrong) where
+module _ {Kind : Type 0} (format : TextFormat Kind) (begins taken : List (Lexeme Kind) → Type 0) (source : List ℕ) (place : ℕ) (wrong : Option ℕ) (read : IsReadTo format begins taken source place wrong) where
   pub read_faulty : (fault : TextFault) → IsLexical fault → format.faults source place fault → IsTokenFault format begins source fault
   read_faulty (Lex at) lexical faults = record { lexemes = read.lexemes; end = place; cuts = read.cuts; faults = faults }
   read_faulty (Number at) lexical faults = record { lexemes = read.lexemes; end = place; cuts = read.cuts; faults = faults }
@@ -19,7 +19,7 @@ module _ {Kind : Type 0} (format : Format Kind) (begins taken : List (Lexeme Kin
   read_faulty TooLong lexical faults = absurd lexical
 
 -- a text whose tokens were taken up to a place, and a token that follows
-module _ {Kind : Type 0} (format : Format Kind) (begins taken : List (Lexeme Kind) → Type 0) (source : List ℕ) (place : ℕ) (lexeme : Lexeme Kind) (follows : format.follows source place lexeme) where
+module _ {Kind : Type 0} (format : TextFormat Kind) (begins taken : List (Lexeme Kind) → Type 0) (source : List ℕ) (place : ℕ) (lexeme : Lexeme Kind) (follows : format.follows source place lexeme) where
   -- a token that is not taken is noted as the first wrong one
   pub read_refused : (after : List (Lexeme Kind) → Type 0) (wrong : Option ℕ) (done : Bool) → IsReadTo format begins taken source place wrong → is_some wrong ≡ false
       → ((before : List (Lexeme Kind)) → taken before → TakesOrRefuses done begins after before lexeme) → done ≡ false

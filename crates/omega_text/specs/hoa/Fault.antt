@@ -30,7 +30,7 @@ IsFaultOf bytes place (Syntax at) = ⊥
 IsFaultOf bytes place TooLong = ⊥
 
 -- from a place on, a gap follows and then bytes that begin no token
-pub record Faults (source : List ℕ) (from : ℕ) (fault : TextFault) : Type 0 where
+pub record HasFaultFrom (source : List ℕ) (from : ℕ) (fault : TextFault) : Type 0 where
   pub gap : List ℕ
   pub bytes : List ℕ
   pub split : drop from source ≡ gap ++ bytes

@@ -8,7 +8,7 @@ use Rattle.omega_text.specs.declared.hoa.placed.PlacedToken.{PlacedToken}
 use Rattle.omega_text.specs.declared.hoa.placed.Settled.{Settled}
 use Rattle.omega_text.specs.declared.refusal.text.TextFault.{TextFault}
 use Rattle.omega_text.specs.hoa.Cut.{IsGap}
-use Rattle.omega_text.specs.hoa.Fault.{Faults}
+use Rattle.omega_text.specs.hoa.Fault.{HasFaultFrom}
 use Rattle.omega_text.specs.hoa.Format.{hoa_format}
 use Rattle.omega_text.specs.hoa.Forms.{IsUnit}
 
@@ -47,7 +47,7 @@ pub record Settles (seen : List ℕ) (lexemes : List (Lexeme HoaKind)) : Type 0 
 pub record SettlesFault (seen : List ℕ) (lexemes : List (Lexeme HoaKind)) (fault : TextFault) : Type 0 where
   pub end : ℕ
   pub cuts : (rest : List ℕ) → Cuts hoa_format (seen ++ rest) 0 lexemes end
-  pub faults : (rest : List ℕ) → Faults (seen ++ rest) end fault
+  pub faults : (rest : List ℕ) → HasFaultFrom (seen ++ rest) end fault
 
 -- what is settled, with the fault if there is one
 abbrev pub IsSettled : Option TextFault → List ℕ → List (Lexeme HoaKind) → Type 0
@@ -58,12 +58,12 @@ IsSettled (Some fault) seen lexemes = SettlesFault seen lexemes fault
 pub record FaultsBehind (source : List ℕ) (lexemes : List (Lexeme HoaKind)) (fault : TextFault) : Type 0 where
   pub end : ℕ
   pub cuts : Cuts hoa_format source 0 lexemes end
-  pub faults : Faults source end fault
+  pub faults : HasFaultFrom source end fault
 
 -- the tokens are the text's, or those before its fault
-abbrev pub IsFinished : Option TextFault → List ℕ → List (Lexeme HoaKind) → Type 0
-IsFinished None source lexemes = IsCut hoa_format source lexemes
-IsFinished (Some fault) source lexemes = FaultsBehind source lexemes fault
+abbrev pub IsCutUpToFault : Option TextFault → List ℕ → List (Lexeme HoaKind) → Type 0
+IsCutUpToFault None source lexemes = IsCut hoa_format source lexemes
+IsCutUpToFault (Some fault) source lexemes = FaultsBehind source lexemes fault
 
 -- the marks `--BODY--`, `--END--` and `--ABORT--`
 abbrev pub is_mark : HoaKind → Bool

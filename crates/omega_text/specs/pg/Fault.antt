@@ -33,7 +33,7 @@ IsFaultOf bytes place (Syntax at) = ⊥
 IsFaultOf bytes place TooLong = ⊥
 
 -- from a place on, a gap follows and then bytes that are not white and begin no token
-pub record Faults (source : List ℕ) (from : ℕ) (fault : TextFault) : Type 0 where
+pub record HasFaultFrom (source : List ℕ) (from : ℕ) (fault : TextFault) : Type 0 where
   pub place : ℕ
   pub gap : IsGap source from place
   pub more : place < length source

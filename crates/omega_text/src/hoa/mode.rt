@@ -1,6 +1,6 @@
 ghost use Rattle.std.specs.Prelude.{◌≡◌, ◌^◌, ◌-◌, ◌<◌, length};
 ghost use Rattle.omega_text.specs.hoa.Forms.{spelling};
-ghost use Rattle.omega_text.specs.hoa.scanning.Modes.{alias_mode, bracket_kind, closed_mode, comment_mode, dash_mode, dashes_mode, digits_mode, first_mode, letter_kind, mark_mode, marked, next_mode, quoted_mode, sign_kind, slash_mode, slashed_mode, star_mode, whole, word_mode};
+ghost use Rattle.omega_text.specs.hoa.scanning.Modes.{alias_mode, bracket_kind, closed_mode, comment_mode, dash_mode, dashes_mode, digits_mode, first_mode, letter_kind, mark_mode, mode_in_mark, next_mode, quoted_mode, sign_kind, slash_mode, slashed_mode, star_mode, whole, word_mode};
 
 use super::kept_mode::KeptMode;
 use super::kind::{HoaKind, spelling};
@@ -310,7 +310,7 @@ pub(super) fn mark_byte_mode(kind: HoaKind, count: usize, byte: u8) -> Option<Ke
 
 /// A mark of which so many bytes were read.
 fn marked(kind: HoaKind, count: usize) -> KeptMode
-    ensures { result ≡ marked kind count }
+    ensures { result ≡ mode_in_mark kind count }
 {
     if count == spelling(kind).len() {
         KeptMode::new(Mode::Whole(kind))

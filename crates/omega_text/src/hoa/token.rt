@@ -2,7 +2,7 @@ ghost use Rattle.std.specs.Prelude.{◌≡◌, ◌+◌, ◌<◌, ◌≤◌, ◌^
 ghost use Rattle.omega_text.specs.Format.{IsLexical, IsPartBehind};
 ghost use Rattle.omega_text.specs.Lexeme.{lexeme_at, lexeme_of};
 ghost use Rattle.omega_text.specs.hoa.Cut.{Ends, Follows, IsGapTo};
-ghost use Rattle.omega_text.specs.hoa.Fault.{Faults};
+ghost use Rattle.omega_text.specs.hoa.Fault.{HasFaultFrom};
 
 use super::kind::HoaKind;
 use super::plain::plain_unit;
@@ -21,7 +21,7 @@ pub fn next_hoa_token(source: &[u8], at: usize) -> Result<Option<Token<'_, HoaKi
     requires { at ≤ length source.now }
     ensures token { IfOk result (λ found. IfSome found (λ token. Follows source.now at (lexeme_of token))) }
     ensures end { IfOk result (λ found. IfNone found (Ends source.now at)) }
-    ensures fault { IfErr result (Faults source.now at) }
+    ensures fault { IfErr result (HasFaultFrom source.now at) }
     ensures lexical { IfErr result IsLexical }
     ensures progress { IfOk result (λ found. IfSome found (λ token. IsPartBehind source.now at token.span)) }
 {
@@ -59,7 +59,7 @@ fn next_later(source: &[u8], at: usize) -> Result<Option<Token<'_, HoaKind>>, Te
     requires { at ≤ length source.now }
     ensures token { IfOk result (λ found. IfSome found (λ token. Follows source.now at (lexeme_of token))) }
     ensures end { IfOk result (λ found. IfNone found (Ends source.now at)) }
-    ensures fault { IfErr result (Faults source.now at) }
+    ensures fault { IfErr result (HasFaultFrom source.now at) }
     ensures lexical { IfErr result IsLexical }
     ensures progress { IfOk result (λ found. IfSome found (λ token. IsPartBehind source.now at token.span)) }
 {
@@ -75,7 +75,7 @@ fn next_behind(source: &[u8], at: usize) -> Result<Option<Token<'_, HoaKind>>, T
     requires { at ≤ length source.now }
     ensures token { IfOk result (λ found. IfSome found (λ token. Follows source.now at (lexeme_of token))) }
     ensures end { IfOk result (λ found. IfNone found (Ends source.now at)) }
-    ensures fault { IfErr result (Faults source.now at) }
+    ensures fault { IfErr result (HasFaultFrom source.now at) }
     ensures lexical { IfErr result IsLexical }
     ensures progress { IfOk result (λ found. IfSome found (λ token. IsPartBehind source.now at token.span)) }
 {

@@ -3,7 +3,7 @@ ghost use Rattle.omega_text.specs.Lexeme.{Lexeme};
 ghost use Rattle.omega_text.specs.declared.hoa.kind.HoaKind.{HoaKind};
 ghost use Rattle.omega_text.specs.hoa.Laws.{is_closed};
 ghost use Rattle.omega_text.specs.hoa.scanning.Modes.{next_mode};
-ghost use Rattle.omega_text.specs.hoa.Pieces.{IsFinished, IsSettled, StopsBefore, settled_lexemes};
+ghost use Rattle.omega_text.specs.hoa.Pieces.{IsCutUpToFault, IsSettled, StopsBefore, settled_lexemes};
 ghost use Rattle.omega_text.specs.hoa.scanning.Reading.{Any, IsAt, IsKept, IsOnWay};
 
 use super::mode::{Mode, first_mode};
@@ -96,7 +96,7 @@ impl HoaTokenizer {
     /// What is settled where the text ends: at most one token, and none that its own last byte settles.
     pub fn finish(&self) -> Settled
         ensures finishes { (seen : List ℕ) (lexemes : List (Lexeme HoaKind)) → HasRead seen lexemes self.now
-            → IsFinished result.fault seen (lexemes ++ settled_lexemes seen result) }
+            → IsCutUpToFault result.fault seen (lexemes ++ settled_lexemes seen result) }
         ensures second { result.second ≡ None }
         ensures unclosed { (seen : List ℕ) (lexemes : List (Lexeme HoaKind)) → HasRead seen lexemes self.now
             → IfSome result.first (λ token. is_closed token.kind ≡ false) }
@@ -167,7 +167,7 @@ fn end_unit(pending: Pending, place: usize, byte: u8) -> (Pending, Settled)
 /// What is settled where the text ends at a place.
 fn end_of_text(pending: Pending, place: usize) -> Settled
     ensures finishes { (seen : List ℕ) (lexemes : List (Lexeme HoaKind)) → place ≡ length seen → IsAt Any seen lexemes pending
-        → IsFinished result.fault seen (lexemes ++ settled_lexemes seen result) }
+        → IsCutUpToFault result.fault seen (lexemes ++ settled_lexemes seen result) }
     ensures second { result.second ≡ None }
     ensures unclosed { (seen : List ℕ) (lexemes : List (Lexeme HoaKind)) → IsAt Any seen lexemes pending
         → IfSome result.first (λ token. is_closed token.kind ≡ false) }

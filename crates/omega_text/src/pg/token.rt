@@ -3,7 +3,7 @@ ghost use Rattle.std.specs.List.{AllPass, prefix_len};
 ghost use Rattle.std.specs.Str.Parse.{digits_value};
 ghost use Rattle.omega_text.specs.Bytes.{is_digit, is_letter, is_white};
 ghost use Rattle.omega_text.specs.pg.Cut.{Follows, IsFirstForm, IsGap};
-ghost use Rattle.omega_text.specs.pg.Fault.{Faults, IsFaultOf};
+ghost use Rattle.omega_text.specs.pg.Fault.{HasFaultFrom, IsFaultOf};
 ghost use Rattle.omega_text.specs.Forms.{IsDigits};
 ghost use Rattle.omega_text.specs.pg.Forms.{IsNoToken};
 ghost use Rattle.omega_text.specs.Format.{IsPartBehind};
@@ -27,7 +27,7 @@ pub fn next_pg_token(source: &[u8], at: usize) -> Result<Option<Token<'_, PgKind
     requires { at ≤ length source.now }
     ensures token { IfOk result (λ found. IfSome found (λ token. Follows source.now at (lexeme_of token))) }
     ensures end { IfOk result (λ found. IfNone found (IsGap source.now at (length source.now))) }
-    ensures fault { IfErr result (Faults source.now at) }
+    ensures fault { IfErr result (HasFaultFrom source.now at) }
     ensures progress { IfOk result (λ found. IfSome found (λ token. IsPartBehind source.now at token.span)) }
 {
     let start = gap_end(source, at);

@@ -2,8 +2,8 @@
 use Rattle.std.specs.Prelude.{◌≡◌, ℕ, List, [], ◌∷◌, ◌++◌}
 use Rattle.omega_acc.specs.Depth.{counted}
 use Rattle.omega_acc.specs.formula.Raw.{RawAccTree, raw_acc_depth}
-use Rattle.omega_acc.specs.formula.Reading.{IsAccOf, ReadsAcc, acc_spelled}
-use Rattle.omega_acc.specs.Symbols.{Rank, Symbol, conjunctive, disjunctive, sign}
+use Rattle.omega_acc.specs.formula.Reading.{IsAccOf, ReadsAcc, formula_symbols}
+use Rattle.omega_acc.specs.Symbols.{Rank, ExpressionSymbol, conjunctive, disjunctive, sign}
 use Rattle.omega_acc.specs.declared.pending.Pending.{Pending}
 use Rattle.omega_acc.specs.declared.pending.Pending.TheVariants.{And, Open, Or}
 use Rattle.omega_acc.specs.declared.formula.raw.RawAccNode.{RawAccNode}
@@ -26,11 +26,11 @@ abbrev pub capped : RawAccTree → ℕ
 capped tree = counted (raw_acc_depth tree)
 
 -- its symbols
-abbrev pub before_symbols : Before → List Symbol
+abbrev pub before_symbols : Before → List ExpressionSymbol
 before_symbols start = []
 before_symbols (opened before) = before_symbols before ++ sign kind.OpenParenthesis ∷ []
-before_symbols (anded before left) = before_symbols before ++ (acc_spelled left ++ sign kind.And ∷ [])
-before_symbols (ored before left) = before_symbols before ++ (acc_spelled left ++ sign kind.Or ∷ [])
+before_symbols (anded before left) = before_symbols before ++ (formula_symbols left ++ sign kind.And ∷ [])
+before_symbols (ored before left) = before_symbols before ++ (formula_symbols left ++ sign kind.Or ∷ [])
 
 -- the nodes of its left parts
 abbrev pub before_nodes : Before → List RawAccNode
@@ -54,23 +54,23 @@ before_pending (anded before left) = And (capped left) ∷ before_pending before
 before_pending (ored before left) = Or (capped left) ∷ before_pending before
 
 -- a part of this case may stand behind it
-abbrev pub Fits : Rank → Before → Type 0
-Fits rank start = Unit {0}
-Fits rank (opened before) = Unit {0}
-Fits rank (anded before left) = FitsTight rank
-Fits rank (ored before left) = FitsOr rank
+abbrev pub FitsBehind : Rank → Before → Type 0
+FitsBehind rank start = Unit {0}
+FitsBehind rank (opened before) = Unit {0}
+FitsBehind rank (anded before left) = FitsTight rank
+FitsBehind rank (ored before left) = FitsOr rank
 
 -- its left parts are of the cases that their operators take
-abbrev pub IsOpen : Before → Type 0
-IsOpen start = Unit {0}
-IsOpen (opened before) = IsOpen before
-IsOpen (anded before left) = IsAccOf conjunctive left × (Fits conjunctive before × IsOpen before)
-IsOpen (ored before left) = IsAccOf disjunctive left × (Fits disjunctive before × IsOpen before)
+abbrev pub IsOpenBefore : Before → Type 0
+IsOpenBefore start = Unit {0}
+IsOpenBefore (opened before) = IsOpenBefore before
+IsOpenBefore (anded before left) = IsAccOf conjunctive left × (FitsBehind conjunctive before × IsOpenBefore before)
+IsOpenBefore (ored before left) = IsAccOf disjunctive left × (FitsBehind disjunctive before × IsOpenBefore before)
 
 -- a part is wanted, behind what these hold
 pub record Wants (whole left : List (Lexeme HoaKind)) (nodes : List RawAccNode) (names : List ℕ) (pending : List Pending) : Type 0 where
   pub before : Before
-  pub sound : IsOpen before
+  pub sound : IsOpenBefore before
   pub flat : nodes ≡ before_nodes before
   pub named : names ≡ before_names before
   pub pends : pending ≡ before_pending before
@@ -81,13 +81,13 @@ pub record Has (rank : Rank) (whole left : List (Lexeme HoaKind)) (depth : ℕ) 
   pub before : Before
   pub part : RawAccTree
   pub is : IsAccOf rank part
-  pub fits : Fits rank before
-  pub sound : IsOpen before
+  pub fits : FitsBehind rank before
+  pub sound : IsOpenBefore before
   pub deep : depth ≡ capped part
   pub flat : nodes ≡ before_nodes before ++ raw_acc_postfix part
   pub named : names ≡ before_names before ++ atom_names part
   pub pends : pending ≡ before_pending before
-  pub passed : Passed whole (before_symbols before ++ acc_spelled part) left
+  pub passed : Passed whole (before_symbols before ++ formula_symbols part) left
 
 -- a part is wanted, behind what an unfinished formula holds
 abbrev pub WantsIn : (whole left : List (Lexeme HoaKind)) → UnfinishedAcc → Type 0

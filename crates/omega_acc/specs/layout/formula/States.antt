@@ -1,7 +1,7 @@
 -- How far an acceptance formula has been gone through, symbol by symbol.
 use Rattle.std.specs.Prelude.{ℕ, zero, suc, List, [], ◌∷◌, ◌++◌, map, Bool}
-use Rattle.omega_acc.specs.formula.Reading.{set_spelled}
-use Rattle.omega_acc.specs.Symbols.{Symbol, number, sign, symbol_of, word}
+use Rattle.omega_acc.specs.formula.Reading.{mark_symbols}
+use Rattle.omega_acc.specs.Symbols.{ExpressionSymbol, number, sign, expression_symbol_of, word}
 use Rattle.omega_acc.specs.layout.Passing.{Passed}
 use Rattle.omega_text.specs.Lexeme.{Lexeme}
 use Rattle.omega_text.specs.declared.hoa.kind.HoaKind.{HoaKind}
@@ -9,18 +9,18 @@ use Rattle.omega_text.specs.declared.hoa.kind.HoaKind.TheVariants as kind
 
 -- with this many parentheses open: a part is wanted, the name of an atom stands there,
 -- then its `(`, `!` and set, or a part stands there; or all has been gone through, or it cannot be
-pub data State : Type 0 where
-  wanted : ℕ → State
-  named : ℕ → State
-  entered : ℕ → State
-  barred : ℕ → State
-  numbered : ℕ → State
-  had : ℕ → State
-  ended : State
-  failed : State
+pub data NameState : Type 0 where
+  wanted : ℕ → NameState
+  named : ℕ → NameState
+  entered : ℕ → NameState
+  barred : ℕ → NameState
+  numbered : ℕ → NameState
+  had : ℕ → NameState
+  ended : NameState
+  failed : NameState
 
 -- the state behind a symbol
-abbrev pub go : State → Symbol → State
+abbrev pub go : NameState → ExpressionSymbol → NameState
 go (wanted count) (word text) = named count
 go (wanted count) (sign kind.True) = had count
 go (wanted count) (sign kind.False) = had count
@@ -44,23 +44,23 @@ go ended other = ended
 go failed other = failed
 
 -- the state behind symbols
-abbrev pub run : State → List Symbol → State
+abbrev pub run : NameState → List ExpressionSymbol → NameState
 run state [] = state
 run state (symbol ∷ symbols) = run (go state symbol) symbols
 
 -- a formula has been gone through
-abbrev pub IsThrough : State → Type 0
+abbrev pub IsThrough : NameState → Type 0
 IsThrough (had zero) = Unit {0}
 IsThrough ended = Unit {0}
 IsThrough other = ⊥
 
 -- no formula goes on with these tokens from this state, however many parentheses are open
-abbrev pub IsStuck : (ℕ → State) → List (Lexeme HoaKind) → Type 0
-IsStuck state tokens = (count : ℕ) → IsThrough (run (state count) (map symbol_of tokens)) → ⊥
+abbrev pub IsStuck : (ℕ → NameState) → List (Lexeme HoaKind) → Type 0
+IsStuck state tokens = (count : ℕ) → IsThrough (run (state count) (map expression_symbol_of tokens)) → ⊥
 
 -- the symbols of an atom's set, with its parentheses
-abbrev pub set_symbols : Bool → ℕ → List Symbol
-set_symbols negated set = sign kind.OpenParenthesis ∷ (set_spelled negated set ++ sign kind.CloseParenthesis ∷ [])
+abbrev pub set_symbols : Bool → ℕ → List ExpressionSymbol
+set_symbols negated set = sign kind.OpenParenthesis ∷ (mark_symbols negated set ++ sign kind.CloseParenthesis ∷ [])
 
 -- the set of an atom is passed, with its parentheses
 abbrev pub PassesSet : Bool → ℕ → (old new : List (Lexeme HoaKind)) → Type 0

@@ -22,12 +22,12 @@ abbrev pub defined_of : Definition → Defined
 defined_of definition = record { name = definition.name; body = definition.body }
 
 -- the definitions in order
-abbrev pub definitions_of : Inside → List Defined
-definitions_of a = map defined_of a.definitions.items
+abbrev pub definitions_held : Inside → List Defined
+definitions_held a = map defined_of a.definitions.items
 
 -- the set has the names in order, and each definition the extent of what it means, and its nodes if any are kept
 pub record IsAliases (a : Inside) : Type 0 where
   pub named : map (λ key. key.items) a.names.keys ≡ map (λ d. d.name) a.definitions.items
   pub measured : map (λ d. d.extent) a.definitions.items
-      ≡ map (λ entry. option_map extent_of entry.meaning) (entries_of [] (definitions_of a))
-  pub kept : AllKept (map (λ d. d.expanded) a.definitions.items) (entries_of [] (definitions_of a))
+      ≡ map (λ entry. option_map extent_of entry.meaning) (entries_of [] (definitions_held a))
+  pub kept : AllKept (map (λ d. d.expanded) a.definitions.items) (entries_of [] (definitions_held a))

@@ -2,8 +2,8 @@
 use Rattle.std.specs.Prelude.{◌≡◌, ℕ, Bool, true, false, List, [], ◌∷◌, ◌++◌}
 use Rattle.omega_acc.specs.Depth.{counted}
 use Rattle.omega_acc.specs.label.Raw.{RawLabelTree, raw_depth}
-use Rattle.omega_acc.specs.label.Reading.{IsOf, Reads, spelled}
-use Rattle.omega_acc.specs.Symbols.{Rank, Symbol, conjunctive, disjunctive, sign}
+use Rattle.omega_acc.specs.label.Reading.{IsOf, Reads, label_symbols}
+use Rattle.omega_acc.specs.Symbols.{Rank, ExpressionSymbol, conjunctive, disjunctive, sign}
 use Rattle.omega_acc.specs.declared.pending.Pending.{Pending}
 use Rattle.omega_acc.specs.declared.pending.Pending.TheVariants.{And, Not, Open, Or}
 use Rattle.omega_acc.specs.declared.label.LabelNode.{LabelNode}
@@ -29,12 +29,12 @@ abbrev pub capped : RawLabelTree → ℕ
 capped tree = counted (raw_depth tree)
 
 -- its symbols
-abbrev pub before_symbols : Before → List Symbol
+abbrev pub before_symbols : Before → List ExpressionSymbol
 before_symbols start = []
 before_symbols (opened before) = before_symbols before ++ sign kind.OpenParenthesis ∷ []
 before_symbols (denied before) = before_symbols before ++ sign kind.Not ∷ []
-before_symbols (anded before left) = before_symbols before ++ (spelled left ++ sign kind.And ∷ [])
-before_symbols (ored before left) = before_symbols before ++ (spelled left ++ sign kind.Or ∷ [])
+before_symbols (anded before left) = before_symbols before ++ (label_symbols left ++ sign kind.And ∷ [])
+before_symbols (ored before left) = before_symbols before ++ (label_symbols left ++ sign kind.Or ∷ [])
 
 -- the nodes of its left parts
 abbrev pub before_nodes : Before → List LabelNode
@@ -61,25 +61,25 @@ before_pending (anded before left) = And (capped left) ∷ before_pending before
 before_pending (ored before left) = Or (capped left) ∷ before_pending before
 
 -- a part of this case may stand behind it
-abbrev pub Fits : Rank → Before → Type 0
-Fits rank start = Unit {0}
-Fits rank (opened before) = Unit {0}
-Fits rank (denied before) = FitsTight rank
-Fits rank (anded before left) = FitsTight rank
-Fits rank (ored before left) = FitsOr rank
+abbrev pub FitsBehind : Rank → Before → Type 0
+FitsBehind rank start = Unit {0}
+FitsBehind rank (opened before) = Unit {0}
+FitsBehind rank (denied before) = FitsTight rank
+FitsBehind rank (anded before left) = FitsTight rank
+FitsBehind rank (ored before left) = FitsOr rank
 
 -- its left parts are of the cases that their operators take
-abbrev pub IsOpen : Before → Type 0
-IsOpen start = Unit {0}
-IsOpen (opened before) = IsOpen before
-IsOpen (denied before) = IsOpen before
-IsOpen (anded before left) = IsOf conjunctive left × (Fits conjunctive before × IsOpen before)
-IsOpen (ored before left) = IsOf disjunctive left × (Fits disjunctive before × IsOpen before)
+abbrev pub IsOpenBefore : Before → Type 0
+IsOpenBefore start = Unit {0}
+IsOpenBefore (opened before) = IsOpenBefore before
+IsOpenBefore (denied before) = IsOpenBefore before
+IsOpenBefore (anded before left) = IsOf conjunctive left × (FitsBehind conjunctive before × IsOpenBefore before)
+IsOpenBefore (ored before left) = IsOf disjunctive left × (FitsBehind disjunctive before × IsOpenBefore before)
 
 -- a part is wanted, behind what these hold
 pub record Wants (whole left : List (Lexeme HoaKind)) (nodes : List LabelNode) (names : List ℕ) (pending : List Pending) : Type 0 where
   pub before : Before
-  pub sound : IsOpen before
+  pub sound : IsOpenBefore before
   pub flat : nodes ≡ before_nodes before
   pub named : names ≡ before_names before
   pub pends : pending ≡ before_pending before
@@ -90,13 +90,13 @@ pub record Has (rank : Rank) (whole left : List (Lexeme HoaKind)) (depth : ℕ) 
   pub before : Before
   pub part : RawLabelTree
   pub is : IsOf rank part
-  pub fits : Fits rank before
-  pub sound : IsOpen before
+  pub fits : FitsBehind rank before
+  pub sound : IsOpenBefore before
   pub deep : depth ≡ capped part
   pub flat : nodes ≡ before_nodes before ++ raw_postfix part
   pub named : names ≡ before_names before ++ alias_names part
   pub pends : pending ≡ before_pending before
-  pub passed : Passed whole (before_symbols before ++ spelled part) left
+  pub passed : Passed whole (before_symbols before ++ label_symbols part) left
 
 -- a part is wanted, behind what an unfinished label holds
 abbrev pub WantsIn : (whole left : List (Lexeme HoaKind)) → Unfinished → Type 0

@@ -69,6 +69,6 @@ abbrev pub label_code : Coded LabelTree
 label_code = code_by (List LabelNode) (coded_list node.the_row.coded) postfix tree_of tree_of-postfix
 
 -- nodes that are a tree in postfix order, which is not too deep
-pub record IsLabel (nodes : List LabelNode) : Type 0 where
+pub record IsLabelInPostfix (nodes : List LabelNode) : Type 0 where
   pub flat : postfix (tree_of nodes) ≡ nodes
   pub shallow : label_depth (tree_of nodes) ≤ most_depth

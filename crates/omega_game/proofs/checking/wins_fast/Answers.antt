@@ -3,7 +3,7 @@
 use Rattle.std.proofs.Common.{List, Bool, Option, sym, ◌∙◌, subst, arith}
 use Rattle.std.specs.Prelude.{IfSome}
 use Rattle.omega_game.specs.declared.checking.decision.Decision.{Decision}
-use Rattle.omega_game.specs.checking.Decision.{IsRight}
+use Rattle.omega_game.specs.checking.Decision.{IsRightDecision}
 use Rattle.omega_game.specs.checking.Reaching.{AreReached}
 use Rattle.omega_game.proofs.walks.Marking.{reached_closed}
 use Rattle.omega_game.proofs.walks.Recurrence.{choices_of_strategy, priorities_low, wins_if_none, none_if_wins}
@@ -28,8 +28,8 @@ pub returns-in-Some : goal.returns-in-Some
 returns-in-Some c =
     let low = priorities_low c.args.game.now 4294967295 c.keeps_limits.ensures.limits (omega arith) in
     let reached = subst (λ (m : List Bool). AreReached c.args.game.now c.args.choices.now 4294967295 c.args.places.now m) (sym c.deref.ensures.value) c.in_ok-marks.ensures.reached in
-    let right : IsRight c.args.game.now c.args.player c.args.choices.now c.deref.result.now c.in-Some.decision =
-    subst (λ (found : Option Decision). IfSome found (IsRight c.args.game.now c.args.player c.args.choices.now c.deref.result.now)) c.in-Some.is c.in_ok-decision.ensures.right in
+    let right : IsRightDecision c.args.game.now c.args.player c.args.choices.now c.deref.result.now c.in-Some.decision =
+    subst (λ (found : Option Decision). IfSome found (IsRightDecision c.args.game.now c.args.player c.args.choices.now c.deref.result.now)) c.in-Some.is c.in_ok-decision.ensures.right in
     record {
       wins = (
         λ yes. wins_if_none c.args.game.now c.args.player c.args.choices.now c.keeps_limits.ensures.game c.requires.strategy 4294967295 low c.args.places.now

@@ -6,23 +6,23 @@ use Rattle.omega_game.specs.declared.node_spec.NodeSpec.{NodeSpec}
 use Rattle.omega_game.specs.declared.player.Player.{Player}
 use Rattle.omega_game.specs.declared.player.Player.TheVariants.{One, Zero}
 use Rattle.omega_pg.specs.reader.Run.{run_by}
-use Rattle.omega_pg.specs.Symbols.{Symbol, comma, name, number, parity, paritysol, semicolon}
+use Rattle.omega_pg.specs.Symbols.{PgSymbol, comma, name, number, parity, paritysol, semicolon}
 use Rattle.omega_pg.specs.declared.game.stage.Stage.{Stage}
 use Rattle.omega_pg.specs.declared.game.stage.Stage.TheVariants.{Comma, Ended, Headed, Identifier, Listed, Named, Number, Owner, Priority, Start, Word}
 
 -- what was read so far: where it stands, the header's number, the specifications, and whether one is above that number
-pub record State : Type 0 where
+pub record GameReaderState : Type 0 where
   pub stage : Stage
   pub header : Option ℕ
   pub specs : List NodeSpec
   pub header_too_small : Bool
 
 -- nothing was read
-abbrev pub initial : State
+abbrev pub initial : GameReaderState
 initial = record { stage = Start; header = None; specs = []; header_too_small = false }
 
 -- the state at another stage
-abbrev pub to_stage : Stage → State → State
+abbrev pub to_stage : Stage → GameReaderState → GameReaderState
 to_stage stage state = record state { stage = stage }
 
 -- the player that a number stands for
@@ -39,7 +39,7 @@ abbrev pub begun : ℕ → ℕ → Player → ℕ → NodeSpec
 begun id priority owner first = record { id = id; priority = priority; owner = owner; successors = first ∷ []; name = None }
 
 -- the state with one specification more
-abbrev pub with_node : NodeSpec → State → State
+abbrev pub with_node : NodeSpec → GameReaderState → GameReaderState
 with_node spec state = record {
   stage = Listed;
   header = state.header;
@@ -48,11 +48,11 @@ with_node spec state = record {
 }
 
 -- the state with the last specification changed
-abbrev pub with_change : Stage → (NodeSpec → NodeSpec) → State → State
+abbrev pub with_change : Stage → (NodeSpec → NodeSpec) → GameReaderState → GameReaderState
 with_change stage change state = record state { stage = stage; specs = with_last change state.specs }
 
 -- what a number makes of the state
-abbrev pub after_number : Stage → State → ℕ → Option State
+abbrev pub after_number : Stage → GameReaderState → ℕ → Option GameReaderState
 after_number Start state n = Some (to_stage (Identifier n) state)
 after_number Word state n = Some (to_stage (Number n) state)
 after_number (Number header) state n = None
@@ -66,29 +66,29 @@ after_number Comma state n = Some (with_change Listed (with_successor n) state)
 after_number Named state n = None
 
 -- what the word `parity` makes of the state
-abbrev pub after_word : Stage → State → Option State
+abbrev pub after_word : Stage → GameReaderState → Option GameReaderState
 after_word Start state = Some (to_stage Word state)
 after_word _ state = None
 
 -- what a semicolon makes of the state
-abbrev pub after_semicolon : Stage → State → Option State
+abbrev pub after_semicolon : Stage → GameReaderState → Option GameReaderState
 after_semicolon (Number n) state = Some (record state { stage = Headed; header = Some n })
 after_semicolon Listed state = Some (to_stage Ended state)
 after_semicolon Named state = Some (to_stage Ended state)
 after_semicolon _ state = None
 
 -- what a comma makes of the state
-abbrev pub after_comma : Stage → State → Option State
+abbrev pub after_comma : Stage → GameReaderState → Option GameReaderState
 after_comma Listed state = Some (to_stage Comma state)
 after_comma _ state = None
 
 -- what a name makes of the state
-abbrev pub after_name : Stage → State → List ℕ → Option State
+abbrev pub after_name : Stage → GameReaderState → List ℕ → Option GameReaderState
 after_name Listed state bytes = Some (with_change Named (with_name bytes) state)
 after_name _ state bytes = None
 
 -- what a symbol makes of the state, or none where no text goes on so
-abbrev pub step : State → Symbol → Option State
+abbrev pub step : GameReaderState → PgSymbol → Option GameReaderState
 step state (number n) = after_number state.stage state n
 step state parity = after_word state.stage state
 step state paritysol = None
@@ -97,7 +97,7 @@ step state comma = after_comma state.stage state
 step state (name bytes) = after_name state.stage state bytes
 
 -- what symbols make of the state
-abbrev pub run : State → List Symbol → Option State
+abbrev pub run : GameReaderState → List PgSymbol → Option GameReaderState
 run = run_by step
 
 -- what a reader may rely on: numbers that are kept are within the limit, and an open specification is there
@@ -114,14 +114,14 @@ IsReadyAt Listed specs = 0 < length specs
 IsReadyAt Comma specs = 0 < length specs
 IsReadyAt Named specs = 0 < length specs
 
-abbrev pub IsReady : State → Type 0
+abbrev pub IsReady : GameReaderState → Type 0
 IsReady state = IsReadyAt state.stage state.specs
 
 -- the symbols lead from nothing to a state that a reader may rely on
-abbrev pub IsReached : List Symbol → State → Type 0
-IsReached symbols state = (run initial symbols ≡ Some state) × IsReady state
+abbrev pub IsReachedBy : List PgSymbol → GameReaderState → Type 0
+IsReachedBy symbols state = (run initial symbols ≡ Some state) × IsReady state
 
 -- a call took a symbol or refused it: the new state is the next, or there is no next
-abbrev pub Takes : Bool → Option State → State → Type 0
+abbrev pub Takes : Bool → Option GameReaderState → GameReaderState → Type 0
 Takes true next new = (next ≡ Some new) × IsReady new
 Takes false next new = next ≡ None

@@ -2,28 +2,28 @@
 use Rattle.std.specs.Prelude.{ℕ, Option, Some, None, List, [], ◌∷◌, ◌++◌, option_map}
 use Rattle.omega_game.specs.declared.player.Player.{Player}
 use Rattle.omega_pg.specs.game.reader.Automaton.{player_of}
-use Rattle.omega_pg.specs.solution.Grammar.{Line}
+use Rattle.omega_pg.specs.solution.Grammar.{SolutionLine}
 use Rattle.omega_pg.specs.reader.Run.{run_by}
-use Rattle.omega_pg.specs.Symbols.{Symbol, comma, name, number, parity, paritysol, semicolon}
+use Rattle.omega_pg.specs.Symbols.{PgSymbol, comma, name, number, parity, paritysol, semicolon}
 use Rattle.omega_pg.specs.declared.solution.stage.Stage.{Stage}
 use Rattle.omega_pg.specs.declared.solution.stage.Stage.TheVariants.{Chosen, Ended, Identifier, Number, Start, Winner, Word}
 
 -- what was read so far: where it stands, the header's number and the lines
-pub record State : Type 0 where
+pub record SolutionReaderState : Type 0 where
   pub stage : Stage
   pub greatest : ℕ
-  pub lines : List Line
+  pub lines : List SolutionLine
 
 -- nothing was read
-abbrev pub initial : State
+abbrev pub initial : SolutionReaderState
 initial = record { stage = Start; greatest = 0; lines = [] }
 
 -- the state at another stage
-abbrev pub to_stage : Stage → State → State
+abbrev pub to_stage : Stage → SolutionReaderState → SolutionReaderState
 to_stage stage state = record state { stage = stage }
 
 -- the state with one line more
-abbrev pub with_line : ℕ → Player → Option ℕ → State → State
+abbrev pub with_line : ℕ → Player → Option ℕ → SolutionReaderState → SolutionReaderState
 with_line id winner successor state = record {
   stage = Ended;
   greatest = state.greatest;
@@ -46,22 +46,22 @@ stage_after_word Start = Some Word
 stage_after_word _ = None
 
 -- what a number makes of the state
-abbrev pub after_number : Stage → State → ℕ → Option State
+abbrev pub after_number : Stage → SolutionReaderState → ℕ → Option SolutionReaderState
 after_number stage state n = option_map (λ next. to_stage next state) (stage_after_number stage n)
 
 -- what the word `paritysol` makes of the state
-abbrev pub after_word : Stage → State → Option State
+abbrev pub after_word : Stage → SolutionReaderState → Option SolutionReaderState
 after_word stage state = option_map (λ next. to_stage next state) (stage_after_word stage)
 
 -- what a semicolon makes of the state
-abbrev pub after_semicolon : Stage → State → Option State
+abbrev pub after_semicolon : Stage → SolutionReaderState → Option SolutionReaderState
 after_semicolon (Number greatest) state = Some (record { stage = Ended; greatest = greatest; lines = state.lines })
 after_semicolon (Winner id winner) state = Some (with_line id winner None state)
 after_semicolon (Chosen id winner successor) state = Some (with_line id winner (Some successor) state)
 after_semicolon _ state = None
 
 -- what a symbol makes of the state, or none where no text goes on so
-abbrev pub step : State → Symbol → Option State
+abbrev pub step : SolutionReaderState → PgSymbol → Option SolutionReaderState
 step state (number n) = after_number state.stage state n
 step state parity = None
 step state paritysol = after_word state.stage state
@@ -70,5 +70,5 @@ step state comma = None
 step state (name bytes) = None
 
 -- what symbols make of the state
-abbrev pub run : State → List Symbol → Option State
+abbrev pub run : SolutionReaderState → List PgSymbol → Option SolutionReaderState
 run = run_by step

@@ -7,13 +7,13 @@ use Rattle.omega_pg.specs.solution.BadSolution.{IsNoSolution, IsWrongSuccessor}
 use Rattle.omega_text.specs.declared.refusal.Refusal.{Refusal}
 use Rattle.omega_text.specs.declared.refusal.Refusal.TheVariants.{Task}
 use Rattle.omega_text.specs.declared.refusal.task.TaskFault.TheVariants.{BadSolution}
-use Rattle.omega_pg.specs.solution.Grammar.{Line, RawSolution, no_line}
+use Rattle.omega_pg.specs.solution.Grammar.{SolutionLine, RawSolution, no_line}
 use Rattle.omega_game.specs.Solution.{IsSolution}
 use Rattle.omega_pg.specs.solution.Text.{raw_solution}
 use Rattle.omega_game.specs.declared.solution.Solution.{Solution}
 
 -- a line says this choice of the node at a place
-pub record Says (nodes : List Node) (v : ℕ) (line : Line) (choice : Option ℕ) : Type 0 where
+pub record Says (nodes : List Node) (v : ℕ) (line : SolutionLine) (choice : Option ℕ) : Type 0 where
   pub inside : v < length nodes
   pub identifier : line.identifier ≡ identifier_at nodes v
   pub successor : line.successor ≡ option_map (identifier_at nodes) choice
@@ -21,7 +21,7 @@ pub record Says (nodes : List Node) (v : ℕ) (line : Line) (choice : Option ℕ
   pub listed : IfSome choice (HasEdge nodes v)
 
 -- a line is not that of the node at a place: there is none, or the identifier is another, or the successor is wrong
-abbrev pub IsWrongLine : List Node → ℕ → Line → Type 0
+abbrev pub IsWrongLine : List Node → ℕ → SolutionLine → Type 0
 IsWrongLine nodes v line =
     (length nodes ≤ v) ⊎ ((line.identifier ≢ identifier_at nodes v) ⊎ IsWrongSuccessor nodes v line.winner line.successor)
 
@@ -33,7 +33,7 @@ entry_of One Zero choice = None
 entry_of One One choice = choice
 
 -- the entries of a place keep what a line says
-pub record IsKept (nodes : List Node) (v : ℕ) (line : Line) (winner : Player) (zero one : Option ℕ) : Type 0 where
+pub record IsKept (nodes : List Node) (v : ℕ) (line : SolutionLine) (winner : Player) (zero one : Option ℕ) : Type 0 where
   pub choice : Option ℕ
   pub says : Says nodes v line choice
   pub winner_kept : winner ≡ line.winner
@@ -41,20 +41,20 @@ pub record IsKept (nodes : List Node) (v : ℕ) (line : Line) (winner : Player) 
   pub one_kept : one ≡ entry_of One (owner_at nodes v) choice
 
 -- each line says the choice that is kept for it
-pub record AreSaid (nodes : List Node) (lines : List Line) (winners : List Player) (zero one : List (Option ℕ)) : Type 0 where
+pub record AreSaid (nodes : List Node) (lines : List SolutionLine) (winners : List Player) (zero one : List (Option ℕ)) : Type 0 where
   pub winners_count : length winners ≡ length lines
   pub zero_count : length zero ≡ length lines
   pub one_count : length one ≡ length lines
   pub said : (v : ℕ) → v < length lines → IsKept nodes v (slice_index_or lines v no_line) (slice_index_or winners v Zero) (slice_index_or zero v None) (slice_index_or one v None)
 
 -- some line is wrong
-pub record HasWrongLine (nodes : List Node) (lines : List Line) : Type 0 where
+pub record HasWrongLine (nodes : List Node) (lines : List SolutionLine) : Type 0 where
   pub place : ℕ
   pub inside : place < length lines
   pub wrong : IsWrongLine nodes place (slice_index_or lines place no_line)
 
 -- the lines so far are kept, or one of them is wrong
-abbrev pub AreJudged : List Node → List Line → Bool → List Player → List (Option ℕ) → List (Option ℕ) → Type 0
+abbrev pub AreJudged : List Node → List SolutionLine → Bool → List Player → List (Option ℕ) → List (Option ℕ) → Type 0
 AreJudged nodes lines true winners zero one = AreSaid nodes lines winners zero one
 AreJudged nodes lines false winners zero one = HasWrongLine nodes lines
 

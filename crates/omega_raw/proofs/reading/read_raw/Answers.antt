@@ -2,7 +2,7 @@
 use Rattle.std.proofs.Common.{refl, sym, subst, ◌∷◌, []}
 use Rattle.omega_acc.specs.Symbols.{IsUnread}
 use Rattle.omega_raw.proofs.RowLemmas.{error_is, raw_same, read_refused}
-use Rattle.omega_raw.specs.Grammar.{ReadsNone, each, item_row, state_row}
+use Rattle.omega_raw.specs.Grammar.{ReadsNoAutomaton, each, item_row, state_row}
 use Rattle.omega_raw.specs.Symbols.{sign, word}
 use Rattle.omega_text.specs.declared.hoa.kind.HoaKind.TheVariants as kind
 use Rattle.omega_raw.proofs.reading.read_raw.Goals as goal
@@ -30,20 +30,20 @@ returns-clause-only g c = λ raw rest reads.
 
 pub returns-in_err-take_header-clause-err : goal.returns-in_err-take_header-clause-err
 returns-in_err-take_header-clause-err g c =
-    error_is c.from_residual.result _ _ c.from_residual.ensures.1 (λ e is. subst (IsUnread (ReadsNone (g.S.TokenSource.left c.args.source.now))) (sym is)
+    error_is c.from_residual.result _ _ c.from_residual.ensures.1 (λ e is. subst (IsUnread (ReadsNoAutomaton (g.S.TokenSource.left c.args.source.now))) (sym is)
     (read_refused (g.S.TokenSource.left c.args.source.now) _ c.in_err-take_header.ensures.err (λ raw rest reads.
     c.in_err-take_header.ensures.finds (word raw.version ∷ each item_row raw.items (sign kind.Body ∷ each state_row raw.states (sign kind.End ∷ []))) rest reads.spells)))
 
 pub returns-in_err-version-clause-err : goal.returns-in_err-version-clause-err
 returns-in_err-version-clause-err g c =
-    error_is c.from_residual-in_err-version.result _ _ c.from_residual-in_err-version.ensures.1 (λ e is. subst (IsUnread (ReadsNone (g.S.TokenSource.left c.args.source.now))) (sym is)
+    error_is c.from_residual-in_err-version.result _ _ c.from_residual-in_err-version.ensures.1 (λ e is. subst (IsUnread (ReadsNoAutomaton (g.S.TokenSource.left c.args.source.now))) (sym is)
     (read_refused (g.S.TokenSource.left c.args.source.now) _ c.in_err-version.ensures.err (λ raw rest reads.
     let s1 = c.in_ok-take_header.ensures.finds (word raw.version ∷ each item_row raw.items (sign kind.Body ∷ each state_row raw.states (sign kind.End ∷ []))) rest reads.spells in
     c.in_err-version.ensures.finds raw.version (each item_row raw.items (sign kind.Body ∷ each state_row raw.states (sign kind.End ∷ []))) rest tt tt s1)))
 
 pub returns-in_err-items-clause-err : goal.returns-in_err-items-clause-err
 returns-in_err-items-clause-err g c =
-    error_is c.from_residual-in_err-items.result _ _ c.from_residual-in_err-items.ensures.1 (λ e is. subst (IsUnread (ReadsNone (g.S.TokenSource.left c.args.source.now))) (sym is)
+    error_is c.from_residual-in_err-items.result _ _ c.from_residual-in_err-items.ensures.1 (λ e is. subst (IsUnread (ReadsNoAutomaton (g.S.TokenSource.left c.args.source.now))) (sym is)
     (read_refused (g.S.TokenSource.left c.args.source.now) _ c.in_err-items.ensures.err (λ raw rest reads.
     let s1 = c.in_ok-take_header.ensures.finds (word raw.version ∷ each item_row raw.items (sign kind.Body ∷ each state_row raw.states (sign kind.End ∷ []))) rest reads.spells in
     let s2 = c.in_ok-version.ensures.finds raw.version (each item_row raw.items (sign kind.Body ∷ each state_row raw.states (sign kind.End ∷ []))) rest tt tt s1 in
@@ -51,7 +51,7 @@ returns-in_err-items-clause-err g c =
 
 pub returns-in_err-take_sign-clause-err : goal.returns-in_err-take_sign-clause-err
 returns-in_err-take_sign-clause-err g c =
-    error_is c.from_residual-in_err-take_sign.result _ _ c.from_residual-in_err-take_sign.ensures.1 (λ e is. subst (IsUnread (ReadsNone (g.S.TokenSource.left c.args.source.now))) (sym is)
+    error_is c.from_residual-in_err-take_sign.result _ _ c.from_residual-in_err-take_sign.ensures.1 (λ e is. subst (IsUnread (ReadsNoAutomaton (g.S.TokenSource.left c.args.source.now))) (sym is)
     (read_refused (g.S.TokenSource.left c.args.source.now) _ c.in_err-take_sign.ensures.err (λ raw rest reads.
     let s1 = c.in_ok-take_header.ensures.finds (word raw.version ∷ each item_row raw.items (sign kind.Body ∷ each state_row raw.states (sign kind.End ∷ []))) rest reads.spells in
     let s2 = c.in_ok-version.ensures.finds raw.version (each item_row raw.items (sign kind.Body ∷ each state_row raw.states (sign kind.End ∷ []))) rest tt tt s1 in
@@ -60,7 +60,7 @@ returns-in_err-take_sign-clause-err g c =
 
 pub returns-in_err-states-clause-err : goal.returns-in_err-states-clause-err
 returns-in_err-states-clause-err g c =
-    error_is c.from_residual-in_err-states.result _ _ c.from_residual-in_err-states.ensures.1 (λ e is. subst (IsUnread (ReadsNone (g.S.TokenSource.left c.args.source.now))) (sym is)
+    error_is c.from_residual-in_err-states.result _ _ c.from_residual-in_err-states.ensures.1 (λ e is. subst (IsUnread (ReadsNoAutomaton (g.S.TokenSource.left c.args.source.now))) (sym is)
     (read_refused (g.S.TokenSource.left c.args.source.now) _ c.in_err-states.ensures.err (λ raw rest reads.
     let s1 = c.in_ok-take_header.ensures.finds (word raw.version ∷ each item_row raw.items (sign kind.Body ∷ each state_row raw.states (sign kind.End ∷ []))) rest reads.spells in
     let s2 = c.in_ok-version.ensures.finds raw.version (each item_row raw.items (sign kind.Body ∷ each state_row raw.states (sign kind.End ∷ []))) rest tt tt s1 in
@@ -70,7 +70,7 @@ returns-in_err-states-clause-err g c =
 
 pub returns-in_err-take_sign-2-clause-err : goal.returns-in_err-take_sign-2-clause-err
 returns-in_err-take_sign-2-clause-err g c =
-    error_is c.from_residual-in_err-take_sign-2.result _ _ c.from_residual-in_err-take_sign-2.ensures.1 (λ e is. subst (IsUnread (ReadsNone (g.S.TokenSource.left c.args.source.now))) (sym is)
+    error_is c.from_residual-in_err-take_sign-2.result _ _ c.from_residual-in_err-take_sign-2.ensures.1 (λ e is. subst (IsUnread (ReadsNoAutomaton (g.S.TokenSource.left c.args.source.now))) (sym is)
     (read_refused (g.S.TokenSource.left c.args.source.now) _ c.in_err-take_sign-2.ensures.err (λ raw rest reads.
     let s1 = c.in_ok-take_header.ensures.finds (word raw.version ∷ each item_row raw.items (sign kind.Body ∷ each state_row raw.states (sign kind.End ∷ []))) rest reads.spells in
     let s2 = c.in_ok-version.ensures.finds raw.version (each item_row raw.items (sign kind.Body ∷ each state_row raw.states (sign kind.End ∷ []))) rest tt tt s1 in

@@ -3,13 +3,13 @@ use Rattle.std.proofs.Common.{◌≡◌, ℕ, List, [], ◌∷◌, ◌++◌, map
 use Rattle.std.proofs.ResultArms.{chosen}
 use Rattle.omega_text.specs.Cut.{Cuts}
 use Rattle.omega_text.specs.Lexeme.{lexeme_of}
-use Rattle.omega_text.specs.Format.{Format}
+use Rattle.omega_text.specs.Format.{TextFormat}
 use Rattle.omega_text.specs.declared.token.Token.{Token}
 use Rattle.omega_text.proofs.formats.Cutting.{cuts_push}
 use Rattle.omega_text.proofs.tokens.all_tokens.Goals as goal
 
 -- tokens with one pushed, which follows them
-more_cuts : {Kind : Type 0} (format : Format Kind) (source : List ℕ) (tokens pushed : List (Token Kind)) (at : ℕ) (token : Token Kind) → pushed ≡ tokens ++ token ∷ []
+more_cuts : {Kind : Type 0} (format : TextFormat Kind) (source : List ℕ) (tokens pushed : List (Token Kind)) (at : ℕ) (token : Token Kind) → pushed ≡ tokens ++ token ∷ []
     → Cuts format source 0 (map lexeme_of tokens) at → format.follows source at (lexeme_of token) → Cuts format source 0 (map lexeme_of pushed) token.span.end
 more_cuts format source tokens pushed at token is cuts follows =
     subst (λ (list : List (Token _)). Cuts format source 0 (map lexeme_of list) token.span.end) (sym is) (cuts_push format source tokens at token cuts follows)

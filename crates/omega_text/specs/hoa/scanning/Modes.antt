@@ -52,8 +52,8 @@ dashes_mode byte = if byte == 66 then Some (Mark Body 3)
     else (if byte == 65 then Some (Mark Abort 3) else None))
 
 -- a mark of which so many bytes were read
-abbrev pub marked : HoaKind → ℕ → Mode
-marked kind count = if count == length (spelling kind) then Whole kind else Mark kind count
+abbrev pub mode_in_mark : HoaKind → ℕ → Mode
+mode_in_mark kind count = if count == length (spelling kind) then Whole kind else Mark kind count
 
 -- the innermost comment is closed
 abbrev pub closed_mode : ℕ → Mode
@@ -111,7 +111,7 @@ next_mode (Star around) byte = Some (star_mode around byte)
 next_mode (Slashed around) byte = Some (slashed_mode around byte)
 next_mode Dash byte = dash_mode byte
 next_mode Dashes byte = dashes_mode byte
-next_mode (Mark kind count) byte = if byte == slice_index (spelling kind) count then Some (marked kind (count + 1)) else None
+next_mode (Mark kind count) byte = if byte == slice_index (spelling kind) count then Some (mode_in_mark kind (count + 1)) else None
 next_mode (Whole kind) byte = None
 next_mode Blank byte = None
 

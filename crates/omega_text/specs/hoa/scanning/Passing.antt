@@ -12,7 +12,7 @@ use Rattle.omega_text.specs.declared.hoa.passing.Course.{Course}
 use Rattle.omega_text.specs.declared.hoa.passing.Course.TheVariants.{GoesOn, Ends, Other}
 use Rattle.omega_text.specs.declared.hoa.passing.Simple.{Simple}
 use Rattle.omega_text.specs.declared.hoa.passing.Simple.TheVariants.{Ended, Begun}
-use Rattle.omega_text.specs.hoa.scanning.Reading.{Any, HasRead, IsAt, IsUnfinished}
+use Rattle.omega_text.specs.hoa.scanning.Reading.{Any, HasRead, IsAt, IsUnfinishedUnit}
 use Rattle.omega_text.specs.hoa.scanning.Unfinished.{fresh}
 
 -- a byte that is a whole unit, and no mark
@@ -51,7 +51,7 @@ pub record Passes (start : ℕ) (bytes : List ℕ) (from to : ℕ) (before after
 
 -- a unit that has been read so far is whole and no mark, or not whole and without a value
 abbrev pub IsCourse : Mode → Course → Type 0
-IsCourse next GoesOn = (value : ℕ) (begun : List ℕ) → IsUnfinished next value begun
+IsCourse next GoesOn = (value : ℕ) (begun : List ℕ) → IsUnfinishedUnit next value begun
 IsCourse next Ends = (next ≡ Blank) ⊎ ((kind : HoaKind) × (next ≡ Whole kind) × (is_mark kind ≡ false))
 IsCourse next Other = Unit {0}
 

@@ -15,12 +15,12 @@ use Rattle.omega_text.specs.hoa.Pieces.{SettlesFault}
 use Rattle.omega_text.specs.hoa.scanning.Unfinished.{IsValueOf}
 
 -- a unit that is not whole yet, read so far: nothing of it, or digits with their value, or others
-abbrev pub IsUnfinished : Mode → ℕ → List ℕ → Type 0
-IsUnfinished (Whole kind) value begun = ⊥
-IsUnfinished Blank value begun = ⊥
-IsUnfinished Start value begun = begun ≡ []
-IsUnfinished Digits value begun = IsValueOf value begun
-IsUnfinished mode value begun = Unit {0}
+abbrev pub IsUnfinishedUnit : Mode → ℕ → List ℕ → Type 0
+IsUnfinishedUnit (Whole kind) value begun = ⊥
+IsUnfinishedUnit Blank value begun = ⊥
+IsUnfinishedUnit Start value begun = begun ≡ []
+IsUnfinishedUnit Digits value begun = IsValueOf value begun
+IsUnfinishedUnit mode value begun = Unit {0}
 
 -- behind these tokens stands a gap and then a unit that has been read so far, if the text goes on as it may
 pub record IsAt (may : List ℕ → Type 0) (seen : List ℕ) (lexemes : List (Lexeme HoaKind)) (pending : Pending) : Type 0 where
@@ -33,7 +33,7 @@ pub record IsAt (may : List ℕ → Type 0) (seen : List ℕ) (lexemes : List (L
   pub passed : IsGap gap
   pub start : pending.start ≡ end + length gap
   pub reached : run (Some Start) begun ≡ Some pending.mode
-  pub unfinished : IsUnfinished pending.mode pending.value begun
+  pub unfinished : IsUnfinishedUnit pending.mode pending.value begun
 
 -- the text may go on in any way
 abbrev pub Any : List ℕ → Type 0

@@ -1,6 +1,6 @@
 -- What follows a part is passed, or the whole is read, or nothing is.
 use Rattle.std.proofs.Common.{subst, sym}
-use Rattle.omega_acc.specs.label.Reading.{ReadsNone}
+use Rattle.omega_acc.specs.label.Reading.{ReadsNoLabel}
 use Rattle.omega_acc.specs.Symbols.{IsUnread}
 use Rattle.omega_acc.proofs.expressions.PassingLemmas.{error_then}
 use Rattle.omega_acc.proofs.labels.ReadingLemmas.{after_close, after_or, unclosed_none, whole_read}
@@ -34,11 +34,11 @@ returns-clause-more g c whole has =
 pub returns-in_err-conjunct-clause-err : goal.returns-in_err-conjunct-clause-err
 returns-in_err-conjunct-clause-err g c =
     error_then c.from_residual.result _ _ c.from_residual.ensures.1
-    (λ e is whole has. subst (IsUnread (ReadsNone whole)) (sym is) (c.in_err-conjunct.ensures.err whole _ c.if-is_passed.ensures.passed has))
+    (λ e is whole has. subst (IsUnread (ReadsNoLabel whole)) (sym is) (c.in_err-conjunct.ensures.err whole _ c.if-is_passed.ensures.passed has))
 
 pub returns-in_err-operand-clause-err : goal.returns-in_err-operand-clause-err
 returns-in_err-operand-clause-err g c =
     error_then c.from_residual-in_err-operand.result _ _ c.from_residual-in_err-operand.ensures.1
-    (λ e is whole has. subst (IsUnread (ReadsNone whole)) (sym is)
+    (λ e is whole has. subst (IsUnread (ReadsNoLabel whole)) (sym is)
     (c.in_err-operand.ensures.err whole
     (after_or whole _ _ _ _ _ _ _ _ c.if-is_passed.ensures.passed c.if-is_passed-2.ensures.passed c.in_ok-push.ensures.ok (c.in_ok-bind_loosely.ensures.ok whole _ has))))

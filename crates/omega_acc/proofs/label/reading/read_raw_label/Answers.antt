@@ -1,7 +1,7 @@
 -- The whole is read.
 use Rattle.std.proofs.Common.{subst, sym, ◌∙◌}
 use Rattle.std.proofs.lemmas.Result.{IfOk-weaker}
-use Rattle.omega_acc.specs.label.Reading.{Reads, ReadsNone}
+use Rattle.omega_acc.specs.label.Reading.{Reads, ReadsNoLabel}
 use Rattle.omega_acc.specs.Symbols.{IsUnread}
 use Rattle.omega_acc.proofs.labels.RawLemmas.{IsRawLabel-of, raw_tree-is}
 use Rattle.omega_acc.proofs.expressions.PassingLemmas.{error_then}
@@ -36,11 +36,11 @@ returns-then-as_slice-gt-MOST_IN_PLACE-clause-ok g c =
 pub returns-in_err-operand-clause-err : goal.returns-in_err-operand-clause-err
 returns-in_err-operand-clause-err g c =
     error_then c.from_residual.result _ _ c.from_residual.ensures.1
-    (λ e is. subst (IsUnread (ReadsNone (g.S.TokenSource.left c.args.source.now))) (sym is)
+    (λ e is. subst (IsUnread (ReadsNoLabel (g.S.TokenSource.left c.args.source.now))) (sym is)
     (c.in_err-operand.ensures.err (g.S.TokenSource.left c.args.source.now) (c.new-unfinished.ensures (g.S.TokenSource.left c.args.source.now))))
 
 pub returns-in_err-goes_on-clause-err : goal.returns-in_err-goes_on-clause-err
 returns-in_err-goes_on-clause-err g c =
     error_then c.from_residual-in_err-goes_on.result _ _ c.from_residual-in_err-goes_on.ensures.1
-    (λ e is. subst (IsUnread (ReadsNone (g.S.TokenSource.left c.args.source.now))) (sym is)
+    (λ e is. subst (IsUnread (ReadsNoLabel (g.S.TokenSource.left c.args.source.now))) (sym is)
     (c.in_err-goes_on.ensures.err (g.S.TokenSource.left c.args.source.now) c.loop-unfinished.invariant.has))

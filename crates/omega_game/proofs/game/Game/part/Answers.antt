@@ -5,7 +5,7 @@ use Rattle.std.proofs.lemmas.Result.{IfOk-weaker, IfErr-weaker}
 use Rattle.std.specs.List.{range_with_len}
 use Rattle.omega_text.specs.declared.refusal.Refusal.TheVariants.{Memory}
 use Rattle.omega_game.specs.declared.node_spec.NodeSpec.{NodeSpec}
-use Rattle.omega_game.specs.Building.{specified, IsGameOf, IsBuildRefusal, fault_of}
+use Rattle.omega_game.specs.Building.{specified, IsGameOf, IsBuildRefusal, game_fault_of}
 use Rattle.omega_game.specs.checking.Reaching.{mark_at, AreReached}
 use Rattle.omega_game.specs.Part.{Reaches, IsPart}
 use Rattle.omega_game.specs.Game.{Node, IsGame, IsWithinLimits, node_at}
@@ -70,7 +70,7 @@ returns-clause-memory c =
     reached c.args.self.now c.args.place c.in_ok-marks.marks.items c.len-count.ensures.game c.len-count.ensures.limits c.requires c.in_ok-marks.ensures.reached in
     let whole : c.loop-kept.kept ≡ length c.args.self.now = omega (arith, c.loop-kept-test.false, c.loop-kept.auto.kept-end, c.len-count.ensures.count) in
     let specs = all_kept c.args.self.now c.args.place c.loop-kept.kept c.in_ok-marks.marks.items c.loop-kept.builder c.len-count.ensures.game c.requires are c.loop-kept.invariant whole in
-    let faultless : fault_of c.loop-kept.builder ≡ None =
-    ap fault_of specs ∙ kept_faultless c.args.self.now c.args.place c.in_ok-marks.marks.items c.len-count.ensures.game c.requires are c.len-count.ensures.limits in
+    let faultless : game_fault_of c.loop-kept.builder ≡ None =
+    ap game_fault_of specs ∙ kept_faultless c.args.self.now c.args.place c.in_ok-marks.marks.items c.len-count.ensures.game c.requires are c.len-count.ensures.limits in
     IfErr-weaker c.finish.result (IsBuildRefusal c.loop-kept.builder) (λ refusal. refusal ≡ Memory)
     (λ refusal is. memory_alone c.loop-kept.builder refusal faultless is) c.finish.ensures.refused

@@ -1,7 +1,7 @@
 -- What is read behind a header is what was written there.
 use Rattle.std.proofs.Common.{sym, ◌∙◌}
 use Rattle.omega_raw.proofs.ContentLemmas.{content_given, content_found, unknown_given, unknown_found}
-use Rattle.omega_raw.specs.declared.header.name.Header.TheVariants as named
+use Rattle.omega_raw.specs.declared.header.name.HeaderKind.TheVariants as named
 use Rattle.omega_raw.proofs.header.content.content.Goals as goal
 
 pub returns-in-States-clause-gives : goal.returns-in-States-clause-gives

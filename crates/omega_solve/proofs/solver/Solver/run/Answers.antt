@@ -1,6 +1,6 @@
 -- A run goes on lift by lift, and ends with none due or with its budget used up.
 use Rattle.std.proofs.Common.{◌≡◌, ◌-◌, ◌∙◌, ap, arith, refl, subst, sym, true}
-use Rattle.omega_solve.specs.Solver.{State}
+use Rattle.omega_solve.specs.Solver.{SolverState}
 use Rattle.omega_solve.specs.solving.Progress.{IsSolver}
 use Rattle.omega_solve.proofs.lifting.Finishing.{finished_idle, reached_bounded, solving_reached}
 use Rattle.omega_solve.proofs.schedules.Flags.{waits_taken}
@@ -10,12 +10,12 @@ use Rattle.omega_solve.proofs.solver.Solver.run.Goals as goal
 
 pub returns-then-self-clause-ran : goal.returns-then-self-clause-ran
 returns-then-self-clause-ran g c =
-    let kept = subst (λ (s : State). IsSolver s c.self.inside.won.items c.self.inside.choice.items) c.self.view_is c.self.invariant in
-    let done : c.args.self.now.done ≡ true = sym (ap (λ (s : State). s.done) c.self.view_is) ∙ c.if-self.true in
+    let kept = subst (λ (s : SolverState). IsSolver s c.self.inside.won.items c.self.inside.choice.items) c.self.view_is c.self.invariant in
+    let done : c.args.self.now.done ≡ true = sym (ap (λ (s : SolverState). s.done) c.self.view_is) ∙ c.if-self.true in
     call_over c.args.self.now c.args.budget done (finished_idle c.args.self.now kept.solving (kept.answered.idle done))
 
 pub returns-then-self-clause-told : goal.returns-then-self-clause-told
-returns-then-self-clause-told g c = (λ _. refl, λ _. sym (ap (λ (s : State). s.done) c.self.view_is) ∙ c.if-self.true)
+returns-then-self-clause-told g c = (λ _. refl, λ _. sym (ap (λ (s : SolverState). s.done) c.self.view_is) ∙ c.if-self.true)
 
 pub loop-place-smaller-in-None : goal.loop-place-smaller-in-None
 loop-place-smaller-in-None g c =
@@ -43,7 +43,7 @@ returns-then-made-budget-clause-ran g c =
 
 pub returns-then-made-budget-clause-reached : goal.returns-then-made-budget-clause-reached
 returns-then-made-budget-clause-reached g c =
-    let kept = subst (λ (s : State). IsSolver s c.self.inside.won.items c.self.inside.choice.items) c.self.view_is c.self.invariant in
+    let kept = subst (λ (s : SolverState). IsSolver s c.self.inside.won.items c.self.inside.choice.items) c.self.view_is c.self.invariant in
     call_reaches c.args.self.now c.loop-place.self c.args.budget (solving_reached c.args.self.now kept.solving)
     (returns-then-made-budget-clause-ran g c)
 
@@ -58,11 +58,11 @@ returns-clause-ran g c =
     kept.same_nodes kept.same_player kept.lifted kept.within c.in_default.ensures.finished c.finish.ensures
 
 pub returns-clause-told : goal.returns-clause-told
-returns-clause-told g c = (λ _. refl, λ _. ap (λ (s : State). s.done) c.finish.ensures)
+returns-clause-told g c = (λ _. refl, λ _. ap (λ (s : SolverState). s.done) c.finish.ensures)
 
 pub returns-clause-reached : goal.returns-clause-reached
 returns-clause-reached g c =
-    let kept = subst (λ (s : State). IsSolver s c.self.inside.won.items c.self.inside.choice.items) c.self.view_is c.self.invariant in
+    let kept = subst (λ (s : SolverState). IsSolver s c.self.inside.won.items c.self.inside.choice.items) c.self.view_is c.self.invariant in
     call_reaches c.args.self.now c.finish.new.self c.args.budget (solving_reached c.args.self.now kept.solving) (returns-clause-ran g c)
 
 pub returns-clause-bounded : goal.returns-clause-bounded

@@ -2,7 +2,7 @@
 use Rattle.std.proofs.Common.{◌≡◌, length, ap, subst, sym, ◌∙◌, arith, option_map}
 use Rattle.std.proofs.lemmas.List.{length-map}
 use Rattle.omega_acc.specs.label.Expanding.{expansion, place_among}
-use Rattle.omega_acc.specs.layout.label.Aliases.{defined_of, definitions_of}
+use Rattle.omega_acc.specs.layout.label.Aliases.{defined_of, definitions_held}
 use Rattle.omega_acc.specs.layout.label.Emitting.{IsKept}
 use Rattle.omega_acc.specs.layout.label.Extents.{extent_of}
 use Rattle.omega_acc.proofs.labels.AliasLemmas.{place-absent}
@@ -11,9 +11,9 @@ use Rattle.omega_acc.proofs.label.aliases.Aliases.add.Goals as goal
 
 pub put_last-requires : goal.put_last-requires
 put_last-requires c =
-    let seen : place_among (definitions_of c.self.inside) c.args.name.now ≡ place_among c.args.self.now c.args.name.now = ap (λ ds. place_among ds c.args.name.now) c.self.view_is in
-    let count : length (definitions_of c.self.inside) ≡ length c.args.self.now = ap length c.self.view_is in
-    let size : length (definitions_of c.self.inside) ≡ length c.self.inside.definitions.items = length-map c.self.inside.definitions.items defined_of in
+    let seen : place_among (definitions_held c.self.inside) c.args.name.now ≡ place_among c.args.self.now c.args.name.now = ap (λ ds. place_among ds c.args.name.now) c.self.view_is in
+    let count : length (definitions_held c.self.inside) ≡ length c.args.self.now = ap length c.self.view_is in
+    let size : length (definitions_held c.self.inside) ≡ length c.self.inside.definitions.items = length-map c.self.inside.definitions.items defined_of in
     place-absent (λ key. key.items) defined_of c.args.name.now c.self.inside.names.keys c.self.inside.definitions.items c.self.invariant.named
     (omega (arith, c.if-place-len.false, c.len.ensures, c.place.ensures, seen, count, size))
 

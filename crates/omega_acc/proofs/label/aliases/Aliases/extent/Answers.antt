@@ -2,7 +2,7 @@
 use Rattle.std.proofs.Common.{◌≡◌, [], None, get_or, length, map, option_map, ap, arith, sym, ◌∙◌}
 use Rattle.std.proofs.lemmas.List.{length-map}
 use Rattle.omega_acc.specs.label.Expanding.{entries_of, place_among}
-use Rattle.omega_acc.specs.layout.label.Aliases.{defined_of, definitions_of}
+use Rattle.omega_acc.specs.layout.label.Aliases.{defined_of, definitions_held}
 use Rattle.omega_acc.specs.layout.label.Extents.{extent_named, extent_of}
 use Rattle.omega_acc.proofs.labels.AliasLemmas.{get_or-made}
 use Rattle.omega_acc.proofs.labels.EntryLemmas.{extent-at, stands_for-none}
@@ -10,7 +10,7 @@ use Rattle.omega_acc.proofs.label.aliases.Aliases.extent.Goals as goal
 
 pub returns-then-place-len : goal.returns-then-place-len
 returns-then-place-len c =
-    let definitions = definitions_of c.self.inside in
+    let definitions = definitions_held c.self.inside in
     let count : length definitions ≡ length c.self.inside.definitions.items = length-map c.self.inside.definitions.items defined_of in
     let seen : length definitions ≡ length c.args.self.now = ap length c.self.view_is in
     let place : c.place-place.result ≡ place_among definitions c.args.name.now = c.place-place.ensures ∙ ap (λ ds. place_among ds c.args.name.now) (sym c.self.view_is) in

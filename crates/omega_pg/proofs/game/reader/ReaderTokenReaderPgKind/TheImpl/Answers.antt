@@ -1,16 +1,16 @@
 -- `Reader` as a reader of tokens: what it takes begins a game text, what it refuses does not,
 -- and where it ends is a text.
 use Rattle.omega_text.specs.Lexeme.{lexeme_of}
-use Rattle.omega_pg.specs.game.reader.Reader.{state_of}
+use Rattle.omega_pg.specs.game.reader.Reader.{game_reader_state}
 use Rattle.omega_pg.specs.declared.game.reader.Reader.{Reader}
 use Rattle.omega_pg.proofs.games.Grammar.{judged_end, taken_reached_all}
 use Rattle.omega_pg.proofs.game.reader.ReaderTokenReaderPgKind.TheImpl.Goals as goal
 
 pub take-tells : goal.take-tells
 take-tells _ c = record {
-  takes = taken_reached_all Reader c.result (state_of c.args.self.now) (state_of c.new.self.now) (lexeme_of c.args.token.now) c.ensures.takes;
+  takes = taken_reached_all Reader c.result (game_reader_state c.args.self.now) (game_reader_state c.new.self.now) (lexeme_of c.args.token.now) c.ensures.takes;
   memory = c.ensures.memory;
 }
 
 pub is_complete-tells : goal.is_complete-tells
-is_complete-tells _ c = λ start lexemes reached. judged_end c.result (state_of c.args.self.now) lexemes c.ensures reached
+is_complete-tells _ c = λ start lexemes reached. judged_end c.result (game_reader_state c.args.self.now) lexemes c.ensures reached

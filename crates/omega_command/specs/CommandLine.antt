@@ -1,0 +1,242 @@
+-- What a subcommand asks for with the texts of its options.
+use Rattle.std.specs.Prelude.{◌≡◌, ◌≢◌, ◌≤◌, ◌⊎◌, Bool, true, false, List, Option, Some, None, ℕ, codes, string_bytes, option_map}
+use Rattle.std.specs.Str.Parse.{IsNumeral, digits_value}
+use Rattle.omega_game.specs.declared.player.Player.{Player}
+use Rattle.omega_game.specs.Player.{player_number}
+use Rattle.omega_command.specs.Limits.{most_budget}
+use Rattle.omega_text.specs.Limits.{most_number}
+use Rattle.omega_command.specs.declared.command.Command.{Command}
+use Rattle.omega_command.specs.declared.command.Command.TheVariants as command
+use Rattle.omega_command.specs.declared.command.Format.{Format}
+use Rattle.omega_command.specs.declared.command.Format.TheVariants.{Hoa, Pg}
+use Rattle.omega_command.specs.declared.line.Line.{Line}
+use Rattle.omega_command.specs.declared.line.Line.TheVariants as line
+use Rattle.omega_command.specs.declared.mistake.Mistake.{Mistake}
+use Rattle.omega_command.specs.declared.mistake.Mistake.TheVariants as mistake
+use Rattle.omega_command.specs.declared.options.OptionName.{OptionName}
+use Rattle.omega_command.specs.declared.options.OptionName.TheVariants as name
+use Rattle.omega_command.specs.declared.options.Options.{Options}
+
+-- ---- what the text of an option stands for
+
+-- decimal digits and nothing else stand for a number up to the greatest
+pub record IsNumberText (most : ℕ) (text : List ℕ) (number : ℕ) : Type 0 where
+  pub digits : IsNumeral 10 text
+  pub value : digits_value 10 text ≡ number
+  pub within : number ≤ most
+
+-- the number of a player
+abbrev pub IsPlayerText : List ℕ → Player → Type 0
+IsPlayerText text player = IsNumberText 1 text (player_number player)
+
+-- the name of a format that is offered
+abbrev pub IsFormatText : List ℕ → Format → Type 0
+IsFormatText text Pg = text ≡ codes "pg"
+IsFormatText text Hoa = text ≡ codes "hoa"
+
+-- what `clap` says of a flag
+abbrev pub IsTruthText : List ℕ → Bool → Type 0
+IsTruthText text true = text ≡ codes "true"
+IsTruthText text false = text ≡ codes "false"
+
+-- ---- what an option asks for
+
+-- an option that may be left out
+abbrev pub Gives : {T : Type 0} → (List ℕ → T → Type 0) → Option (List ℕ) → Option T → Type 0
+Gives reads None None = Unit {0}
+Gives reads None (Some value) = ⊥
+Gives reads (Some text) None = ⊥
+Gives reads (Some text) (Some value) = reads text value
+
+-- the budget: by default the greatest
+abbrev pub GivesBudget : Option (List ℕ) → ℕ → Type 0
+GivesBudget None budget = budget ≡ most_budget
+GivesBudget (Some text) budget = IsNumberText most_budget text budget
+
+-- a flag: by default it is not set
+abbrev pub GivesFlag : Option (List ℕ) → Bool → Type 0
+GivesFlag None flag = flag ≡ false
+GivesFlag (Some text) flag = IsTruthText text flag
+
+-- the text of an option, if it is given
+abbrev pub text_of : OptionName → Options → Option (List ℕ)
+text_of name.Format options = option_map (λ text. text.now) options.format
+text_of name.Player options = option_map (λ text. text.now) options.player
+text_of name.From options = option_map (λ text. text.now) options.from
+text_of name.Budget options = option_map (λ text. text.now) options.budget
+text_of name.Search options = option_map (λ text. text.now) options.search
+text_of name.Game options = option_map (λ text. text.now) options.game
+text_of name.Explain options = option_map (λ text. text.now) options.explain
+text_of name.Solution options = option_map (λ text. text.now) options.solution
+text_of name.Lasso options = option_map (λ text. text.now) options.lasso
+text_of name.Progress options = option_map (λ text. text.now) options.progress
+
+-- ---- what a subcommand asks for
+
+-- the subcommand of this name, with these options, asks for a command that lifts, with this budget
+abbrev pub AsksToLift : List ℕ → Options → Command → ℕ → Type 0
+AsksToLift subcommand options (command.Solve player from) budget =
+    (subcommand ≡ codes "solve") × GivesFlag (text_of name.Search options) false × Gives IsPlayerText (text_of name.Player options) player
+    × Gives (IsNumberText most_number) (text_of name.From options) from × GivesBudget (text_of name.Budget options) budget
+AsksToLift subcommand options (command.Search from) budget =
+    (subcommand ≡ codes "solve") × GivesFlag (text_of name.Search options) true × (text_of name.Player options ≡ None)
+    × Gives (IsNumberText most_number) (text_of name.From options) from × GivesBudget (text_of name.Budget options) budget
+AsksToLift subcommand options command.Empty budget =
+    (subcommand ≡ codes "empty") × GivesFlag (text_of name.Search options) false × GivesBudget (text_of name.Budget options) budget
+AsksToLift subcommand options other budget = ⊥
+
+-- the subcommand of this name, with these options, asks for the line
+abbrev pub Asks : List ℕ → Options → Line → Type 0
+Asks subcommand options (line.Run (command.Show format) budget) =
+    (subcommand ≡ codes "show") × Gives IsFormatText (text_of name.Format options) (Some format) × (budget ≡ most_budget)
+Asks subcommand options (line.Run (command.Check format) budget) =
+    (subcommand ≡ codes "check") × Gives IsFormatText (text_of name.Format options) (Some format) × (budget ≡ most_budget)
+Asks subcommand options (line.Run (command.Canon format) budget) =
+    (subcommand ≡ codes "canon") × Gives IsFormatText (text_of name.Format options) (Some format)
+    × (text_of name.From options ≡ None) × (budget ≡ most_budget)
+Asks subcommand options (line.Run (command.CanonPart from) budget) =
+    (subcommand ≡ codes "canon") × Gives IsFormatText (text_of name.Format options) (Some Pg)
+    × Gives (IsNumberText most_number) (text_of name.From options) (Some from) × (budget ≡ most_budget)
+Asks subcommand options (line.Run (command.Solve player from) budget) =
+    AsksToLift subcommand options (command.Solve player from) budget × GivesFlag (text_of name.Progress options) false
+Asks subcommand options (line.Run (command.Search from) budget) =
+    AsksToLift subcommand options (command.Search from) budget × GivesFlag (text_of name.Progress options) false
+Asks subcommand options (line.Run (command.Verify game from explain) budget) = ⊥
+Asks subcommand options (line.Run command.Empty budget) =
+    AsksToLift subcommand options command.Empty budget × GivesFlag (text_of name.Progress options) false
+Asks subcommand options (line.Run command.EmptySearch budget) =
+    (subcommand ≡ codes "empty") × GivesFlag (text_of name.Search options) true × (text_of name.Budget options ≡ None)
+    × GivesFlag (text_of name.Progress options) false × (budget ≡ most_budget)
+Asks subcommand options (line.Run command.Game budget) = (subcommand ≡ codes "game") × (budget ≡ most_budget)
+Asks subcommand options (line.Run (command.Draw format) budget) =
+    (subcommand ≡ codes "draw") × Gives IsFormatText (text_of name.Format options) (Some format)
+    × (text_of name.Solution options ≡ None) × GivesFlag (text_of name.Lasso options) false × (budget ≡ most_budget)
+Asks subcommand options (line.Run (command.DrawSolution solution) budget) = ⊥
+Asks subcommand options (line.Run command.DrawLasso budget) =
+    (subcommand ≡ codes "draw") × Gives IsFormatText (text_of name.Format options) (Some Hoa)
+    × (text_of name.Solution options ≡ None) × GivesFlag (text_of name.Lasso options) true × (budget ≡ most_budget)
+Asks subcommand options (line.Watched command budget) =
+    AsksToLift subcommand options command budget × GivesFlag (text_of name.Progress options) true
+Asks subcommand options (line.Verify file from explain) =
+    (subcommand ≡ codes "verify") × (text_of name.Game options ≡ Some (string_bytes file))
+    × Gives (IsNumberText most_number) (text_of name.From options) from × GivesFlag (text_of name.Explain options) explain
+Asks subcommand options (line.DrawSolution file) =
+    (subcommand ≡ codes "draw") × Gives IsFormatText (text_of name.Format options) (Some Pg)
+    × (text_of name.Solution options ≡ Some (string_bytes file)) × GivesFlag (text_of name.Lasso options) false
+Asks subcommand options (line.Help text) = ⊥
+Asks subcommand options (line.Fault text) = ⊥
+
+-- ---- what is wrong with a subcommand or an option
+
+-- the subcommand takes the option
+abbrev pub HasOption : List ℕ → OptionName → Type 0
+HasOption subcommand name.Format =
+    (subcommand ≡ codes "show") ⊎ (subcommand ≡ codes "check") ⊎ (subcommand ≡ codes "canon") ⊎ (subcommand ≡ codes "draw")
+HasOption subcommand name.Player = subcommand ≡ codes "solve"
+HasOption subcommand name.From = (subcommand ≡ codes "solve") ⊎ (subcommand ≡ codes "canon") ⊎ (subcommand ≡ codes "verify")
+HasOption subcommand name.Budget = (subcommand ≡ codes "solve") ⊎ (subcommand ≡ codes "empty")
+HasOption subcommand name.Search = (subcommand ≡ codes "solve") ⊎ (subcommand ≡ codes "empty")
+HasOption subcommand name.Game = subcommand ≡ codes "verify"
+HasOption subcommand name.Explain = subcommand ≡ codes "verify"
+HasOption subcommand name.Solution = subcommand ≡ codes "draw"
+HasOption subcommand name.Lasso = subcommand ≡ codes "draw"
+HasOption subcommand name.Progress = (subcommand ≡ codes "solve") ⊎ (subcommand ≡ codes "empty")
+
+-- the option has to be given
+abbrev pub IsRequired : OptionName → Type 0
+IsRequired name.Format = Unit {0}
+IsRequired name.Player = ⊥
+IsRequired name.From = ⊥
+IsRequired name.Budget = ⊥
+IsRequired name.Search = ⊥
+IsRequired name.Game = Unit {0}
+IsRequired name.Explain = ⊥
+IsRequired name.Solution = ⊥
+IsRequired name.Lasso = ⊥
+IsRequired name.Progress = ⊥
+
+-- the text stands for no value of the option
+abbrev pub StandsForNothing : OptionName → List ℕ → Type 0
+StandsForNothing name.Format text = (format : Format) → IsFormatText text format → ⊥
+StandsForNothing name.Player text = (player : Player) → IsPlayerText text player → ⊥
+StandsForNothing name.From text = (number : ℕ) → IsNumberText most_number text number → ⊥
+StandsForNothing name.Budget text = (number : ℕ) → IsNumberText most_budget text number → ⊥
+StandsForNothing name.Search text = (flag : Bool) → IsTruthText text flag → ⊥
+StandsForNothing name.Game text = ⊥
+StandsForNothing name.Explain text = (flag : Bool) → IsTruthText text flag → ⊥
+StandsForNothing name.Solution text = ⊥
+StandsForNothing name.Lasso text = (flag : Bool) → IsTruthText text flag → ⊥
+StandsForNothing name.Progress text = (flag : Bool) → IsTruthText text flag → ⊥
+
+-- the mistake is that the option is missing, or that its text stands for nothing
+abbrev pub IsFaulty : OptionName → Options → Mistake → Type 0
+IsFaulty option options (mistake.Missing other) = (other ≡ option) × IsRequired option × (text_of option options ≡ None)
+IsFaulty option options (mistake.Value other text reason) =
+    (other ≡ option) × (text_of option options ≡ Some text.now) × StandsForNothing option text.now
+IsFaulty option options mistake.Unknown = ⊥
+IsFaulty option options (mistake.Conflict one other) = ⊥
+IsFaulty option options (mistake.OnlyWith other format) = ⊥
+IsFaulty option options mistake.Memory = ⊥
+
+-- no subcommand has this name
+pub record IsUnknownSubcommand (subcommand : List ℕ) : Type 0 where
+  pub show : subcommand ≢ codes "show"
+  pub check : subcommand ≢ codes "check"
+  pub canon : subcommand ≢ codes "canon"
+  pub solve : subcommand ≢ codes "solve"
+  pub verify : subcommand ≢ codes "verify"
+  pub empty : subcommand ≢ codes "empty"
+  pub game : subcommand ≢ codes "game"
+  pub draw : subcommand ≢ codes "draw"
+
+-- the option is given; a flag is set
+abbrev pub IsUsed : OptionName → Options → Type 0
+IsUsed name.Format options = text_of name.Format options ≢ None
+IsUsed name.Player options = text_of name.Player options ≢ None
+IsUsed name.From options = text_of name.From options ≢ None
+IsUsed name.Budget options = text_of name.Budget options ≢ None
+IsUsed name.Search options = GivesFlag (text_of name.Search options) true
+IsUsed name.Game options = text_of name.Game options ≢ None
+IsUsed name.Explain options = GivesFlag (text_of name.Explain options) true
+IsUsed name.Solution options = text_of name.Solution options ≢ None
+IsUsed name.Lasso options = GivesFlag (text_of name.Lasso options) true
+IsUsed name.Progress options = GivesFlag (text_of name.Progress options) true
+
+-- the option that is not given beside the search of the subcommand: that of `solve` is for both players,
+-- that of `empty` makes no lifts
+abbrev pub IsApartFromSearch : List ℕ → OptionName → Type 0
+IsApartFromSearch subcommand option =
+    ((subcommand ≡ codes "solve") × (option ≡ name.Player))
+    ⊎ ((subcommand ≡ codes "empty") × ((option ≡ name.Budget) ⊎ (option ≡ name.Progress)))
+
+-- two options that are not given together: the search, and the option that is apart from it
+pub record IsConflict (subcommand : List ℕ) (options : Options) (one other : OptionName) : Type 0 where
+  pub one_is : one ≡ name.Search
+  pub apart : IsApartFromSearch subcommand other
+  pub one_used : IsUsed one options
+  pub other_used : IsUsed other options
+
+-- the option of the subcommand goes with this format only
+abbrev pub IsForFormat : List ℕ → OptionName → Format → Type 0
+IsForFormat subcommand option Pg =
+    ((subcommand ≡ codes "canon") × (option ≡ name.From)) ⊎ ((subcommand ≡ codes "draw") × (option ≡ name.Solution))
+IsForFormat subcommand option Hoa = (subcommand ≡ codes "draw") × (option ≡ name.Lasso)
+
+-- the option goes with this format only, and is given with another
+pub record IsOfOtherFormat (subcommand : List ℕ) (options : Options) (option : OptionName) (format : Format) : Type 0 where
+  pub only_with : IsForFormat subcommand option format
+  pub other : Format
+  pub other_given : Gives IsFormatText (text_of name.Format options) (Some other)
+  pub is_other : other ≢ format
+  pub used : IsUsed option options
+
+-- what is wrong: no subcommand has the name, or an option that it takes is faulty, or two are not given together,
+-- or one is for another format; or memory is wanting
+abbrev pub IsMistake : List ℕ → Options → Mistake → Type 0
+IsMistake subcommand options mistake.Unknown = IsUnknownSubcommand subcommand
+IsMistake subcommand options mistake.Memory = Unit {0}
+IsMistake subcommand options (mistake.Conflict one other) = IsConflict subcommand options one other
+IsMistake subcommand options (mistake.OnlyWith option format) = IsOfOtherFormat subcommand options option format
+IsMistake subcommand options (mistake.Missing option) = HasOption subcommand option × IsFaulty option options (mistake.Missing option)
+IsMistake subcommand options (mistake.Value option text reason) =
+    HasOption subcommand option × IsFaulty option options (mistake.Value option text reason)

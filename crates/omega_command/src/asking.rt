@@ -1,0 +1,168 @@
+ghost use Rattle.std.specs.Prelude.{IfOk, IfErr, codes};
+ghost use Rattle.omega_command.specs.CommandLine.{Asks, IsMistake};
+
+use crate::command::{Command, Format};
+use crate::limits::MOST_BUDGET;
+use crate::line::Line;
+use crate::mistake::Mistake;
+use crate::options::{OptionName, Options};
+use crate::values::{
+    budget_in, format_in, identifier_in, is_explained, is_search, is_watched, is_with_lasso,
+    player_in,
+};
+use std::alloc::Global;
+
+/// What a subcommand asks for with the texts of its options, or what is wrong with them. Options that it does not take
+/// are not looked at.
+pub fn line_for<'a>(
+    alloc: Global,
+    subcommand: &str,
+    options: &Options<'a>,
+) -> Result<Line, Mistake<'a>>
+    ensures asked { IfOk result (Asks subcommand.now options.now) }
+    ensures mistaken { IfErr result (IsMistake subcommand.now options.now) }
+{
+    if subcommand == "show" {
+        return Ok(Line::Run(Command::Show(format_in(options)?), MOST_BUDGET));
+    }
+    if subcommand == "check" {
+        return Ok(Line::Run(Command::Check(format_in(options)?), MOST_BUDGET));
+    }
+    if subcommand == "canon" {
+        return canonical_for(options);
+    }
+    if subcommand == "solve" {
+        return solving_for(options);
+    }
+    if subcommand == "verify" {
+        return verifying_for(alloc, options);
+    }
+    if subcommand == "empty" {
+        return emptiness_for(options);
+    }
+    if subcommand == "game" {
+        return Ok(Line::Run(Command::Game, MOST_BUDGET));
+    }
+    if subcommand == "draw" {
+        return drawing_for(alloc, options);
+    }
+    Err(Mistake::Unknown)
+}
+
+/// What `canon` asks for with the texts of its options, or what is wrong with them.
+fn canonical_for<'a>(options: &Options<'a>) -> Result<Line, Mistake<'a>>
+    ensures asked { IfOk result (Asks (codes "canon") options.now) }
+    ensures mistaken { IfErr result (IsMistake (codes "canon") options.now) }
+{
+    let format = format_in(options)?;
+    let Some(from) = identifier_in(options)? else {
+        return Ok(Line::Run(Command::Canon(format), MOST_BUDGET));
+    };
+    match format {
+        Format::Pg => Ok(Line::Run(Command::CanonPart { from }, MOST_BUDGET)),
+        Format::Hoa => Err(Mistake::OnlyWith(OptionName::From, Format::Pg)),
+    }
+}
+
+/// What `verify` asks for with the texts of its options, or what is wrong with them.
+fn verifying_for<'a>(alloc: Global, options: &Options<'a>) -> Result<Line, Mistake<'a>>
+    ensures asked { IfOk result (Asks (codes "verify") options.now) }
+    ensures mistaken { IfErr result (IsMistake (codes "verify") options.now) }
+{
+    let Some(name) = options.game else {
+        return Err(Mistake::Missing(OptionName::Game));
+    };
+    let from = identifier_in(options)?;
+    let explain = is_explained(options)?;
+    match String::from_str(alloc, name) {
+        Ok(file) => Ok(Line::Verify {
+            file,
+            from,
+            explain,
+        }),
+        Err(_) => Err(Mistake::Memory),
+    }
+}
+
+/// What `solve` asks for with the texts of its options, or what is wrong with them.
+fn solving_for<'a>(options: &Options<'a>) -> Result<Line, Mistake<'a>>
+    ensures asked { IfOk result (Asks (codes "solve") options.now) }
+    ensures mistaken { IfErr result (IsMistake (codes "solve") options.now) }
+{
+    let player = player_in(options)?;
+    let from = identifier_in(options)?;
+    let budget = budget_in(options)?;
+    let watched = is_watched(options)?;
+    if !is_search(options)? {
+        let command = Command::Solve { player, from };
+        return Ok(if watched {
+            Line::Watched(command, budget)
+        } else {
+            Line::Run(command, budget)
+        });
+    }
+    if player.is_some() {
+        return Err(Mistake::Conflict(OptionName::Search, OptionName::Player));
+    }
+    let command = Command::Search { from };
+    Ok(if watched {
+        Line::Watched(command, budget)
+    } else {
+        Line::Run(command, budget)
+    })
+}
+
+/// What `empty` asks for with the texts of its options, or what is wrong with them.
+fn emptiness_for<'a>(options: &Options<'a>) -> Result<Line, Mistake<'a>>
+    ensures asked { IfOk result (Asks (codes "empty") options.now) }
+    ensures mistaken { IfErr result (IsMistake (codes "empty") options.now) }
+{
+    let budget = budget_in(options)?;
+    let watched = is_watched(options)?;
+    if !is_search(options)? {
+        return Ok(if watched {
+            Line::Watched(Command::Empty, budget)
+        } else {
+            Line::Run(Command::Empty, budget)
+        });
+    }
+    if options.budget.is_some() {
+        return Err(Mistake::Conflict(OptionName::Search, OptionName::Budget));
+    }
+    if watched {
+        return Err(Mistake::Conflict(OptionName::Search, OptionName::Progress));
+    }
+    Ok(Line::Run(Command::EmptySearch, MOST_BUDGET))
+}
+
+/// What `draw` asks for with the texts of its options, or what is wrong with them.
+fn drawing_for<'a>(alloc: Global, options: &Options<'a>) -> Result<Line, Mistake<'a>>
+    ensures asked { IfOk result (Asks (codes "draw") options.now) }
+    ensures mistaken { IfErr result (IsMistake (codes "draw") options.now) }
+{
+    let format = format_in(options)?;
+    let with_lasso = is_with_lasso(options)?;
+    match format {
+        Format::Pg => {
+            if with_lasso {
+                return Err(Mistake::OnlyWith(OptionName::Lasso, Format::Hoa));
+            }
+            let Some(name) = options.solution else {
+                return Ok(Line::Run(Command::Draw(format), MOST_BUDGET));
+            };
+            match String::from_str(alloc, name) {
+                Ok(file) => Ok(Line::DrawSolution { file }),
+                Err(_) => Err(Mistake::Memory),
+            }
+        }
+        Format::Hoa => {
+            if options.solution.is_some() {
+                return Err(Mistake::OnlyWith(OptionName::Solution, Format::Pg));
+            }
+            if with_lasso {
+                return Ok(Line::Run(Command::DrawLasso, MOST_BUDGET));
+            }
+            Ok(Line::Run(Command::Draw(format), MOST_BUDGET))
+        }
+    }
+}

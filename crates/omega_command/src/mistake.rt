@@ -1,0 +1,90 @@
+ghost use Rattle.std.specs.Prelude.{◌≢◌, IfOk};
+ghost use Rattle.omega_command.specs.declared.mistake.Mistake.TheVariants as mistake;
+
+use crate::command::Format;
+use crate::options::OptionName;
+use std::alloc::{AllocError, AllocFailed, Global};
+use std::fmt;
+
+/// What is wrong with a subcommand, or with the texts of its options.
+#[derive(Clone, Copy)]
+pub enum Mistake<'a> {
+    /// No subcommand has the name.
+    Unknown,
+    /// The option has to be given.
+    Missing(OptionName),
+    /// The text of the option stands for none of its values.
+    Value(OptionName, &'a str, Reason),
+    /// The two options are not given together.
+    Conflict(OptionName, OptionName),
+    /// The option goes with this format only, and another is given.
+    OnlyWith(OptionName, Format),
+    /// There is no memory for what is asked for.
+    Memory,
+}
+
+/// Why a text stands for no value.
+#[derive(Clone, Copy)]
+pub enum Reason {
+    /// It is empty.
+    Empty,
+    /// It begins with a sign.
+    Sign,
+    /// It has a byte that is no digit.
+    NotDigits,
+    /// The number is over 64 bits.
+    TooLarge,
+    /// The number is above the greatest.
+    Above { number: u64, most: u64 },
+    /// No format has the name.
+    NoFormat,
+    /// It is neither `true` nor `false`.
+    NoTruth,
+}
+
+impl fmt::Display for Reason {
+    fn fmt<W: fmt::Write>(&self, f: &mut fmt::Formatter<W>) -> fmt::Result {
+        f.write_str(match self {
+            Reason::Above { number, most } => {
+                return write!(f, "{number} is not in 0..={most}");
+            }
+            Reason::Empty => "cannot parse integer from empty string",
+            Reason::Sign => "a number is written in digits, without a sign",
+            Reason::NotDigits => "invalid digit found in string",
+            Reason::TooLarge => "the number is too large",
+            Reason::NoFormat => "the formats are pg and hoa",
+            Reason::NoTruth => "neither true nor false",
+        })
+    }
+}
+
+impl fmt::Display for Mistake<'_> {
+    fn fmt<W: fmt::Write>(&self, f: &mut fmt::Formatter<W>) -> fmt::Result {
+        match self {
+            Mistake::Unknown => f.write_str("the subcommand is not known"),
+            Mistake::Missing(name) => write!(f, "'{name}' is missing"),
+            Mistake::Value(name, text, reason) => {
+                write!(f, "invalid value '{text}' for '{name}': {reason}")
+            }
+            Mistake::Conflict(one, other) => {
+                write!(f, "'{one}' and '{other}' are not given together")
+            }
+            Mistake::OnlyWith(name, format) => {
+                write!(f, "'{name}' goes with '--format {format}' only")
+            }
+            Mistake::Memory => f.write_str("there is no memory"),
+        }
+    }
+}
+
+impl Mistake<'_> {
+    /// The text of the fault, in the form of those that `clap` finds. Want of memory has none.
+    pub fn text(&self, alloc: Global) -> Result<String, AllocError>
+        ensures { IfOk result (λ _. self.now ≢ mistake.Memory) }
+    {
+        match self {
+            Mistake::Memory => Err(AllocError),
+            _ => { format!(in alloc; "error: {self}\n\nFor more information, try '--help'.\n") }
+        }
+    }
+}

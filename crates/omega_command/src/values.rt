@@ -1,0 +1,141 @@
+//! What the texts of options stand for.
+ghost use Rattle.std.specs.Prelude.{◌≡◌, Bool, Some, IfOk, IfErr, MatchOption};
+ghost use Rattle.omega_text.specs.Limits.{most_number};
+ghost use Rattle.omega_command.specs.CommandLine.{Gives, GivesBudget, GivesFlag, IsFaulty, IsFormatText, IsNumberText, IsPlayerText, IsTruthText, text_of};
+ghost use Rattle.omega_command.specs.declared.options.OptionName.TheVariants as name;
+
+use crate::command::Format;
+use crate::limits::MOST_BUDGET;
+use crate::mistake::{Mistake, Reason};
+use crate::number::number_in;
+use crate::options::{OptionName, Options};
+use omega_game::Player;
+use omega_text::MOST_NUMBER;
+
+/// The kind of text, which has to be given.
+pub fn format_in<'a>(options: &Options<'a>) -> Result<Format, Mistake<'a>>
+    ensures given { IfOk result (λ format. Gives IsFormatText (text_of name.Format options.now) (Some format)) }
+    ensures faulty { IfErr result (IsFaulty name.Format options.now) }
+{
+    let Some(text) = options.format else {
+        return Err(Mistake::Missing(OptionName::Format));
+    };
+    if text == "pg" {
+        Ok(Format::Pg)
+    } else if text == "hoa" {
+        Ok(Format::Hoa)
+    } else {
+        Err(Mistake::Value(OptionName::Format, text, Reason::NoFormat))
+    }
+}
+
+/// The player, if one is named.
+pub fn player_in<'a>(options: &Options<'a>) -> Result<Option<Player>, Mistake<'a>>
+    ensures given { IfOk result (Gives IsPlayerText (text_of name.Player options.now)) }
+    ensures faulty { IfErr result (IsFaulty name.Player options.now) }
+{
+    let Some(text) = options.player else {
+        return Ok(None);
+    };
+    match number_in(text, 1) {
+        Ok(number) => Ok(Player::of_number(number as u32)),
+        Err(reason) => Err(Mistake::Value(OptionName::Player, text, reason)),
+    }
+}
+
+/// The identifier of the node whose part is meant, if one is named.
+pub fn identifier_in<'a>(options: &Options<'a>) -> Result<Option<u32>, Mistake<'a>>
+    ensures given { IfOk result (Gives (IsNumberText most_number) (text_of name.From options.now)) }
+    ensures faulty { IfErr result (IsFaulty name.From options.now) }
+{
+    let Some(text) = options.from else {
+        return Ok(None);
+    };
+    match number_in(text, u64::from(MOST_NUMBER)) {
+        Ok(identifier) => Ok(Some(identifier as u32)),
+        Err(reason) => Err(Mistake::Value(OptionName::From, text, reason)),
+    }
+}
+
+/// Whether a search is taken in place of lifting.
+pub fn is_search<'a>(options: &Options<'a>) -> Result<bool, Mistake<'a>>
+    ensures given { IfOk result (GivesFlag (text_of name.Search options.now)) }
+    ensures faulty { IfErr result (IsFaulty name.Search options.now) }
+{
+    let Some(text) = options.search else {
+        return Ok(false);
+    };
+    match truth_in(text) {
+        Some(flag) => Ok(flag),
+        None => Err(Mistake::Value(OptionName::Search, text, Reason::NoTruth)),
+    }
+}
+
+/// Whether a `no` is explained.
+pub fn is_explained<'a>(options: &Options<'a>) -> Result<bool, Mistake<'a>>
+    ensures given { IfOk result (GivesFlag (text_of name.Explain options.now)) }
+    ensures faulty { IfErr result (IsFaulty name.Explain options.now) }
+{
+    let Some(text) = options.explain else {
+        return Ok(false);
+    };
+    match truth_in(text) {
+        Some(flag) => Ok(flag),
+        None => Err(Mistake::Value(OptionName::Explain, text, Reason::NoTruth)),
+    }
+}
+
+/// Whether a lasso is drawn.
+pub fn is_with_lasso<'a>(options: &Options<'a>) -> Result<bool, Mistake<'a>>
+    ensures given { IfOk result (GivesFlag (text_of name.Lasso options.now)) }
+    ensures faulty { IfErr result (IsFaulty name.Lasso options.now) }
+{
+    let Some(text) = options.lasso else {
+        return Ok(false);
+    };
+    match truth_in(text) {
+        Some(flag) => Ok(flag),
+        None => Err(Mistake::Value(OptionName::Lasso, text, Reason::NoTruth)),
+    }
+}
+
+/// Whether it is told how far runs have come.
+pub(super) fn is_watched<'a>(options: &Options<'a>) -> Result<bool, Mistake<'a>>
+    ensures given { IfOk result (GivesFlag (text_of name.Progress options.now)) }
+    ensures faulty { IfErr result (IsFaulty name.Progress options.now) }
+{
+    let Some(text) = options.progress else {
+        return Ok(false);
+    };
+    match truth_in(text) {
+        Some(flag) => Ok(flag),
+        None => Err(Mistake::Value(OptionName::Progress, text, Reason::NoTruth)),
+    }
+}
+
+/// What the text of a flag says, if it says anything.
+fn truth_in(text: &str) -> Option<bool>
+    ensures { MatchOption result ((flag : Bool) → IsTruthText text.now flag → ⊥) (IsTruthText text.now) }
+{
+    if text == "true" {
+        Some(true)
+    } else if text == "false" {
+        Some(false)
+    } else {
+        None
+    }
+}
+
+/// The most lifts of each run: the greatest budget, where none is given.
+pub fn budget_in<'a>(options: &Options<'a>) -> Result<u64, Mistake<'a>>
+    ensures given { IfOk result (GivesBudget (text_of name.Budget options.now)) }
+    ensures faulty { IfErr result (IsFaulty name.Budget options.now) }
+{
+    let Some(text) = options.budget else {
+        return Ok(MOST_BUDGET);
+    };
+    match number_in(text, MOST_BUDGET) {
+        Ok(budget) => Ok(budget),
+        Err(reason) => Err(Mistake::Value(OptionName::Budget, text, reason)),
+    }
+}

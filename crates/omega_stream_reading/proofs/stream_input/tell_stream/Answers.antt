@@ -1,0 +1,53 @@
+-- `tell_stream`: at the end of the input its text is what was followed.
+use Rattle.std.proofs.Common.{◌≡◌, ◌≤◌, length, refl, take, subst, arith}
+use Rattle.std.proofs.lemmas.List.{length-take-le}
+use Rattle.std.specs.Io.KnownBytes.{Consumes}
+use Rattle.std.specs.Prelude.{IfErr}
+use Rattle.omega_text.specs.Limits.{most_text}
+use Rattle.omega_io.specs.Failures.{failures_of}
+use Rattle.omega_hoa.specs.Stream.{IsStreamRefusal}
+use Rattle.omega_stream_reading.proofs.Pieces.{at_text, none_failed, reads_end, reads_piece, reads_refused}
+use Rattle.omega_stream_reading.proofs.stream_input.tell_stream.Goals as goal
+
+pub returns-then-count-eq0-clause-refused : goal.returns-then-count-eq0-clause-refused
+returns-then-count-eq0-clause-refused g c =
+    let reading = c.loop-total.invariant.reading in
+    let none : c.in_ok-count.count ≡ 0 = c.if-count-eq0.true in
+    let within : c.loop-total.total ≤ most_text = omega (arith, c.loop-total-test.true) in
+    let short : length reading.seen ≤ most_text = omega (arith, within, reading.count) in
+    let now = g.R.Input.remaining c.loop-total.input in
+    let after = g.R.Input.remaining c.read_piece.new.input in
+    let nothing = subst (λ n. Consumes now after (take n c.read_piece.new.piece)) none c.in_ok-count.ensures.consumed in
+    reads_refused c.end.result _ _ reading.seen
+    (record {
+      consumed = reads_end _ now after reading.seen reading.consumed nothing;
+      limit = omega (arith, short);
+      whole = λ _. c.in_ok-count.ensures.end none;
+    })
+    (at_text c.end.result g.T.ItemText.text c.loop-total.telling reading.seen short (reading.follows within) c.end.ensures.refused)
+
+pub returns-then-count-eq0-clause-counted : goal.returns-then-count-eq0-clause-counted
+returns-then-count-eq0-clause-counted g c =
+    let reading = c.loop-total.invariant.reading in
+    let within : c.loop-total.total ≤ most_text = omega (arith, c.loop-total-test.true) in
+    let short : length reading.seen ≤ most_text = omega (arith, within, reading.count) in
+    let says : IfErr c.end.result (IsStreamRefusal reading.seen) =
+    at_text c.end.result g.T.ItemText.text c.loop-total.telling reading.seen short (reading.follows within) c.end.ensures.refused in
+    let none : failures_of c.end.result ≡ 0 = none_failed c.end.result reading.seen says in
+    omega (arith, none, c.in_ok-count.ensures.counted, c.loop-total.invariant.counted)
+
+pub loop-total-preserved : goal.loop-total-preserved
+loop-total-preserved g c =
+    let count = c.in_ok-count.count in
+    let now = g.R.Input.remaining c.loop-total.input in
+    let after = g.R.Input.remaining c.read_piece.new.input in
+    let piece = take count c.read_piece.new.piece in
+    let bytes : count ≡ length piece = omega (arith, length-take-le count c.read_piece.new.piece c.in_ok-count.ensures.bound) in
+    let within : c.loop-total.total ≤ most_text = omega (arith, c.loop-total-test.true) in
+    record {
+      reading =
+          reads_piece g.T.ItemText.text _ now after c.loop-total.total c.loop-total.telling c.take_piece.new.telling piece count _
+          c.loop-total.invariant.reading within c.in_ok-count.ensures.consumed bytes refl c.in_ok-take_piece.ensures.follows;
+      limit = omega (arith, c.in_ok-count.ensures.limit);
+      counted = omega (arith, c.in_ok-count.ensures.counted, c.loop-total.invariant.counted);
+    }

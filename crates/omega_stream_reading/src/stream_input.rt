@@ -1,0 +1,38 @@
+ghost use Rattle.std.specs.Prelude.{◌≡◌, ◌+◌, ◌-◌, ◌^◌, ◌<◌, IfOk, IfErr};
+ghost use Rattle.omega_text.specs.Cases.{or_io, or_memory};
+ghost use Rattle.omega_hoa.specs.Stream.{IsStreamRefusal};
+ghost use Rattle.omega_io.specs.Failures.{failures_of};
+ghost use Rattle.omega_io.specs.Reading.{ReadsText, ReadsWhole};
+ghost use Rattle.omega_stream_reading.specs.Telling.{IsTelling};
+
+use crate::item_text::ItemText;
+use crate::telling::{begin, end, take_piece};
+use omega_io::{Input, PIECE, read_piece};
+use omega_text::{MOST_TEXT, Refusal, TextFault};
+use std::alloc::Global;
+
+/// What is told of the items of a stream that an input gives. 1 to 4, 20 to 33, 60 or 61: the refusal of the text,
+/// memory, or a read that failed.
+///
+/// The text is never whole in memory: it is read in pieces, and what is kept of it is the segment that has not ended,
+/// and what is told. Where it is refused, the rest is read on,
+/// to its end or to the first byte past the greatest length of a text.
+pub fn tell_stream<T: ItemText, R: Input>(alloc: Global, input: &mut R) -> Result<Vec<u8>, Refusal>
+    requires { R.failed input.old < 2 ^ 64 - 1 }
+    ensures told { IfOk result (λ told. ReadsWhole (R.remaining input.old) (R.remaining input.new) (λ text. IsTelling T.text text told.items)) }
+    ensures refused { IfErr result (or_memory (or_io (λ refusal. ReadsText (R.remaining input.old) (R.remaining input.new) (λ text. IsStreamRefusal text refusal)))) }
+    ensures counted { R.failed input.new ≡ R.failed input.old + failures_of result }
+{
+    let mut telling = begin::<T>(alloc);
+    let mut piece = [0; PIECE];
+    let mut total = 0usize;
+    while total <= MOST_TEXT {
+        let count = read_piece(input, total, &mut piece)?;
+        if count == 0 {
+            return end::<T>(telling);
+        }
+        take_piece::<T>(&mut telling, &piece[..count])?;
+        total += count;
+    }
+    Err(Refusal::Text(TextFault::TooLong))
+}

@@ -1,0 +1,19 @@
+-- `options_in`: the first value of an id is that of its row.
+use Rattle.std.proofs.Common.{◌∙◌}
+use Rattle.clap.proofs.WalkLemmas.{first_value-rows}
+use Rattle.clap.specs.Words.{found_of}
+use Rattle.omega_words.specs.Found.{id_of}
+use Rattle.omega_command.specs.declared.options.OptionName.TheVariants.{Format, Player, From, Budget, Search, Game, Explain, Solution, Lasso, Progress}
+use Rattle.omega_words.proofs.found.options_in.Goals as goal
+
+pub returns : goal.returns
+returns c Format = c.get_str.ensures ∙ first_value-rows (found_of c.args.found.now) (id_of Format)
+returns c Player = c.get_str-2.ensures ∙ first_value-rows (found_of c.args.found.now) (id_of Player)
+returns c From = c.get_str-3.ensures ∙ first_value-rows (found_of c.args.found.now) (id_of From)
+returns c Budget = c.get_str-4.ensures ∙ first_value-rows (found_of c.args.found.now) (id_of Budget)
+returns c Search = c.get_str-5.ensures ∙ first_value-rows (found_of c.args.found.now) (id_of Search)
+returns c Game = c.get_str-6.ensures ∙ first_value-rows (found_of c.args.found.now) (id_of Game)
+returns c Explain = c.get_str-7.ensures ∙ first_value-rows (found_of c.args.found.now) (id_of Explain)
+returns c Solution = c.get_str-8.ensures ∙ first_value-rows (found_of c.args.found.now) (id_of Solution)
+returns c Lasso = c.get_str-9.ensures ∙ first_value-rows (found_of c.args.found.now) (id_of Lasso)
+returns c Progress = c.get_str-10.ensures ∙ first_value-rows (found_of c.args.found.now) (id_of Progress)

@@ -1,0 +1,26 @@
+ghost use Rattle.std.specs.Prelude.{◌≡◌};
+ghost use Rattle.clap.specs.Words.{first_of, found_of, rows_of};
+ghost use Rattle.omega_words.specs.Found.{id_of};
+ghost use Rattle.omega_command.specs.declared.options.OptionName.{OptionName};
+ghost use Rattle.omega_command.specs.CommandLine.{text_of};
+
+use clap::ArgMatches;
+use omega_command::Options;
+
+/// The texts of the options that `clap` found behind a subcommand.
+pub fn options_in<'a>(found: &ArgMatches<'a>) -> Options<'a>
+    ensures { (name : OptionName) → text_of name result ≡ first_of (id_of name) (rows_of (found_of found.now)) }
+{
+    Options {
+        format: found.get_str("format"),
+        player: found.get_str("player"),
+        from: found.get_str("from"),
+        budget: found.get_str("budget"),
+        search: found.get_str("search"),
+        game: found.get_str("game"),
+        explain: found.get_str("explain"),
+        solution: found.get_str("solution"),
+        lasso: found.get_str("lasso"),
+        progress: found.get_str("progress"),
+    }
+}

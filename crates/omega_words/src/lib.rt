@@ -1,0 +1,10 @@
+//! The command line: what its words ask the program for.
+#![tactic(auto)]
+
+mod found;
+mod words;
+
+pub use omega_command::{
+    Command, Format, Line, Mistake, OptionName, Options, Player, Reason, Refusal, Seq, line_for,
+};
+pub use words::read_words;
