@@ -15,7 +15,3 @@ IsMemory = or_memory never
 -- want of memory, or a depth of which this holds
 abbrev pub IsDeeper : Type 0 → Refusal → Type 0
 IsDeeper deep = or_automaton (λ fault. (fault ≡ TooDeep) × deep) (or_memory never)
-
--- a depth of which this holds
-abbrev pub IsTooDeep : Type 0 → Refusal → Type 0
-IsTooDeep deep = or_automaton (λ fault. (fault ≡ TooDeep) × deep) never

@@ -5,4 +5,4 @@ pub mod Writing
 pub mod WritingLaws
 pub mod formula
 pub mod label
-pub mod layout
+pub mod private

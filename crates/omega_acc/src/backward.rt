@@ -2,7 +2,7 @@ ghost use Rattle.std.specs.Prelude.{◌≡◌, ◌∷◌, ◌++◌, [], Some, de
 ghost use Rattle.omega_acc.specs.Depth.{IsMemory};
 ghost use Rattle.omega_acc.specs.Writing.{Text, atom_text, joined_text, negated_text, set_text, truth_text};
 ghost use Rattle.omega_acc.specs.declared.signs.Sign.TheVariants.{Open};
-ghost use Rattle.omega_acc.specs.layout.Texts.{before_text, sign_byte, texts_below, top_text, whole_text};
+ghost use Rattle.omega_acc.specs.private.layout.Texts.{before_text, sign_byte, texts_below, top_text, whole_text};
 
 use crate::leftward::Leftward;
 use crate::signs::{Sign, Signs};

@@ -1,5 +1,5 @@
 ghost use Rattle.std.specs.Prelude.{◌≡◌, ◌+◌, ◌≤◌, IfErr, IfOk};
-ghost use Rattle.omega_acc.specs.Depth.{IsTooDeep};
+ghost use Rattle.omega_acc.specs.private.layout.Depth.{IsTooDeep};
 ghost use Rattle.omega_acc.specs.Limits.{most_depth};
 
 use crate::limits::MOST_DEPTH;

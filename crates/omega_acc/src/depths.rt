@@ -1,6 +1,6 @@
 ghost use Rattle.std.specs.Prelude.{◌≡◌, ◌∷◌, [], IfErr, OnOk};
 ghost use Rattle.omega_acc.specs.Depth.{IsMemory};
-ghost use Rattle.omega_acc.specs.layout.formula.Plain.{depths_below, top_depth};
+ghost use Rattle.omega_acc.specs.private.layout.formula.Plain.{depths_below, top_depth};
 
 use omega_text::Refusal;
 use smallvec::SmallVec;

@@ -42,13 +42,13 @@ pub struct Acc {
 
 impl Model for Acc {
     ghost use Rattle.omega_acc.specs.formula.Acceptance.{AccTree, acc_depth};
-    ghost use Rattle.omega_acc.specs.layout.formula.Acceptance.{IsAcc, acc_code, acc_postfix, acc_tree_of};
+    ghost use Rattle.omega_acc.specs.private.layout.formula.Acceptance.{IsAcc, acc_code, acc_postfix, acc_tree_of};
 
     ghost Value = { AccTree };
 
     ghost coded = { acc_code };
 
-    ghost use Rattle.omega_acc.specs.layout.formula.Fields.{acc_given_back};
+    ghost use Rattle.omega_acc.specs.private.layout.formula.Fields.{acc_given_back};
 
     ghost view = { λ a. acc_tree_of a.nodes };
 
@@ -60,7 +60,7 @@ impl Model for Acc {
 }
 
 impl Acc {
-    ghost use Rattle.omega_acc.specs.layout.formula.Acceptance.{IsAcc, acc_postfix, acc_tree_of};
+    ghost use Rattle.omega_acc.specs.private.layout.formula.Acceptance.{IsAcc, acc_postfix, acc_tree_of};
 
     /// `t` or `f`.
     pub fn constant(alloc: Global, value: bool) -> Result<Acc, Refusal>

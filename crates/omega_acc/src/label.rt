@@ -52,7 +52,7 @@ const _: () = prove!(std::mem::size_of::<Label>() <= 24);
 
 impl Model for Label {
     ghost use Rattle.omega_acc.specs.label.Label.{LabelTree};
-    ghost use Rattle.omega_acc.specs.layout.label.Label.{IsLabelInPostfix, label_code, tree_of};
+    ghost use Rattle.omega_acc.specs.private.layout.label.Label.{IsLabelInPostfix, label_code, tree_of};
 
     ghost Value = { LabelTree };
 
@@ -64,9 +64,9 @@ impl Model for Label {
 }
 
 impl Label {
-    ghost use Rattle.omega_acc.specs.label.Label.{label_depth, label_size};
+    ghost use Rattle.omega_acc.specs.label.Label.{label_size};
+    ghost use Rattle.omega_acc.specs.private.layout.label.Label.{label_depth, IsLabelInPostfix, postfix, tree_of};
     ghost use Rattle.omega_acc.specs.Limits.{most_depth};
-    ghost use Rattle.omega_acc.specs.layout.label.Label.{IsLabelInPostfix, postfix, tree_of};
 
     /// The count of its atoms and operators.
     pub fn size(&self) -> usize
@@ -121,7 +121,7 @@ impl PartialEq for Label {
     ghost use Rattle.std.proofs.Common.{rules};
     ghost use Rattle.omega_acc.specs.contracts.label.LabelNodePartialEq.TheImpl as node;
     ghost use Rattle.omega_acc.specs.contracts.label.LabelNodePartialEq.TheImpl.Laws.{laws-law};
-    ghost use Rattle.omega_acc.specs.layout.label.Label.{postfix};
+    ghost use Rattle.omega_acc.specs.private.layout.label.Label.{postfix};
 
     ghost eq = { on postfix (pointwise node.ghosts.eq) };
 

@@ -2,7 +2,7 @@
 
 ghost use Rattle.std.specs.Prelude.{◌≡◌, IfErr, IfOk, MatchBool, MatchOption, OnOk};
 ghost use Rattle.omega_acc.specs.Symbols.{IsUnread};
-ghost use Rattle.omega_acc.specs.layout.Passing.{NextIsNot, PassesNumber, PassesOne};
+ghost use Rattle.omega_acc.specs.private.layout.Passing.{NextIsNot, PassesNumber, PassesOne};
 ghost use Rattle.omega_text.specs.declared.hoa.kind.HoaKind.TheVariants as kinds;
 
 use omega_text::{HoaKind, Refusal, TextFault, TokenSource};

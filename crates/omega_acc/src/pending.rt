@@ -27,7 +27,7 @@ pub(crate) struct PendingStack {
 impl Model for PendingStack {
     ghost use Rattle.std.specs.Prelude.{List};
     ghost use Rattle.omega_acc.specs.declared.pending.Pending.{Pending};
-    ghost use Rattle.omega_acc.specs.layout.Pending.{pending_in};
+    ghost use Rattle.omega_acc.specs.private.layout.Pending.{pending_in};
 
     ghost Value = { List Pending };
 

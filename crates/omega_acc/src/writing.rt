@@ -3,8 +3,8 @@
 ghost use Rattle.std.specs.Prelude.{◌≡◌, ◌++◌, [], IfErr, OnErr, OnOk};
 ghost use Rattle.omega_acc.specs.Depth.{IsMemory};
 ghost use Rattle.omega_acc.specs.Writing.{acc_text, label_text};
-ghost use Rattle.omega_acc.specs.layout.label.Label.{postfix};
-ghost use Rattle.omega_acc.specs.layout.Texts.{acc_texts_behind, texts_behind, whole_text};
+ghost use Rattle.omega_acc.specs.private.layout.label.Label.{postfix};
+ghost use Rattle.omega_acc.specs.private.layout.Texts.{acc_texts_behind, texts_behind, whole_text};
 
 use crate::backward::Backward;
 use crate::formula::{Acc, AccNode};

@@ -6,7 +6,7 @@ use Rattle.omega_text.specs.declared.refusal.Refusal.TheVariants.{Automaton, Gam
 use Rattle.omega_acc.specs.label.Expanding.{Defined, IsRepeated, expansion, place_among}
 use Rattle.omega_acc.specs.label.Raw.{RawLabelTree}
 use Rattle.omega_automaton.specs.declared.making.definitions.Definitions.{Definitions}
-use Rattle.omega_automaton.specs.layout.Definitions.{IsUndefinable, is_named}
+use Rattle.omega_automaton.specs.private.layout.Definitions.{IsUndefinable, is_named}
 
 -- a name whose place is among the definitions is there
 pub named_by_place : (definitions : List Defined) (name : List ℕ) → place_among definitions name < length definitions → is_named definitions name ≡ true

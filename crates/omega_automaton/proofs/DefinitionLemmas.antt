@@ -12,7 +12,7 @@ use Rattle.omega_acc.specs.label.Expanding.{Defined, Entry, Meaning, entries_of,
 use Rattle.omega_automaton.specs.Automaton.{has_repeat}
 use Rattle.omega_automaton.specs.Faults.{is_deep, is_large}
 use Rattle.omega_automaton.specs.declared.making.definitions.Definitions.{Definitions}
-use Rattle.omega_automaton.specs.layout.Definitions.{AreNoted, HasDefined, IsUndefinable, IsUnnoted, has_wrong_definition, is_named}
+use Rattle.omega_automaton.specs.private.layout.Definitions.{AreNoted, HasDefined, IsUndefinable, IsUnnoted, has_wrong_definition, is_named}
 use Rattle.omega_automaton.proofs.Repeats.{has_repeat-front, has_repeat-push, list_any-front, list_any-map, nothing_more, or_both, or_last, shuffled}
 
 -- the entry of a definition behind earlier entries

@@ -16,11 +16,11 @@ use Rattle.omega_automaton.specs.declared.making.definitions.Definitions.{Defini
 use Rattle.omega_automaton.specs.declared.making.gathered.Gathered.{Gathered}
 use Rattle.omega_automaton.specs.declared.making.outline.HeaderOutline.{HeaderOutline}
 use Rattle.omega_automaton.specs.declared.state.State.{State}
-use Rattle.omega_automaton.specs.layout.Definitions.{AreNoted, IsUnnoted}
-use Rattle.omega_automaton.specs.layout.Draft.{IsDraftOf, IsOutlineOf, IsSoundAcceptance, described}
-use Rattle.omega_automaton.specs.layout.Gathered.{HasGathered}
-use Rattle.omega_automaton.specs.layout.Order.{IsLastFault, early_fault, last_fault}
-use Rattle.omega_automaton.specs.layout.Findings.{is_faulty, labels_pass}
+use Rattle.omega_automaton.specs.private.layout.Definitions.{AreNoted, IsUnnoted}
+use Rattle.omega_automaton.specs.private.layout.Draft.{IsDraftOf, IsOutlineOf, IsSoundAcceptance, described}
+use Rattle.omega_automaton.specs.private.layout.Gathered.{HasGathered}
+use Rattle.omega_automaton.specs.private.layout.Order.{IsLastFault, early_fault, last_fault}
+use Rattle.omega_automaton.specs.private.layout.Findings.{is_faulty, labels_pass}
 use Rattle.omega_automaton.proofs.OrderLemmas.{alias_is, last_as}
 use Rattle.omega_automaton.proofs.SoundLemmas.{acceptance_sound, body_sound}
 

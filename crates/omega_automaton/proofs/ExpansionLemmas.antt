@@ -9,8 +9,8 @@ use Rattle.omega_automaton.specs.Faults.{is_deep, is_large, label_total}
 use Rattle.omega_automaton.specs.Limits.{most_total_size}
 use Rattle.omega_automaton.specs.declared.judging.findings.Findings.{Findings}
 use Rattle.omega_automaton.specs.declared.making.definitions.Definitions.{Definitions}
-use Rattle.omega_automaton.specs.layout.Findings.{AreFound, capped, labels_pass}
-use Rattle.omega_automaton.specs.layout.Order.{fault_found, last_fault}
+use Rattle.omega_automaton.specs.private.layout.Findings.{AreFound, capped, labels_pass}
+use Rattle.omega_automaton.specs.private.layout.Order.{fault_found, last_fault}
 use Rattle.omega_automaton.proofs.SoundLemmas.{labels_sound}
 
 -- a size that is counted is over the limit where the size is

@@ -6,7 +6,7 @@ use Rattle.std.proofs.lemmas.List.Sums.{sum_by_more}
 use Rattle.omega_acc.specs.label.Expanding.{Meaning}
 use Rattle.omega_automaton.specs.Faults.{is_deep, is_large}
 use Rattle.omega_automaton.specs.declared.judging.findings.Findings.{Findings}
-use Rattle.omega_automaton.specs.layout.Findings.{AreFound, AreJoinedFindings, capped, is_faulty}
+use Rattle.omega_automaton.specs.private.layout.Findings.{AreFound, AreJoinedFindings, capped, is_faulty}
 use Rattle.omega_automaton.proofs.SoundLemmas.{or_first, or_second}
 
 -- of labels and of others

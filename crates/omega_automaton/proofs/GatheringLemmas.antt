@@ -11,8 +11,8 @@ use Rattle.omega_raw.specs.declared.raw_item.RawItem.{RawItem}
 use Rattle.omega_automaton.specs.Items.{Accepted, Named, acc_name_in, acceptance_in, alias_in, first_said, name_in, properties_in, propositions_in, start_in, tool_in, unknown_in}
 use Rattle.omega_automaton.specs.declared.making.definitions.Definitions.{Definitions}
 use Rattle.omega_automaton.specs.declared.making.gathered.Gathered.{Gathered}
-use Rattle.omega_automaton.specs.layout.Definitions.{AreNoted, HasMet, IsUnmet, IsUnnoted}
-use Rattle.omega_automaton.specs.layout.Gathered.{HasGathered, HasTaken}
+use Rattle.omega_automaton.specs.private.layout.Definitions.{AreNoted, HasMet, IsUnmet, IsUnnoted}
+use Rattle.omega_automaton.specs.private.layout.Gathered.{HasGathered, HasTaken}
 use Rattle.omega_automaton.proofs.DefinitionLemmas.{noted-met, unnoted-front, unnoted-met}
 
 -- what one item says, as a list

@@ -15,9 +15,9 @@ use Rattle.omega_automaton.specs.Automaton.{has_repeat}
 use Rattle.omega_automaton.specs.Faults.{applies, definitions_of, automaton_fault_of, has_deep_expression, has_large_expression, has_wrong_alias, passes}
 use Rattle.omega_automaton.specs.Items.{Accepted, acceptance_in}
 use Rattle.omega_automaton.specs.declared.making.definitions.Definitions.{Definitions}
-use Rattle.omega_automaton.specs.layout.Definitions.{AreNoted, has_wrong_definition}
-use Rattle.omega_automaton.specs.layout.Order.{early_fault, is_any_deep, is_any_large, last_fault, late_fault}
-use Rattle.omega_automaton.specs.layout.Findings.{labels_pass}
+use Rattle.omega_automaton.specs.private.layout.Definitions.{AreNoted, has_wrong_definition}
+use Rattle.omega_automaton.specs.private.layout.Order.{early_fault, is_any_deep, is_any_large, last_fault, late_fault}
+use Rattle.omega_automaton.specs.private.layout.Findings.{labels_pass}
 
 -- what is found among some and others is found among the first, or else among the others
 find-append : {X : Type 0} (test : X → Bool) (xs ys : List X) → find test (xs ++ ys) ≡ option_or (find test xs) (find test ys)

@@ -3,9 +3,9 @@ use Rattle.std.proofs.Common.{ℕ, List, [], ◌∷◌, Option, None, Some, map,
 use Rattle.std.specs.List.{AllZip}
 use Rattle.omega_acc.specs.label.Expanding.{Defined}
 use Rattle.omega_raw.specs.declared.short_edge.ShortEdge.{ShortEdge}
-use Rattle.omega_raw.specs.layout.Edges.{lengthened}
+use Rattle.omega_raw.specs.private.layout.Edges.{lengthened}
 use Rattle.omega_automaton.specs.Meaning.{AreMarksOf, IsEdgeOf}
-use Rattle.omega_automaton.specs.layout.Edges.{expanded}
+use Rattle.omega_automaton.specs.private.layout.Edges.{expanded}
 
 -- at most one mark is a set as it is written
 single_marks : (mark : Option ℕ) → AreMarksOf (unwrap_or (option_map (λ m. m ∷ []) mark) []) (unwrap_or (option_map (λ m. m ∷ []) mark) [])

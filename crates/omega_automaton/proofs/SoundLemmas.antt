@@ -17,8 +17,8 @@ use Rattle.omega_raw.specs.declared.raw_item.RawItem.{RawItem}
 use Rattle.omega_raw.specs.declared.raw_state.RawState.{RawState}
 use Rattle.omega_automaton.specs.Faults.{applies, definitions_of, automaton_fault_of, has_deep_expression, has_large_expression, has_wrong_alias, has_wrong_atom, is_deep, is_labelled, is_large, lacks_acceptance, passes}
 use Rattle.omega_automaton.specs.Items.{Accepted, acceptance_in, first_said}
-use Rattle.omega_automaton.specs.layout.Draft.{IsSoundAcceptance}
-use Rattle.omega_automaton.specs.layout.Findings.{is_faulty, labels_pass}
+use Rattle.omega_automaton.specs.private.layout.Draft.{IsSoundAcceptance}
+use Rattle.omega_automaton.specs.private.layout.Findings.{is_faulty, labels_pass}
 use Rattle.omega_automaton.proofs.FaultLemmas.{no_fault_passes}
 
 -- the first of two tests that both fail

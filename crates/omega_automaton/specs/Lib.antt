@@ -1,4 +1,4 @@
--- Omega-automata: what public contracts cite, and in the folder what private ones do.
+-- Omega-automata: what public contracts cite; in `private` what private ones alone do.
 pub use Rattle.omega_text.specs.Cases
 pub use Rattle.omega_text.specs.Refusal
 pub mod Limits
@@ -7,4 +7,4 @@ pub mod Items
 pub mod Faults
 pub mod Meaning
 pub mod Laws
-pub mod layout
+pub mod private

@@ -41,7 +41,7 @@ impl Model for Automaton {
 
     ghost coded = { Prim.hlevel (codes, label.the_row.coded, acc.the_row.coded) };
 
-    ghost use Rattle.omega_automaton.specs.layout.Automaton.{description_of, IsLaidOut};
+    ghost use Rattle.omega_automaton.specs.private.layout.Automaton.{description_of, IsLaidOut};
 
     ghost view = { description_of };
 
@@ -50,7 +50,7 @@ impl Model for Automaton {
 
 impl Automaton {
     ghost use Rattle.omega_automaton.specs.Automaton.{IsAutomaton, edge_count, edges_from};
-    ghost use Rattle.omega_automaton.specs.layout.Draft.{described};
+    ghost use Rattle.omega_automaton.specs.private.layout.Draft.{described};
 
     /// The automaton of what was gathered and of the parts made of it.
     pub(crate) fn of_parts(

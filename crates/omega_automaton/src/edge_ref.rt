@@ -21,7 +21,7 @@ impl<'a> Model for EdgeRef<'a> {
 
     ghost coded = { Prim.hlevel (codes, expanded_label.the_row.coded) };
 
-    ghost use Rattle.omega_automaton.specs.layout.Edges.{referred};
+    ghost use Rattle.omega_automaton.specs.private.layout.Edges.{referred};
 
     ghost view = { referred };
 }

@@ -1,5 +1,5 @@
 ghost use Rattle.std.specs.Prelude.{◌≡◌, ◌<◌, length, map, slice_index_or};
-ghost use Rattle.omega_automaton.specs.layout.Edges.{expanded};
+ghost use Rattle.omega_automaton.specs.private.layout.Edges.{expanded};
 
 use crate::edge::Edge;
 use crate::edge_ref::EdgeRef;
@@ -35,7 +35,7 @@ impl Model for Edges {
 
     ghost coded = { Prim.hlevel (codes, expanded_label.the_row.coded) };
 
-    ghost use Rattle.omega_automaton.specs.layout.Edges.{edges_in};
+    ghost use Rattle.omega_automaton.specs.private.layout.Edges.{edges_in};
 
     ghost view = { λ e. edges_in e.held };
 }

@@ -3,9 +3,9 @@ ghost use Rattle.std.specs.Prelude.{◌≡◌, [], length, IfErr, IfOk};
 ghost use Rattle.std.specs.List.{flat_map};
 ghost use Rattle.omega_automaton.specs.Automaton.{edges_from};
 ghost use Rattle.omega_automaton.specs.Meaning.{IsMeaningless, Means};
-ghost use Rattle.omega_automaton.specs.layout.Definitions.{AreNoted};
-ghost use Rattle.omega_automaton.specs.layout.Draft.{IsOutlineOf, described};
-ghost use Rattle.omega_automaton.specs.layout.Gathered.{HasGathered};
+ghost use Rattle.omega_automaton.specs.private.layout.Definitions.{AreNoted};
+ghost use Rattle.omega_automaton.specs.private.layout.Draft.{IsOutlineOf, described};
+ghost use Rattle.omega_automaton.specs.private.layout.Gathered.{HasGathered};
 
 mod acceptance;
 mod body;

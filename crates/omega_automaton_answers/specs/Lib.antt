@@ -1,4 +1,4 @@
--- What each subcommand answers and refuses of automata; in `steps` what private contracts alone cite.
+-- What each subcommand answers and refuses of automata; in `private` what private contracts alone cite.
 pub mod Canon
 pub mod Check
 pub mod Draw
@@ -6,4 +6,4 @@ pub mod Game
 pub mod Show
 pub mod Watching
 pub mod empty
-pub mod steps
+pub mod private

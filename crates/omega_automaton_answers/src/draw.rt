@@ -5,7 +5,7 @@ ghost use Rattle.omega_text.specs.declared.refusal.Refusal.TheVariants.{Memory};
 ghost use Rattle.omega_empty.specs.Refusing.{IsGameRefusal};
 ghost use Rattle.omega_automaton_answers.specs.Draw.{IsAutomatonDrawingAnswer, IsLassoDrawingAnswer, drawing_of_verdict};
 ghost use Rattle.omega_automaton_answers.specs.empty.Answer.{IsEmptySearchRefusal};
-ghost use Rattle.omega_automaton_answers.specs.steps.Drawn.{IsLassoDrawn};
+ghost use Rattle.omega_automaton_answers.specs.private.steps.Drawn.{IsLassoDrawn};
 
 use crate::automaton_text::automaton_in;
 use omega_automaton::{Automaton, Refusal};

@@ -10,7 +10,7 @@ use Rattle.omega_automaton_drawing.specs.AutomatonDrawing.{body_edge, edge_text}
 use Rattle.omega_dot.specs.Numbered.{numbered}
 use Rattle.omega_automaton_drawing.specs.Roles.{role_of}
 use Rattle.omega_automaton_drawing.specs.declared.role.Role.{Role}
-use Rattle.omega_automaton_drawing.specs.layout.Marking.{AreRoles, role_at}
+use Rattle.omega_automaton_drawing.specs.private.layout.Marking.{AreRoles, role_at}
 use Rattle.omega_dot.proofs.Rows.{numbered_on, row_more}
 
 -- as many edges as the state lists

@@ -6,7 +6,7 @@ use Rattle.std.proofs.lemmas.List.Folds.{list_any-append}
 use Rattle.omega_automaton_drawing.specs.Roles.{is_member, marked}
 use Rattle.omega_automaton_drawing.specs.declared.role.Role.{Role}
 use Rattle.omega_automaton_drawing.specs.declared.role.Role.TheVariants.{Cycle, Plain, Stem}
-use Rattle.omega_automaton_drawing.specs.layout.Marking.{AreMarked, AreRoles, role_at}
+use Rattle.omega_automaton_drawing.specs.private.layout.Marking.{AreMarked, AreRoles, role_at}
 
 either_marks : (role other : Role) (one another : Bool) → cond another role (cond one role other) ≡ cond (one || another) role other
 either_marks role other true true = refl

@@ -13,7 +13,7 @@ use Rattle.omega_automaton.specs.Limits.{most_propositions}
 use Rattle.omega_text.specs.Bytes.{is_digit}
 use Rattle.omega_automaton_drawing.specs.Expressions.{name_at, named_text}
 use Rattle.omega_dot.specs.Labels.{escaped}
-use Rattle.omega_automaton_drawing.specs.layout.Naming.{pending_name, sign_text, with_digit, with_names}
+use Rattle.omega_automaton_drawing.specs.private.layout.Naming.{pending_name, sign_text, with_digit, with_names}
 
 -- a digit of a number is one
 digit_of : (d : ℕ) → d < 10 → is_digit (48 + d) ≡ true

@@ -2,7 +2,7 @@
 use Rattle.std.proofs.Common.{◌≡◌, ℕ, ◌+◌, ◌<◌, ◌≤◌, true, false, cond, Option, Some, None, List, ◌++◌, length, drop, get_or, sym, ap, ◌∙◌, append_assoc}
 use Rattle.std.proofs.lemmas.List.{drop_all, drop_more}
 use Rattle.omega_text.specs.Bytes.{is_digit}
-use Rattle.omega_automaton_drawing.specs.layout.Naming.{AreOwed, pending_name, sign_text, with_digit, with_names}
+use Rattle.omega_automaton_drawing.specs.private.layout.Naming.{AreOwed, pending_name, sign_text, with_digit, with_names}
 
 -- a digit goes into the number
 pub digit_owed : (names : List (List ℕ)) (number : Option ℕ) (byte : ℕ) (out : List ℕ) → is_digit byte ≡ true

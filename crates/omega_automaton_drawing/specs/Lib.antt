@@ -2,4 +2,4 @@
 pub mod Roles
 pub mod Expressions
 pub mod AutomatonDrawing
-pub mod layout
+pub mod private

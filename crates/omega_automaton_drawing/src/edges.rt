@@ -6,7 +6,7 @@ ghost use Rattle.std.specs.Option.{option_copied};
 ghost use Rattle.omega_automaton.specs.Automaton.{IsEdge, IsLabel, IsState, edge_count, edges_from, edges_of};
 ghost use Rattle.omega_automaton_drawing.specs.AutomatonDrawing.{arrow_line, attributes_part, body_edge, branch_arrow, branch_name, branch_point, branch_text, edge_label_line, edge_text, style_part, tail_part};
 ghost use Rattle.omega_dot.specs.Numbered.{numbered};
-ghost use Rattle.omega_automaton_drawing.specs.layout.Marking.{role_at};
+ghost use Rattle.omega_automaton_drawing.specs.private.layout.Marking.{role_at};
 
 use crate::naming::write_named;
 use crate::role::{Role, role_at};

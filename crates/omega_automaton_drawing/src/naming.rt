@@ -6,7 +6,7 @@ ghost use Rattle.omega_automaton.specs.Automaton.{AreBelow};
 ghost use Rattle.omega_automaton.specs.Limits.{most_propositions};
 ghost use Rattle.omega_text.specs.Bytes.{is_digit};
 ghost use Rattle.omega_automaton_drawing.specs.Expressions.{named_text};
-ghost use Rattle.omega_automaton_drawing.specs.layout.Naming.{AreOwed, pending_name, sign_text, with_digit, with_names};
+ghost use Rattle.omega_automaton_drawing.specs.private.layout.Naming.{AreOwed, pending_name, sign_text, with_digit, with_names};
 
 use omega_acc::{Label, write_label};
 use omega_automaton::MOST_PROPOSITIONS;

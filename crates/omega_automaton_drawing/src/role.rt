@@ -1,5 +1,5 @@
 ghost use Rattle.std.specs.Prelude.{◌≡◌, ◌<◌, [], ◌∷◌, IfOk, IsOkUnless, length};
-ghost use Rattle.omega_automaton_drawing.specs.layout.Marking.{AreMarked, AreRoles, role_at};
+ghost use Rattle.omega_automaton_drawing.specs.private.layout.Marking.{AreMarked, AreRoles, role_at};
 
 use omega_text::Refusal;
 use std::alloc::Global;

@@ -12,7 +12,8 @@ use Rattle.omega_lift.specs.Measure.{Measure}
 use Rattle.omega_solve.specs.Headline.{DealsOut, Headline, IsExact}
 use Rattle.omega_solve.specs.Solver.{SolverState, IsFinished, IsReached, start_of}
 use Rattle.omega_budget.specs.Laws.{HasSameLifts}
-use Rattle.omega_budget.specs.Reordering.{IsReordering, choices_by_place, flags_by_place, measures_by_place, state_by_place}
+use Rattle.omega_budget.specs.Reordering.{IsReordering, flags_by_place, measures_by_place, state_by_place}
+use Rattle.omega_budget.specs.private.steps.Reordering.{choices_by_place}
 use Rattle.omega_budget.proofs.Games.{IsClosed, back_closed, back_reordering, edge_from, place_of_rank, rank_below, rank_of_place}
 use Rattle.omega_budget.proofs.Lifting.{allowance_here, allowance_there, follows, measure_here}
 

@@ -18,7 +18,7 @@ use Rattle.omega_game.proofs.elements.Membership.{map-Contains, map_same}
 use Rattle.omega_game.proofs.parts.PartGames.{memory_alone}
 use Rattle.omega_game.proofs.parts.Specifying.{with_last-push}
 use Rattle.omega_order.specs.Ranking.{AreInverse}
-use Rattle.omega_budget.specs.steps.Building.{spec_of, specs_below}
+use Rattle.omega_budget.specs.private.steps.Building.{spec_of, specs_below}
 use Rattle.omega_budget.specs.Reordering.{IsMoved, IsReordering}
 use Rattle.omega_budget.proofs.Games.{edge_from}
 use Rattle.omega_budget.proofs.Weights.{sum_fits}

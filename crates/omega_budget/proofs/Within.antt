@@ -20,8 +20,9 @@ use Rattle.omega_budget.specs.declared.watching.Progress.{Progress}
 use Rattle.omega_budget.specs.Laws.{HasSameLifts, ReorderingsKeepBounds, ReorderingsKeepStates}
 use Rattle.omega_budget.specs.Reordering.{IsReordering, state_by_place}
 use Rattle.omega_budget.specs.Watching.{AreReports, ComesBefore, ComesBehind, IsSpent, IsTold, TellsFound, TellsRun, TellsSolving, most_of, refusal_in}
-use Rattle.omega_budget.specs.Within.{EndsSo, EndsWithin, GoesOnAfter, IsBudgetRefusal, IsFound, IsSolvingFault, IsSolvingRefusal, LiftsTo}
-use Rattle.omega_budget.specs.steps.Lifting.{HasLifted, StopsSo}
+use Rattle.omega_budget.specs.Within.{EndsSo, EndsWithin, GoesOnAfter, IsFound, IsSolvingFault, IsSolvingRefusal, LiftsTo}
+use Rattle.omega_budget.specs.private.steps.Refusing.{IsBudgetRefusal}
+use Rattle.omega_budget.specs.private.steps.Lifting.{HasLifted, StopsSo}
 use Rattle.omega_budget.proofs.Games.{edge_from}
 
 -- the lifts of a solver lead to its table

@@ -1,4 +1,4 @@
--- What contracts of solving within a budget cite, and behind it what only private contracts cite.
+-- What contracts of solving within a budget cite; in `private` what only private contracts cite.
 pub use Rattle.omega_game.specs.Game
 pub use Rattle.omega_lift.specs.Answer
 pub use Rattle.omega_order.specs.Ranking
@@ -8,4 +8,4 @@ pub mod Reordering
 pub mod Within
 pub mod Watching
 pub mod Laws
-pub mod steps
+pub mod private

@@ -1,5 +1,5 @@
 -- Games whose nodes have other places, and what a solver of such a game has found said of the game as it was given.
-use Rattle.std.specs.Prelude.{◌≡◌, ℕ, ◌<◌, Bool, false, List, Option, None, length, map, option_map, slice_index, slice_index_or}
+use Rattle.std.specs.Prelude.{◌≡◌, ℕ, ◌<◌, Bool, false, List, length, map, slice_index, slice_index_or}
 use Rattle.omega_game.specs.Game.{Node, node_at, priorities}
 use Rattle.omega_lift.specs.Allowance.{measure_at}
 use Rattle.omega_lift.specs.Measure.{Measure}
@@ -28,10 +28,6 @@ measures_by_place ranks table = map (measure_at table) ranks
 abbrev pub flags_by_place : List ℕ → List Bool → List Bool
 flags_by_place ranks flags = map (λ r. slice_index_or flags r false) ranks
 
--- choices of ranks by rank, of places by place
-abbrev pub choices_by_place : List ℕ → List ℕ → List (Option ℕ) → List (Option ℕ)
-choices_by_place ranks places choices = map (λ r. option_map (slice_index places) (slice_index_or choices r None)) ranks
-
 -- a solver of the other game, said of the game with these nodes
 abbrev pub state_by_place : List Node → List ℕ → SolverState → SolverState
 state_by_place nodes ranks state = record {
@@ -49,7 +45,3 @@ pub record Reordering : Type 0 where
   pub reordered : List Node
   pub ranks : List ℕ
   pub places : List ℕ
-
--- the other game is the game with each node at its rank
-abbrev pub IsReordered : Reordering → Type 0
-IsReordered reordering = IsReordering reordering.given reordering.reordered reordering.ranks reordering.places

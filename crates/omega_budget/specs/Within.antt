@@ -55,14 +55,6 @@ pub record IsFound (nodes : List Node) (player : Player) (budget : ℕ) (found :
   pub below_top : found.won.items ≡ won_in ended.ended.table
   pub chosen : AreChoices nodes player ended.ended.table found.choice.items
 
--- the budget is used up: a lifting run of exactly its entries leaves a lift due
-abbrev pub IsBudgetFault : List Node → Player → ℕ → TaskFault → Type 0
-IsBudgetFault nodes player budget fault = (fault ≡ Budget) × GoesOnAfter nodes player budget
-
--- the refusal of solving within a budget where the table fits: it is used up, or memory
-abbrev pub IsBudgetRefusal : List Node → Player → ℕ → Refusal → Type 0
-IsBudgetRefusal nodes player budget = or_task (IsBudgetFault nodes player budget) (or_memory never)
-
 -- the fault of solving a game within a budget: it is too wide,
 -- or else a lifting run of exactly the budget's entries leaves a lift due
 abbrev pub IsSolvingFault : List Node → Player → ℕ → TaskFault → Type 0

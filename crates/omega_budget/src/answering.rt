@@ -2,7 +2,8 @@
 ghost use Rattle.std.specs.Prelude.{◌≡◌, ℕ, ◌<◌, true, false, length, slice_index_or, IfOk, IfErr, IfSome, IsOk, IsOkUnless, None};
 ghost use Rattle.omega_game.specs.Game.{priorities};
 ghost use Rattle.omega_measure.specs.Table.{IsPrepareRefusal, is_too_wide};
-ghost use Rattle.omega_budget.specs.Reordering.{choices_by_place, flags_by_place, measures_by_place};
+ghost use Rattle.omega_budget.specs.Reordering.{flags_by_place, measures_by_place};
+ghost use Rattle.omega_budget.specs.private.steps.Reordering.{choices_by_place};
 ghost use Rattle.omega_lift.specs.Answer.{AreChoices, won_in};
 ghost use Rattle.omega_solve.specs.Headline.{IsExact};
 ghost use Rattle.omega_solve.specs.Solver.{start_of};

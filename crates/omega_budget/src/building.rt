@@ -2,7 +2,7 @@
 ghost use Rattle.std.specs.Prelude.{◌≡◌, ◌++◌, ◌∷◌, [], ◌<◌, length, IfOk, OnOk, IsOkUnless};
 ghost use Rattle.omega_game.specs.Game.{IsGame, IsWithinLimits};
 ghost use Rattle.omega_order.specs.Ranking.{AreInverse};
-ghost use Rattle.omega_budget.specs.steps.Building.{spec_of};
+ghost use Rattle.omega_budget.specs.private.steps.Building.{spec_of};
 ghost use Rattle.omega_budget.specs.Reordering.{IsReordering};
 
 use omega_game::{Game, GameBuilder, Refusal, games_have_no_fault, specifications_have_one_game};

@@ -24,7 +24,8 @@ pub struct Reordered<'g> {
 
 impl<'g> Model for Reordered<'g> {
     ghost use Rattle.std.specs.Prelude.{unwrap_or};
-    ghost use Rattle.omega_budget.specs.Reordering.{IsReordered, Reordering};
+    ghost use Rattle.omega_budget.specs.Reordering.{Reordering};
+    ghost use Rattle.omega_budget.specs.private.steps.Reordering.{IsReordered};
 
     ghost Value = { Reordering };
 
@@ -34,7 +35,7 @@ impl<'g> Model for Reordered<'g> {
 }
 
 impl<'g> Reordered<'g> {
-    ghost use Rattle.omega_budget.specs.Reordering.{IsReordered};
+    ghost use Rattle.omega_budget.specs.private.steps.Reordering.{IsReordered};
 
     /// The game with its places in an order in which few lifts are made, or as it was given where it has more than 4
     /// successors a node. 60 alone.

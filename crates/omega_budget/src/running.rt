@@ -1,7 +1,7 @@
 //! A run of a solver whose budget is dealt out in slices, so that a listener is told how far it has come.
 ghost use Rattle.std.specs.Prelude.{◌≡◌, ◌≤◌};
 ghost use Rattle.omega_budget.specs.Watching.{IsTold, most_of};
-ghost use Rattle.omega_budget.specs.steps.Lifting.{HasLifted};
+ghost use Rattle.omega_budget.specs.private.steps.Lifting.{HasLifted};
 ghost use Rattle.omega_solve.specs.Limits.{most_lifts};
 ghost use Rattle.omega_solve.specs.Solver.{start_of};
 

@@ -4,7 +4,8 @@ ghost use Rattle.omega_measure.specs.Table.{is_too_wide};
 ghost use Rattle.omega_solve.specs.Limits.{most_lifts};
 ghost use Rattle.omega_solve.specs.Solver.{start_of};
 ghost use Rattle.omega_budget.specs.Watching.{TellsFound, TellsSolving};
-ghost use Rattle.omega_budget.specs.Within.{IsBudgetRefusal, IsFound, IsSolvingRefusal};
+ghost use Rattle.omega_budget.specs.Within.{IsFound, IsSolvingRefusal};
+ghost use Rattle.omega_budget.specs.private.steps.Refusing.{IsBudgetRefusal};
 
 use crate::found::Found;
 use crate::laws::{reorderings_keep_bounds, reorderings_keep_states};

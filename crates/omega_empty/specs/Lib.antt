@@ -11,4 +11,4 @@ pub mod Laws
 pub mod GameLaws
 pub mod Verdict
 pub mod Watching
-pub mod layout
+pub mod private

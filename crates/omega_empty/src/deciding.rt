@@ -8,8 +8,8 @@ ghost use Rattle.omega_empty.specs.EmptinessGame.{IsEmptinessGame};
 ghost use Rattle.omega_empty.specs.Refusing.{IsGiven};
 ghost use Rattle.omega_empty.specs.Verdict.{IsDecidedWithin, IsEmptinessRefusal, IsSolvedWithin, IsVerdict};
 ghost use Rattle.omega_empty.specs.Watching.{LiftsAutomaton};
-ghost use Rattle.omega_empty.specs.layout.Following.{IsWonStart};
-ghost use Rattle.omega_empty.specs.layout.Solving.{LiftsGame};
+ghost use Rattle.omega_empty.specs.private.layout.Following.{IsWonStart};
+ghost use Rattle.omega_empty.specs.private.layout.Solving.{LiftsGame};
 
 use crate::following::follow_choices;
 use crate::game_laws::unwon_is_empty;

@@ -1,7 +1,7 @@
 ghost use Rattle.std.specs.Prelude.{◌≡◌, ◌<◌, ◌≤◌, ◌^◌, IfOk, IsOkUnless};
 ghost use Rattle.omega_automaton.specs.Automaton.{edge_count};
 ghost use Rattle.omega_game.specs.Limits.{most_nodes};
-ghost use Rattle.omega_empty.specs.layout.Ranges.{AreRanges};
+ghost use Rattle.omega_empty.specs.private.layout.Ranges.{AreRanges};
 
 use omega_automaton::{Automaton, Refusal};
 use std::alloc::Global;

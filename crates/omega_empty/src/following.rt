@@ -2,7 +2,7 @@ ghost use Rattle.std.specs.Prelude.{IfOk, IsOkUnless};
 ghost use Rattle.omega_game.specs.declared.player.Player.TheVariants.{Zero};
 ghost use Rattle.omega_solve.specs.Headline.{IsExact};
 ghost use Rattle.omega_empty.specs.EmptinessGame.{IsEmptinessGame};
-ghost use Rattle.omega_empty.specs.layout.Following.{IsKnotted, IsWonStart};
+ghost use Rattle.omega_empty.specs.private.layout.Following.{IsKnotted, IsWonStart};
 
 use crate::game_laws::won_walks_accept;
 use omega_automaton::{Automaton, Refusal};

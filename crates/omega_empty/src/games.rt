@@ -5,7 +5,7 @@ ghost use Rattle.omega_game.specs.Limits.{most_nodes};
 ghost use Rattle.omega_empty.specs.Counters.{counters};
 ghost use Rattle.omega_empty.specs.EmptinessGame.{HasKind, IsEmptinessGame, has_branch, span, table};
 ghost use Rattle.omega_empty.specs.Refusing.{IsGameRefusal, IsGiven, IsUndecided};
-ghost use Rattle.omega_empty.specs.layout.Ready.{IsReady};
+ghost use Rattle.omega_empty.specs.private.layout.Ready.{IsReady};
 
 use crate::branching::has_branch;
 use crate::edge_ranges::edge_ranges;

@@ -1,7 +1,7 @@
 ghost use Rattle.std.specs.Prelude.{◌≡◌};
 ghost use Rattle.omega_empty.specs.Counters.{counters};
 ghost use Rattle.omega_empty.specs.EmptinessGame.{sink_id, span};
-ghost use Rattle.omega_empty.specs.layout.Ready.{IsReady};
+ghost use Rattle.omega_empty.specs.private.layout.Ready.{IsReady};
 
 use crate::edge_ranges::EdgeRange;
 use crate::kinds::counters_of;

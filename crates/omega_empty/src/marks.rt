@@ -4,7 +4,7 @@ ghost use Rattle.omega_acc.specs.formula.Kind.{priority_of};
 ghost use Rattle.omega_acc.specs.Limits.{most_depth};
 ghost use Rattle.omega_text.specs.Limits.{most_number};
 ghost use Rattle.omega_empty.specs.Counters.{counter_after, counters, priority_at_counter};
-ghost use Rattle.omega_empty.specs.layout.Marks.{AreMarksBelow, IsSmall};
+ghost use Rattle.omega_empty.specs.private.layout.Marks.{AreMarksBelow, IsSmall};
 
 use omega_acc::{AccKind, ParityKind, priority};
 use omega_automaton::{EdgeRef, State};

@@ -5,10 +5,10 @@ ghost use Rattle.omega_text.specs.Limits.{most_number};
 ghost use Rattle.omega_automaton.specs.Automaton.{edge_count, edges_from, edges_of};
 ghost use Rattle.omega_empty.specs.Counters.{counter_after, counters};
 ghost use Rattle.omega_empty.specs.EmptinessGame.{edge_id, edge_node, edge_nodes, is_usable, nodes_at, state_id, state_node};
-ghost use Rattle.omega_empty.specs.layout.Nodes.{begun, linked};
-ghost use Rattle.omega_empty.specs.layout.Ranges.{usable_in};
-ghost use Rattle.omega_empty.specs.layout.Marks.{AreMarksBelow};
-ghost use Rattle.omega_empty.specs.layout.Ready.{IsPlainEdge, IsPlainState, IsReady};
+ghost use Rattle.omega_empty.specs.private.layout.Nodes.{begun, linked};
+ghost use Rattle.omega_empty.specs.private.layout.Ranges.{usable_in};
+ghost use Rattle.omega_empty.specs.private.layout.Marks.{AreMarksBelow};
+ghost use Rattle.omega_empty.specs.private.layout.Ready.{IsPlainEdge, IsPlainState, IsReady};
 
 use crate::edge_ranges::EdgeRange;
 use crate::judged::Judged;

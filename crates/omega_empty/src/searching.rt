@@ -4,8 +4,8 @@ ghost use Rattle.omega_empty.specs.EmptinessGame.{IsEmptinessGame};
 ghost use Rattle.omega_empty.specs.GameLaws.{number_at, numbers_on};
 ghost use Rattle.omega_empty.specs.Refusing.{IsGameRefusal, IsGiven};
 ghost use Rattle.omega_empty.specs.Verdict.{IsVerdict};
-ghost use Rattle.omega_empty.specs.layout.Starting.{start_places, places_of_start};
-ghost use Rattle.omega_empty.specs.layout.Passing.{PassesLasso};
+ghost use Rattle.omega_empty.specs.private.layout.Starting.{start_places, places_of_start};
+ghost use Rattle.omega_empty.specs.private.layout.Passing.{PassesLasso};
 
 use crate::game_laws::{unwon_is_empty, won_walks_accept};
 use crate::games::emptiness_game;

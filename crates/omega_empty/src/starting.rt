@@ -1,5 +1,5 @@
 ghost use Rattle.std.specs.Prelude.{◌≡◌, ℕ, MatchOption, [], ◌∷◌, length};
-ghost use Rattle.omega_empty.specs.layout.Following.{HasNoWonStart, IsWonAt, IsWonStart};
+ghost use Rattle.omega_empty.specs.private.layout.Following.{HasNoWonStart, IsWonAt, IsWonStart};
 
 use omega_automaton::Automaton;
 use omega_game::Game;

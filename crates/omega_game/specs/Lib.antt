@@ -1,4 +1,4 @@
--- Parity games: what public contracts cite, and in the folders what private ones do.
+-- Parity games: what public contracts cite; in `private` what private ones alone do.
 pub use Rattle.omega_text.specs.Cases
 pub use Rattle.omega_text.specs.Refusal
 pub mod Limits
@@ -11,7 +11,4 @@ pub mod Bound
 pub mod Part
 pub mod Building
 pub mod Laws
-pub mod layout
-pub mod priorities
-pub mod checking
-pub mod refuting
+pub mod private

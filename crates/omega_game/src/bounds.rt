@@ -1,6 +1,6 @@
 ghost use Rattle.std.specs.Prelude.{◌≡◌, ◌≤◌, ◌*◌, ◌^◌, map, MatchOption};
 ghost use Rattle.omega_game.specs.Bound.{bound_of, product};
-ghost use Rattle.omega_game.specs.priorities.Factors.{factor_of};
+ghost use Rattle.omega_game.specs.private.priorities.Factors.{factor_of};
 ghost use Rattle.omega_game.specs.Game.{priorities};
 
 use crate::game::Game;

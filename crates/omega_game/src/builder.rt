@@ -34,8 +34,8 @@ impl Model for GameBuilder {
 
     ghost Value = { List NodeSpec };
 
-    ghost use Rattle.omega_game.specs.layout.Collected.{AreCollected};
-    ghost use Rattle.omega_game.specs.layout.Columns.{collected, specs_of};
+    ghost use Rattle.omega_game.specs.private.layout.Collected.{AreCollected};
+    ghost use Rattle.omega_game.specs.private.layout.Columns.{collected, specs_of};
 
     ghost view = { λ a. specs_of (collected a.ids.items a.priorities.items a.owners.items a.successors a.quoted) };
 
@@ -46,7 +46,7 @@ impl GameBuilder {
     ghost use Rattle.omega_game.specs.Game.{IsNameByte};
     ghost use Rattle.omega_text.specs.Limits.{most_number};
     ghost use Rattle.omega_game.specs.Building.{IsBuildRefusal, IsGameOf, IsWellFormed, game_fault_of, with_last, with_name, with_successor};
-    ghost use Rattle.omega_game.specs.layout.Collected.{ids_of};
+    ghost use Rattle.omega_game.specs.private.layout.Collected.{ids_of};
 
     /// No specification, which takes no memory.
     pub fn new(alloc: Global) -> Self

@@ -31,7 +31,7 @@ pub struct Game {
 impl Model for Game {
     ghost use Rattle.std.specs.Prelude.{List};
     ghost use Rattle.omega_game.specs.Game.{Node};
-    ghost use Rattle.omega_game.specs.layout.Columns.{columns_of, nodes_of, IsLaidOut};
+    ghost use Rattle.omega_game.specs.private.layout.Columns.{columns_of, nodes_of, IsLaidOut};
 
     ghost Value = { List Node };
 
@@ -44,7 +44,7 @@ impl Game {
     ghost use Rattle.omega_game.specs.Building.{IsBuildRefusal, IsGameOf, IsWellFormed, game_fault_of};
     ghost use Rattle.omega_game.specs.Game.{IsGame, IsWithinLimits, successor_count, identifiers, node_at, owner_at, predecessors_of, priorities, priority_at, successors_at};
     ghost use Rattle.omega_game.specs.Bound.{priority_counts};
-    ghost use Rattle.omega_game.specs.layout.Columns.{columns_of, nodes_of, AreEven};
+    ghost use Rattle.omega_game.specs.private.layout.Columns.{columns_of, nodes_of, AreEven};
 
     /// The game of the specifications, which may come in any order. Refused with the first that applies of
     /// `DuplicateNode`, `UndefinedSuccessor`, `TooManyNodes` and `TooManyEdges`, or with `Memory` where a request for

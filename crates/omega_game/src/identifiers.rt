@@ -1,6 +1,6 @@
 ghost use Rattle.std.specs.Prelude.{◌≡◌, ◌==◌, ℕ, ◌+◌, ◌<◌, ◌≤◌, length, slice_index_or, option_map, position, IfOk};
 ghost use Rattle.std.specs.List.Sorted.{IsStrictlyIncreasing};
-ghost use Rattle.omega_game.specs.layout.Columns.{identifiers_of};
+ghost use Rattle.omega_game.specs.private.layout.Columns.{identifiers_of};
 ghost use Rattle.omega_text.specs.Limits.{most_number};
 
 use indexmap::IndexSet;

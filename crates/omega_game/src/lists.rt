@@ -1,8 +1,8 @@
 ghost use Rattle.std.specs.Prelude.{◌≡◌, ℕ, ◌<◌, ◌≤◌, ◌+◌, ◌-◌, ◌^◌, [], ◌∷◌, ◌++◌, length, map, take, vec_len, sum_by, slice_index_or, slice_set, IfOk, OnOk, OnErr};
 ghost use Rattle.std.specs.List.{list_all};
-ghost use Rattle.omega_game.specs.layout.Lists.{list_at, lists_of, AreStarts};
-ghost use Rattle.omega_game.specs.layout.Columns.{identifiers_of};
-ghost use Rattle.omega_game.specs.layout.Resolving.{is_defined, resolved_in};
+ghost use Rattle.omega_game.specs.private.layout.Lists.{list_at, lists_of, AreStarts};
+ghost use Rattle.omega_game.specs.private.layout.Columns.{identifiers_of};
+ghost use Rattle.omega_game.specs.private.layout.Resolving.{is_defined, resolved_in};
 ghost use Rattle.omega_text.specs.Limits.{most_number};
 
 use crate::resolving::resolve;
@@ -19,7 +19,7 @@ pub(crate) struct Lists<T> {
 
 impl<T> Model for Lists<T> {
     ghost use Rattle.std.specs.Prelude.{List, length};
-    ghost use Rattle.omega_game.specs.layout.Lists.{lists_of, AreStarts};
+    ghost use Rattle.omega_game.specs.private.layout.Lists.{lists_of, AreStarts};
 
     ghost Value = { List (List T) };
 

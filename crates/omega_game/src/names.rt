@@ -1,5 +1,5 @@
 ghost use Rattle.std.specs.Prelude.{◌≡◌, ℕ, ◌<◌, ◌≤◌, [], length, option_map, slice_index, slice_index_or, IfOk, OnOk};
-ghost use Rattle.omega_game.specs.layout.Columns.{name_in_column};
+ghost use Rattle.omega_game.specs.private.layout.Columns.{name_in_column};
 
 use crate::lists::Lists;
 use std::alloc::{AllocError, Global};

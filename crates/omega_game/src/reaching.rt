@@ -1,6 +1,6 @@
 //! The search for the places that are reached along edges that choices leave possible.
 ghost use Rattle.std.specs.Prelude.{◌≡◌, ℕ, ◌<◌, length, vec_len, All, IfOk, OnOk};
-ghost use Rattle.omega_game.specs.checking.Reaching.{left_at, LeadsInside, AreEntered, AreReached};
+ghost use Rattle.omega_game.specs.private.checking.Reaching.{left_at, LeadsInside, AreEntered, AreReached};
 
 use crate::game::Game;
 use std::alloc::{AllocError, Global};

@@ -2,9 +2,9 @@
 ghost use Rattle.std.specs.Prelude.{◌≡◌, ◌↔◌, ℕ, ◌<◌, length, All, IfOk, IfSome, IsNone, IsOkUnless};
 ghost use Rattle.omega_game.specs.Counterexample.{IsCounterexample};
 ghost use Rattle.omega_game.specs.Winning.{IsStrategy, Wins};
-ghost use Rattle.omega_game.specs.checking.Reaching.{LeadsInside};
-ghost use Rattle.omega_game.specs.checking.Recurring.{Recurs};
-ghost use Rattle.omega_game.specs.refuting.Ways.{IsCycle};
+ghost use Rattle.omega_game.specs.private.checking.Reaching.{LeadsInside};
+ghost use Rattle.omega_game.specs.private.checking.Recurring.{Recurs};
+ghost use Rattle.omega_game.specs.private.refuting.Ways.{IsCycle};
 
 mod breadth;
 mod ways;

@@ -1,8 +1,8 @@
 ghost use Rattle.std.specs.Prelude.{◌≡◌, ◌+◌, ◌≤◌, length, map};
 ghost use Rattle.std.specs.List.{list_all};
-ghost use Rattle.omega_game.specs.layout.Columns.{identifiers_of};
+ghost use Rattle.omega_game.specs.private.layout.Columns.{identifiers_of};
 ghost use Rattle.omega_text.specs.Limits.{most_number};
-ghost use Rattle.omega_game.specs.layout.Resolving.{is_defined, resolved_in};
+ghost use Rattle.omega_game.specs.private.layout.Resolving.{is_defined, resolved_in};
 
 use crate::identifiers::place_among;
 use indexmap::IndexSet;

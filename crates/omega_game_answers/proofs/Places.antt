@@ -7,7 +7,7 @@ use Rattle.std.proofs.lemmas.Option.{slice_get-get_or}
 use Rattle.omega_game.specs.declared.player.Player.{Player}
 use Rattle.omega_game.specs.Game.{IsGame, Node}
 use Rattle.omega_game.specs.Winning.{IsStrategy}
-use Rattle.omega_game_answers.specs.steps.Places.{places_from}
+use Rattle.omega_game_answers.specs.private.steps.Places.{places_from}
 
 -- ---- members of a list with a first element
 

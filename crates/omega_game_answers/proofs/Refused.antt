@@ -8,7 +8,7 @@ use Rattle.omega_pg.specs.solution.Refusing.{IsReadSolutionRefusal}
 use Rattle.omega_pg.specs.game.Text.{IsGameText}
 use Rattle.omega_game_answers.specs.Part.{IsPartTextRefusal}
 use Rattle.omega_game_answers.specs.Verify.{IsJudgedGame, IsVerifyRefusal}
-use Rattle.omega_game_answers.specs.steps.PartRefusal.{IsPartRefusal}
+use Rattle.omega_game_answers.specs.private.steps.PartRefusal.{IsPartRefusal}
 
 -- what holds of a refusal, or want of memory
 or_memory-of : (P : Refusal → Type 0) (refusal : Refusal) → P refusal → or_memory P refusal

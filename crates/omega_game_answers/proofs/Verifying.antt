@@ -6,7 +6,7 @@ use Rattle.omega_game.specs.Game.{Node}
 use Rattle.omega_game.specs.Solution.{WinsAsGiven, WinsGiven}
 use Rattle.omega_io.specs.declared.exit.Exit.{Exit}
 use Rattle.omega_game_answers.specs.Verify.{IsSolutionVerdict}
-use Rattle.omega_game_answers.specs.steps.Verdict.{verdict_exit, verdict_text}
+use Rattle.omega_game_answers.specs.private.steps.Verdict.{verdict_exit, verdict_text}
 
 -- both players' choices win as given
 pub both-win : (nodes : List Node) (solution : Solution) → WinsGiven nodes solution Zero → WinsGiven nodes solution One

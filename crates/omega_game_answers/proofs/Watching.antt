@@ -6,7 +6,8 @@ use Rattle.omega_text.specs.declared.refusal.task.TaskFault.TheVariants.{Budget}
 use Rattle.omega_game.specs.Game.{Node}
 use Rattle.omega_game.specs.declared.player.Player.{Player}
 use Rattle.omega_pg.specs.game.Refusing.{IsReadRefusal}
-use Rattle.omega_game_answers.specs.Watching.{AreRuns, LiftsWholeGame}
+use Rattle.omega_game_answers.specs.Watching.{AreRuns}
+use Rattle.omega_game_answers.specs.private.steps.Lifts.{LiftsWholeGame}
 use Rattle.omega_game_answers.specs.declared.solve.asked.Asked.{Asked}
 use Rattle.omega_game_answers.specs.declared.solve.asked.Asked.TheVariants as way
 use Rattle.omega_budget.specs.Watching.{IsWatched}

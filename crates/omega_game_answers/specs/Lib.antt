@@ -1,4 +1,4 @@
--- What each subcommand answers and refuses of games; in `steps` what private contracts alone cite.
+-- What each subcommand answers and refuses of games; in `private` what private contracts alone cite.
 pub mod Canon
 pub mod Check
 pub mod Draw
@@ -9,4 +9,4 @@ pub mod Show
 pub mod Verify
 pub mod Watching
 pub mod solve
-pub mod steps
+pub mod private

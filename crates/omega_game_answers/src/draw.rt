@@ -3,7 +3,7 @@ ghost use Rattle.omega_pg.specs.game.Refusing.{IsReadRefusal};
 ghost use Rattle.omega_pg.specs.solution.Refusing.{IsReadSolutionRefusal};
 ghost use Rattle.omega_text.specs.Cases.{or_memory};
 ghost use Rattle.omega_game_answers.specs.Draw.{IsGameDrawingAnswer, IsSolutionDrawingAnswer, IsSolutionDrawingRefusal};
-ghost use Rattle.omega_game_answers.specs.steps.Solved.{IsSolutionDrawn};
+ghost use Rattle.omega_game_answers.specs.private.steps.Solved.{IsSolutionDrawn};
 
 use crate::game_text::game_of;
 use omega_game::{Game, Refusal};

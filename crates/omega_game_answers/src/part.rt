@@ -1,6 +1,6 @@
 ghost use Rattle.std.specs.Prelude.{◌≡◌, IfOk, IfErr};
 ghost use Rattle.omega_game_answers.specs.Part.{IsPartFrom};
-ghost use Rattle.omega_game_answers.specs.steps.PartRefusal.{IsPartRefusal};
+ghost use Rattle.omega_game_answers.specs.private.steps.PartRefusal.{IsPartRefusal};
 
 use omega_game::{Game, Refusal, TaskFault};
 use std::alloc::Global;

@@ -3,8 +3,9 @@ ghost use Rattle.omega_solve.specs.Limits.{most_lifts};
 ghost use Rattle.omega_text.specs.Cases.{or_memory};
 ghost use Rattle.omega_game_answers.specs.solve.Refusing.{IsSolveRefusal};
 ghost use Rattle.omega_game_answers.specs.solve.Solving.{IsSolveAnswer, SolvesPart, SolvesWhole};
-ghost use Rattle.omega_game_answers.specs.steps.SolveGameRefusal.{IsSolveGameRefusal};
-ghost use Rattle.omega_game_answers.specs.Watching.{CountsTold, CountsToldOfPart, CountsToldOfText, LiftsPart, LiftsText, LiftsWholeGame};
+ghost use Rattle.omega_game_answers.specs.private.steps.SolveGameRefusal.{IsSolveGameRefusal};
+ghost use Rattle.omega_game_answers.specs.Watching.{CountsTold, CountsToldOfPart, CountsToldOfText, LiftsText};
+ghost use Rattle.omega_game_answers.specs.private.steps.Lifts.{LiftsPart, LiftsWholeGame};
 ghost use Rattle.omega_budget.specs.Watching.{IsWatched, refusal_in};
 
 mod answer_text;

@@ -6,8 +6,8 @@ ghost use Rattle.omega_pg.specs.solution.Refusing.{IsReadSolutionRefusal};
 ghost use Rattle.omega_pg.specs.solution.Text.{IsSolutionText};
 ghost use Rattle.omega_game_answers.specs.Part.{IsPartText, IsPartTextRefusal};
 ghost use Rattle.omega_game_answers.specs.Verify.{IsJudgedGame, IsJudgedGameRefusal, IsSolutionVerdict, IsVerifyAnswer, IsVerifyRefusal};
-ghost use Rattle.omega_game_answers.specs.steps.Solved.{IsSolutionJudged};
-ghost use Rattle.omega_game_answers.specs.steps.Verdict.{verdict_exit, verdict_text};
+ghost use Rattle.omega_game_answers.specs.private.steps.Solved.{IsSolutionJudged};
+ghost use Rattle.omega_game_answers.specs.private.steps.Verdict.{verdict_exit, verdict_text};
 
 mod explaining;
 

@@ -2,7 +2,7 @@
 use Rattle.std.proofs.Common.{◌≡◌, ◌&&◌, ◌++◌, ◌∙◌, Bool, List, [], ◌∷◌, Result, Ok, Err, IfOk, true, false, not, refl, ap, append_assoc, sym}
 use Rattle.std.proofs.lemmas.List.{append-nil}
 use Rattle.clap.specs.Words.{App, Rule, with_rule}
-use Rattle.omega_help.specs.building.Building.{shape_for, with_rules}
+use Rattle.omega_help.specs.private.building.Building.{shape_for, with_rules}
 use Rattle.omega_help.specs.declared.program.Subcommand.{Subcommand}
 use Rattle.omega_help.specs.declared.program.Subcommand.TheVariants.{Canon, Check, Draw, Empty, Game, Show, Solve, Verify}
 

@@ -1,3 +1,3 @@
 -- What contracts of the command line as `clap` has it cite.
 pub mod Program
-pub mod building
+pub mod private

@@ -1,7 +1,7 @@
 //! The options of the subcommands. What their texts stand for is judged behind `clap`.
 ghost use Rattle.std.specs.Prelude.{◌≡◌, false};
 ghost use Rattle.clap.specs.Words.{rule_of};
-ghost use Rattle.omega_help.specs.building.Building.{rule_for};
+ghost use Rattle.omega_help.specs.private.building.Building.{rule_for};
 
 use clap::{Arg, ArgAction};
 use std::alloc::Global;

@@ -1,7 +1,7 @@
 ghost use Rattle.std.specs.Prelude.{◌≡◌, IfOk, map, string_bytes};
 ghost use Rattle.clap.specs.Words.{FailsBy, app_of, fault_of, subcommand_of, shape_of, subcommand_rows_of, with_subcommand};
 ghost use Rattle.omega_help.specs.Program.{program};
-ghost use Rattle.omega_help.specs.building.Building.{shape_for, without_subcommands};
+ghost use Rattle.omega_help.specs.private.building.Building.{shape_for, without_subcommands};
 
 use crate::canon::canon_command;
 use crate::check::check_command;

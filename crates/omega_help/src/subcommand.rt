@@ -1,7 +1,7 @@
 ghost use Rattle.std.specs.Prelude.{◌≡◌, IfOk, map};
 ghost use Rattle.clap.specs.Words.{shape_of};
 ghost use Rattle.omega_help.specs.Program.{with_options};
-ghost use Rattle.omega_help.specs.building.Building.{rule_for};
+ghost use Rattle.omega_help.specs.private.building.Building.{rule_for};
 
 use crate::options::OptionHelp;
 use clap::Command;

@@ -15,7 +15,7 @@ use Rattle.omega_text.specs.declared.refusal.text.TextFault.{TextFault}
 use Rattle.omega_text.specs.declared.refusal.text.TextFault.TheVariants.{Syntax}
 use Rattle.omega_hoa.specs.Feeding.{IsDivided}
 use Rattle.omega_hoa.specs.Stream.{IsOpen, IsStream, IsStreamFault, is_end}
-use Rattle.omega_hoa.specs.dividing.Ending.{IsAtEnd, IsLast, IsWholeStream}
+use Rattle.omega_hoa.specs.private.dividing.Ending.{IsAtEnd, IsLast, IsWholeStream}
 use Rattle.omega_hoa.specs.declared.item.Item.{Item}
 use Rattle.omega_hoa.proofs.Cutting.{cuts_split}
 use Rattle.omega_hoa.proofs.Dividing.{open_push}

@@ -19,8 +19,8 @@ use Rattle.omega_hoa.specs.Feeding.{Appends, IsDivided, IsFed, IsRefusedSoFar, I
 use Rattle.omega_hoa.specs.Kept.{Kept}
 use Rattle.omega_hoa.specs.Laws.{IsAnsweredAtEnd}
 use Rattle.omega_hoa.specs.Stream.{IsStreamFault, IsStreamText}
-use Rattle.omega_hoa.specs.dividing.Fed.{HasReadTaken, IsFedSome, IsRefusedSome}
-use Rattle.omega_hoa.specs.dividing.Next.{IsProgress}
+use Rattle.omega_hoa.specs.private.dividing.Fed.{HasReadTaken, IsFedSome, IsRefusedSome}
+use Rattle.omega_hoa.specs.private.dividing.Next.{IsProgress}
 use Rattle.omega_hoa.specs.declared.item.Item.{Item}
 use Rattle.omega_hoa.specs.declared.progress.ReadProgress.{ReadProgress}
 use Rattle.omega_hoa.proofs.Cutting.{cuts_end, cuts_forward, cuts_split, same_cuts, same_further}

@@ -20,7 +20,7 @@ use Rattle.omega_acc.specs.Symbols.{IsUnread}
 use Rattle.omega_automaton.specs.Automaton.{Description}
 use Rattle.omega_hoa.specs.Segment.{IsAutomatonOf, IsNoRaw, IsRawOf, IsSegmentFault}
 use Rattle.omega_hoa.specs.Stream.{IsOpen, IsSegment}
-use Rattle.omega_hoa.specs.outlines.Outline.{BeginsAborted, BeginsStray, HasFollowed, HasOutline, HasWhole, IsWhole}
+use Rattle.omega_hoa.specs.private.outlines.Outline.{BeginsAborted, BeginsStray, HasFollowed, HasOutline, HasWhole, IsWhole}
 use Rattle.omega_hoa.specs.declared.outline.TextOutline.TheVariants.{Empty, Stray, Open, Aborted}
 use Rattle.omega_hoa.proofs.Cutting.{cuts_forward, cuts_last, cuts_split, moved, part_cut}
 use Rattle.omega_hoa.proofs.Written.{automaton_same, fault_same, none_same, raw_same, same_moved}

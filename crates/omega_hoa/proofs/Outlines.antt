@@ -4,7 +4,7 @@ use Rattle.omega_text.specs.Lexeme.{Lexeme}
 use Rattle.omega_text.specs.declared.hoa.kind.HoaKind.{HoaKind}
 use Rattle.omega_text.specs.declared.hoa.kind.HoaKind.TheVariants.{End, Abort}
 use Rattle.omega_hoa.specs.Stream.{IsOpen}
-use Rattle.omega_hoa.specs.outlines.Outline.{BeginsAborted, BeginsStray, IsFollowed, IsOutline, IsWhole}
+use Rattle.omega_hoa.specs.private.outlines.Outline.{BeginsAborted, BeginsStray, IsFollowed, IsOutline, IsWhole}
 use Rattle.omega_hoa.specs.declared.outline.TextOutline.{TextOutline}
 use Rattle.omega_hoa.specs.declared.outline.TextOutline.TheVariants.{Empty, Stray, Open, Aborted, Whole, Followed}
 

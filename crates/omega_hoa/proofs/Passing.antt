@@ -5,12 +5,11 @@ use Rattle.omega_text.specs.Lexeme.{Lexeme}
 use Rattle.omega_text.specs.declared.hoa.kind.HoaKind.{HoaKind}
 use Rattle.omega_text.specs.declared.hoa.kind.HoaKind.TheVariants.{End, Abort}
 use Rattle.omega_text.specs.declared.hoa.tokenizer.HoaTokenizer.{HoaTokenizer}
-use Rattle.omega_text.specs.hoa.scanning.Reading.{HasRead}
+use Rattle.omega_text.specs.hoa.scanning.Reading.{HasRead, HasPassed, HasRoom}
 use Rattle.omega_text.specs.hoa.Pieces.{NoneMarks, is_mark}
-use Rattle.omega_text.specs.hoa.scanning.Passing.{HasPassed, HasRoom}
 use Rattle.omega_hoa.specs.Feeding.{IsDivided, IsRest}
 use Rattle.omega_hoa.specs.Stream.{IsOpen, NoneEnds, is_end}
-use Rattle.omega_hoa.specs.dividing.Next.{IsProgress, IsProgressSome}
+use Rattle.omega_hoa.specs.private.dividing.Next.{IsProgress, IsProgressSome}
 use Rattle.omega_hoa.specs.declared.division.Division.{Division}
 use Rattle.omega_hoa.specs.declared.item.Item.{Item}
 use Rattle.omega_hoa.specs.declared.progress.ReadProgress.{ReadProgress}

@@ -2,7 +2,7 @@
 use Rattle.std.proofs.Common.{List, [], ◌++◌, sym, ap, subst, ◌∙◌, append_assoc, append-nil}
 use Rattle.std.specs.Prelude.{Result, Ok, Err, IfErr, IfOk, IsErrAnd}
 use Rattle.omega_hoa.specs.Feeding.{Appends}
-use Rattle.omega_hoa.specs.dividing.Next.{Extends}
+use Rattle.omega_hoa.specs.private.dividing.Next.{Extends}
 
 -- what an error that is passed on says
 pub error_then : {A E : Type 0} (result : Result A E) (said wanted : E → Type 0) → IsErrAnd result said → ((error : E) → said error → wanted error) → IfErr result wanted

@@ -17,7 +17,7 @@ use Rattle.omega_text.specs.declared.refusal.text.TextFault.{TextFault}
 use Rattle.omega_text.specs.declared.refusal.text.TextFault.TheVariants.{Lex, Number, Syntax, TooLong}
 use Rattle.omega_hoa.specs.Feeding.{IsDivided, IsRefusedThen, IsRest}
 use Rattle.omega_hoa.specs.Stream.{IsFaultInside, IsFaultOutside, IsRefusedBehind, IsStreamFault}
-use Rattle.omega_hoa.specs.dividing.Next.{IsNextDivision, IsNextSettled, IsNothing, IsProgress, IsRefusedNow, IsWindow}
+use Rattle.omega_hoa.specs.private.dividing.Next.{IsNextDivision, IsNextSettled, IsNothing, IsProgress, IsRefusedNow, IsWindow}
 use Rattle.omega_hoa.specs.declared.division.Division.{Division}
 use Rattle.omega_hoa.specs.declared.item.Item.{Item}
 use Rattle.omega_hoa.specs.declared.progress.ReadProgress.{ReadProgress}

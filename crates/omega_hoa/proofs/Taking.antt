@@ -18,7 +18,7 @@ use Rattle.omega_hoa.specs.Feeding.{IsDivided, IsRest}
 use Rattle.omega_automaton.specs.Automaton.{Description}
 use Rattle.omega_hoa.specs.Segment.{IsAutomatonOf, IsSegmentFault}
 use Rattle.omega_hoa.specs.Stream.{IsItemOf, IsOpen, IsSegment, IsStreamFault, Opens, is_end}
-use Rattle.omega_hoa.specs.dividing.Next.{IsNextDivision, IsRefusedNow, IsWindow}
+use Rattle.omega_hoa.specs.private.dividing.Next.{IsNextDivision, IsRefusedNow, IsWindow}
 use Rattle.omega_hoa.specs.declared.division.Division.{Division}
 use Rattle.omega_hoa.specs.declared.item.Item.{Item}
 use Rattle.omega_hoa.specs.declared.item.Item.TheVariants.{Automaton as AutomatonItem, Aborted}

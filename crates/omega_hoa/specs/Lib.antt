@@ -5,5 +5,4 @@ pub mod Kept
 pub mod Laws
 pub mod Segment
 pub mod Stream
-pub mod dividing
-pub mod outlines
+pub mod private

@@ -4,7 +4,7 @@ ghost use Rattle.omega_text.specs.Limits.{most_text};
 ghost use Rattle.omega_text.specs.declared.refusal.Refusal.TheVariants.{Text};
 ghost use Rattle.omega_text.specs.declared.refusal.text.TextFault.TheVariants.{Syntax};
 ghost use Rattle.omega_hoa.specs.Alone.{IsAutomatonRefusal, IsAutomatonText};
-ghost use Rattle.omega_hoa.specs.outlines.Outline.{HasFollowed, HasWhole};
+ghost use Rattle.omega_hoa.specs.private.outlines.Outline.{HasFollowed, HasWhole};
 
 use crate::outline::{TextOutline, outline_of};
 use crate::segment::{read_segment, read_written};

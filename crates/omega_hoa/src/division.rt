@@ -5,7 +5,7 @@ ghost use Rattle.omega_text.specs.declared.hoa.kind.HoaKind.{HoaKind};
 ghost use Rattle.omega_text.specs.declared.hoa.kind.HoaKind.TheVariants.{HeaderName};
 ghost use Rattle.omega_hoa.specs.Stream.{IsItemOf, is_end};
 ghost use Rattle.omega_hoa.specs.declared.item.Item.{Item};
-ghost use Rattle.omega_hoa.specs.dividing.Next.{AreRefusedAt, AreTakenAs, Extends, IsNextDivision, IsNextSettledSome, IsNextSome, IsRefusedAt, IsTakenAs};
+ghost use Rattle.omega_hoa.specs.private.dividing.Next.{AreRefusedAt, AreTakenAs, Extends, IsNextDivision, IsNextSettledSome, IsNextSome, IsRefusedAt, IsTakenAs};
 
 use crate::item::Item;
 use crate::segment::read_segment;

@@ -3,7 +3,7 @@ ghost use Rattle.omega_text.specs.Lexeme.{Lexeme};
 ghost use Rattle.omega_text.specs.declared.hoa.kind.HoaKind.{HoaKind};
 ghost use Rattle.omega_hoa.specs.Stream.{IsStreamFault};
 ghost use Rattle.omega_hoa.specs.declared.item.Item.{Item};
-ghost use Rattle.omega_hoa.specs.dividing.Ending.{EndsRefused, EndsWhole, IsAtEnd, IsLast};
+ghost use Rattle.omega_hoa.specs.private.dividing.Ending.{EndsRefused, EndsWhole, IsAtEnd, IsLast};
 
 use omega_text::{Refusal, Settled, TextFault};
 

@@ -4,7 +4,7 @@ ghost use Rattle.omega_text.specs.Lexeme.{Lexeme, lexeme_of};
 ghost use Rattle.omega_text.specs.hoa.Format.{hoa_format};
 ghost use Rattle.omega_text.specs.declared.hoa.kind.HoaKind.{HoaKind};
 ghost use Rattle.omega_hoa.specs.Stream.{IsOpen};
-ghost use Rattle.omega_hoa.specs.outlines.Outline.{HasOutline, IsOutline};
+ghost use Rattle.omega_hoa.specs.private.outlines.Outline.{HasOutline, IsOutline};
 
 use crate::division::opens;
 use omega_text::{HoaKind, TextFault, Token, next_hoa_token};

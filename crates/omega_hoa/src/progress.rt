@@ -1,5 +1,5 @@
 ghost use Rattle.std.specs.Prelude.{◌+◌, ◌<◌, ◌≤◌, ℕ, List, length, IfErr, IfOk, IsTrue};
-ghost use Rattle.omega_hoa.specs.dividing.Next.{Extends, IsNothing, IsProgress, IsProgressSome, IsReadAs, IsRefusedFrom};
+ghost use Rattle.omega_hoa.specs.private.dividing.Next.{Extends, IsNothing, IsProgress, IsProgressSome, IsReadAs, IsRefusedFrom};
 ghost use Rattle.omega_hoa.specs.declared.item.Item.{Item};
 
 use crate::division::{Division, take_all};
@@ -47,7 +47,12 @@ pub(crate) fn read_bytes(
 
 /// Inside a segment, reads the bytes from a place on, up to one that may end it or settles a fault;
 /// and that one's place.
-fn pass_inside(bytes: &[u8], first: usize, from: usize, progress: ReadProgress) -> (ReadProgress, usize)
+fn pass_inside(
+    bytes: &[u8],
+    first: usize,
+    from: usize,
+    progress: ReadProgress,
+) -> (ReadProgress, usize)
     requires within { from ≤ length bytes.now }
     requires so_far { IsProgressSome bytes.now first from progress }
     ensures forward { from ≤ result.1 }

@@ -4,7 +4,7 @@ ghost use Rattle.omega_text.specs.declared.refusal.Refusal.TheVariants.{Memory, 
 ghost use Rattle.omega_text.specs.declared.refusal.text.TextFault.TheVariants.{TooLong};
 ghost use Rattle.omega_hoa.specs.declared.item.Item.{Item};
 ghost use Rattle.omega_hoa.specs.Stream.{IsStreamFault, IsStreamText};
-ghost use Rattle.omega_hoa.specs.dividing.Next.{IsProgressSome, IsReadAs, IsRefusedFrom};
+ghost use Rattle.omega_hoa.specs.private.dividing.Next.{IsProgressSome, IsReadAs, IsRefusedFrom};
 
 use crate::division::Division;
 use crate::ending::{end_inside, end_outside};
@@ -29,7 +29,7 @@ pub struct Stream {
 
 impl Model for Stream {
     ghost use Rattle.omega_hoa.specs.Kept.{Kept};
-    ghost use Rattle.omega_hoa.specs.dividing.Fed.{IsFedSome};
+    ghost use Rattle.omega_hoa.specs.private.dividing.Fed.{IsFedSome};
 
     ghost Value = { Kept };
 

@@ -10,8 +10,8 @@ use Rattle.omega_lift.specs.Allowance.{IsAllowance, measure_at, suffices}
 use Rattle.omega_lift.specs.Laws.{AllowancesAreLeastSufficient, AllowancesExceed}
 use Rattle.omega_lift.specs.Least.{least_sufficient, limits_of}
 use Rattle.omega_lift.specs.Measure.{Measure, IsMeasure, compare_from, entries_from}
-use Rattle.omega_measure.specs.layout.Due.{is_short}
-use Rattle.omega_measure.specs.layout.Rows.{allowance_of}
+use Rattle.omega_measure.specs.private.layout.Due.{is_short}
+use Rattle.omega_measure.specs.private.layout.Rows.{allowance_of}
 use Rattle.omega_measure.specs.Table.{Content, Exceeds}
 
 -- to be short is not to suffice

@@ -9,9 +9,9 @@ use Rattle.omega_lift.specs.Allowance.{measure_at}
 use Rattle.omega_lift.specs.Laws.{AllowancesAreLeastSufficient}
 use Rattle.omega_lift.specs.Least.{limits_of}
 use Rattle.omega_lift.specs.Measure.{AreEntries, Measure, IsMeasure, entries_from, zero_measure}
-use Rattle.omega_measure.specs.layout.Plain.{content_of}
-use Rattle.omega_measure.specs.layout.Rows.{AreRows, WritesMeasure, allowance_of, measure_in, row_of}
-use Rattle.omega_measure.specs.layout.Shape.{Borne, width_of}
+use Rattle.omega_measure.specs.private.layout.Plain.{content_of}
+use Rattle.omega_measure.specs.private.layout.Rows.{AreRows, WritesMeasure, allowance_of, measure_in, row_of}
+use Rattle.omega_measure.specs.private.layout.Shape.{Borne, width_of}
 use Rattle.omega_measure.specs.Table.{Content, IsAllowanceIn, Raises, zero_content}
 use Rattle.omega_measure.proofs.Allowances.{allowance_is}
 use Rattle.omega_measure.proofs.Measures.{length-listed, listed-same, listed-written, measure_at-listed}

@@ -6,7 +6,7 @@ use Rattle.std.specs.Cmp.Lexicographic.{slice_cmp}
 use Rattle.std.proofs.lemmas.Bool.{cases_order, lt-ltb, le-ltb, eq-eqb, ne_eqb}
 use Rattle.std.proofs.lemmas.Nat.{pow_pos, pow-add, shr_high, shr_split, shr-shr, mod_below, mul-le, div_below}
 use Rattle.std.proofs.Math.Nat.{mul_assoc}
-use Rattle.omega_measure.specs.layout.Field.{front_order, value}
+use Rattle.omega_measure.specs.private.layout.Field.{front_order, value}
 
 -- ---- numbers
 

@@ -12,11 +12,11 @@ use Rattle.omega_lift.specs.Laws.{AllowancesAreLeastSufficient, AllowancesExceed
 use Rattle.omega_lift.specs.Least.{limits_of}
 use Rattle.omega_lift.specs.Measure.{Measure, IsMeasure, compare_from, entries_from, zero_measure}
 use Rattle.omega_measure.specs.declared.field.Field.{Field}
-use Rattle.omega_measure.specs.layout.Field.{AreAtMost, AreFields, ArePacked, IsInside, IsPackedRow, field_places, digit_in, digits_in, entry_limits, front_order, last_field, limits_in, measure_of, top_field, value, word_places}
-use Rattle.omega_measure.specs.layout.Due.{is_short}
-use Rattle.omega_measure.specs.layout.Packed.{ArePackedRows, packed_content, packed_measure}
-use Rattle.omega_measure.specs.layout.Rows.{AreAtLimits, IsLastBelow, WritesRow, allowance_of, compare_kept, row_of}
-use Rattle.omega_measure.specs.layout.Shape.{Borne, width_of}
+use Rattle.omega_measure.specs.private.layout.Field.{AreAtMost, AreFields, ArePacked, IsInside, IsPackedRow, field_places, digit_in, digits_in, entry_limits, front_order, last_field, limits_in, measure_of, top_field, value, word_places}
+use Rattle.omega_measure.specs.private.layout.Due.{is_short}
+use Rattle.omega_measure.specs.private.layout.Packed.{ArePackedRows, packed_content, packed_measure}
+use Rattle.omega_measure.specs.private.layout.Rows.{AreAtLimits, IsLastBelow, WritesRow, allowance_of, compare_kept, row_of}
+use Rattle.omega_measure.specs.private.layout.Shape.{Borne, width_of}
 use Rattle.omega_measure.specs.Table.{Content, Exceeds, IsAllowanceIn, Raises, zero_content}
 use Rattle.omega_measure.proofs.Allowances.{allowance_is, due_from}
 use Rattle.omega_measure.proofs.Digits.{value-zeros}

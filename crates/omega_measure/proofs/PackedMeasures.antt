@@ -11,8 +11,8 @@ use Rattle.omega_game.specs.Bound.{bearers, losing_priorities}
 use Rattle.omega_game.specs.declared.player.Player.{Player}
 use Rattle.omega_lift.specs.Least.{limits_of, raised}
 use Rattle.omega_lift.specs.Measure.{IsMeasure, Measure}
-use Rattle.omega_measure.specs.layout.Field.{AreAtMost, measure_of}
-use Rattle.omega_measure.specs.layout.Rows.{IsLastBelow, allowance_of, compare_kept}
+use Rattle.omega_measure.specs.private.layout.Field.{AreAtMost, measure_of}
+use Rattle.omega_measure.specs.private.layout.Rows.{IsLastBelow, allowance_of, compare_kept}
 use Rattle.omega_measure.proofs.Digits.{nat_cmp-greater, nat_cmp-less}
 use Rattle.omega_measure.proofs.PackedRows.{at_most_at, length-at_most}
 use Rattle.omega_measure.proofs.Raising.{raised_some}

@@ -8,7 +8,7 @@ use Rattle.std.proofs.lemmas.Grind.{same_number_lists}
 use Rattle.std.proofs.lemmas.List.{length-map, get_or-map, length-append, length-take-le, length-replicate, get_or_append_left, get_or-append_right, get_or_at, get_or-take, get_or-replicate, get_or_past}
 use Rattle.std.proofs.lemmas.Nat.{pow-add}
 use Rattle.omega_measure.specs.declared.field.Field.{Field}
-use Rattle.omega_measure.specs.layout.Field.{AreAtMost, AreFields, AreChained, ArePacked, IsInside, IsPackedRow, field_places, digit_in, digits_in, entry_limits, front_order, last_field, last_of, limits_in, top_field, value, word_places}
+use Rattle.omega_measure.specs.private.layout.Field.{AreAtMost, AreFields, AreChained, ArePacked, IsInside, IsPackedRow, field_places, digit_in, digits_in, entry_limits, front_order, last_field, last_of, limits_in, top_field, value, word_places}
 use Rattle.omega_measure.proofs.Digits.{AreWithin, front_ends, front_order-value, then_assoc, value-replaced}
 use Rattle.omega_measure.proofs.Packing.{field_places-at, chained_from_start, digit_is, digits_within, front_in_word, gap_at, inside_at, length-word_places, limit_at, place_of, start, word_fits, word_places-at, words_within}
 

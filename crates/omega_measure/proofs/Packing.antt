@@ -7,7 +7,7 @@ use Rattle.std.specs.Prelude.{bit_and}
 use Rattle.std.proofs.Math.Nat.{mul_assoc}
 use Rattle.std.proofs.lemmas.List.{take_more, get_or-map}
 use Rattle.omega_measure.specs.declared.field.Field.{Field}
-use Rattle.omega_measure.specs.layout.Field.{AreAtMost, AreChained, ArePacked, FollowsField, IsInside, field_places, last_field, last_of, top_field, word_places}
+use Rattle.omega_measure.specs.private.layout.Field.{AreAtMost, AreChained, ArePacked, FollowsField, IsInside, field_places, last_field, last_of, top_field, word_places}
 use Rattle.omega_measure.proofs.Digits.{AreWithin, shifted}
 
 -- how many bits a number has

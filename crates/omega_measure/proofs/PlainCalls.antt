@@ -6,10 +6,10 @@ use Rattle.omega_game.specs.Player.{loses}
 use Rattle.omega_lift.specs.Allowance.{measure_at}
 use Rattle.omega_lift.specs.Laws.{AllowancesAreLeastSufficient, AllowancesExceed}
 use Rattle.omega_lift.specs.Measure.{Measure, compare, compare_from, entries_from}
-use Rattle.omega_measure.specs.layout.Due.{is_short}
-use Rattle.omega_measure.specs.layout.Plain.{content_of}
-use Rattle.omega_measure.specs.layout.Rows.{AreRows, compare_kept, measure_in}
-use Rattle.omega_measure.specs.layout.Shape.{Borne, width_of}
+use Rattle.omega_measure.specs.private.layout.Due.{is_short}
+use Rattle.omega_measure.specs.private.layout.Plain.{content_of}
+use Rattle.omega_measure.specs.private.layout.Rows.{AreRows, compare_kept, measure_in}
+use Rattle.omega_measure.specs.private.layout.Shape.{Borne, width_of}
 use Rattle.omega_measure.specs.Table.{Content, Exceeds}
 use Rattle.omega_measure.proofs.Allowances.{due_from}
 use Rattle.omega_measure.proofs.Contents.{IsMeasure-content, length-content, measure_at-content}

@@ -4,7 +4,7 @@ use Rattle.std.specs.Option.{option_map_or}
 use Rattle.std.proofs.lemmas.Bool.{lt-ltb, le-ltb}
 use Rattle.std.proofs.lemmas.List.{append-nil, append_assoc, length-set, length-take, length-drop, take_more_set, drop-drop, drop_all}
 use Rattle.omega_lift.specs.Least.{raised, cleared_after}
-use Rattle.omega_measure.specs.layout.Rows.{AreAtLimits, IsLastBelow}
+use Rattle.omega_measure.specs.private.layout.Rows.{AreAtLimits, IsLastBelow}
 use borrow.Rule.Slice.PartMut.{put_mid}
 
 AreAtLimits-tail : (x l : ℕ) (xs ls : List ℕ) (low high : ℕ) → AreAtLimits (x ∷ xs) (l ∷ ls) (low + 1) (suc high) → AreAtLimits xs ls low high

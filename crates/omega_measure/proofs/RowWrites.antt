@@ -7,7 +7,7 @@ use Rattle.std.proofs.lemmas.Nat.{mul-le}
 use Rattle.std.proofs.lemmas.Slice.{put_mid-paste}
 use borrow.Rule.Slice.PartMut.{put_mid}
 use lib.Seq.{paste}
-use Rattle.omega_measure.specs.layout.Rows.{WritesMeasure, WritesRow, allowance_of, allowed, measure_in, row_of}
+use Rattle.omega_measure.specs.private.layout.Rows.{WritesMeasure, WritesRow, allowance_of, allowed, measure_in, row_of}
 
 -- the rows before that of v end where it begins
 pub rows_before : (u v width : ℕ) → u < v → u * width + width ≤ v * width

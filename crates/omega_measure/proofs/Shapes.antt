@@ -5,8 +5,8 @@ use Rattle.std.proofs.lemmas.List.{get_or_default, get_or-map, length-map, map-a
 use Rattle.omega_game.specs.Game.{Node, no_node, priorities, priority_at}
 use Rattle.omega_game.specs.declared.player.Player.{Player}
 use Rattle.omega_lift.specs.Measure.{entries_from}
-use Rattle.omega_measure.specs.layout.Falling.{count_from}
-use Rattle.omega_measure.specs.layout.Shape.{IsShape}
+use Rattle.omega_measure.specs.private.layout.Falling.{count_from}
+use Rattle.omega_measure.specs.private.layout.Shape.{IsShape}
 
 -- what is kept for a place is how many entries are for priorities at least its own
 pub kept_at :

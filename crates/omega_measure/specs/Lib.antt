@@ -1,5 +1,5 @@
 -- The words of tables of measures, with those of games and of lifting that they cite;
--- what only the tables' layout needs is in layout.
+-- what only private contracts cite is in `private`.
 pub use Rattle.omega_text.specs.Cases
 pub use Rattle.omega_game.specs.Game
 pub use Rattle.omega_game.specs.Winning
@@ -11,4 +11,4 @@ pub use Rattle.omega_lift.specs.Answer
 pub use Rattle.omega_lift.specs.Laws
 pub mod Limits
 pub mod Table
-pub mod layout
+pub mod private

@@ -1,5 +1,5 @@
 ghost use Rattle.std.specs.Prelude.{◌≡◌};
-ghost use Rattle.omega_measure.specs.layout.Due.{is_short};
+ghost use Rattle.omega_measure.specs.private.layout.Due.{is_short};
 
 use std::cmp::Ordering;
 

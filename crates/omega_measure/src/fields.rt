@@ -1,5 +1,5 @@
 ghost use Rattle.std.specs.Prelude.{◌≡◌, ◌+◌, ◌-◌, ◌*◌, ◌<◌, ◌≤◌, ◌^◌, length, IfOk, IsOkUnless};
-ghost use Rattle.omega_measure.specs.layout.Field.{ArePacked, FollowsField, last_field, top_field};
+ghost use Rattle.omega_measure.specs.private.layout.Field.{ArePacked, FollowsField, last_field, top_field};
 
 use crate::field::Field;
 use omega_game::Refusal;

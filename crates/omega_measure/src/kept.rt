@@ -1,6 +1,6 @@
 ghost use Rattle.std.specs.Prelude.{◌≡◌, ◌≤◌, length, map, IfOk, IsOkUnless};
 ghost use Rattle.omega_measure.specs.Limits.{most_cells};
-ghost use Rattle.omega_measure.specs.layout.Falling.{IsStrictlyFalling, count_from};
+ghost use Rattle.omega_measure.specs.private.layout.Falling.{IsStrictlyFalling, count_from};
 
 use omega_game::Refusal;
 use std::alloc::Global;

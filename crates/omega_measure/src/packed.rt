@@ -1,5 +1,5 @@
 ghost use Rattle.std.specs.Prelude.{◌≡◌, ℕ, ◌+◌, ◌<◌, length};
-ghost use Rattle.omega_measure.specs.layout.Field.{last_field};
+ghost use Rattle.omega_measure.specs.private.layout.Field.{last_field};
 
 use crate::due::is_short;
 use crate::field::Field;
@@ -28,7 +28,7 @@ impl Model for PackedTable {
 
     ghost Value = { Content };
 
-    ghost use Rattle.omega_measure.specs.layout.Packed.{ArePackedRows, packed_content};
+    ghost use Rattle.omega_measure.specs.private.layout.Packed.{ArePackedRows, packed_content};
 
     ghost view = { λ s. packed_content s.shape s.fields.items s.size s.words.items };
 

@@ -23,8 +23,8 @@ impl Model for PlainTable {
 
     ghost Value = { Content };
 
-    ghost use Rattle.omega_measure.specs.layout.Plain.{content_of};
-    ghost use Rattle.omega_measure.specs.layout.Rows.{AreRows};
+    ghost use Rattle.omega_measure.specs.private.layout.Plain.{content_of};
+    ghost use Rattle.omega_measure.specs.private.layout.Rows.{AreRows};
 
     ghost view = { λ s. content_of s.shape s.tops.items s.entries.items };
 

@@ -1,7 +1,7 @@
 ghost use Rattle.std.specs.Prelude.{◌≡◌, ◌≢◌, ℕ, ◌+◌, ◌*◌, ◌<◌, ◌≤◌, false, true, Some, None, length, take, slice_index, slice_index_or, IsTrue, MatchOption};
 ghost use Rattle.omega_lift.specs.Least.{raised};
 ghost use Rattle.omega_measure.specs.Limits.{most_cells};
-ghost use Rattle.omega_measure.specs.layout.Rows.{AreAtLimits, IsLastBelow, WritesMeasure, WritesRow, allowance_of, allowed, compare_kept, measure_in, row_of};
+ghost use Rattle.omega_measure.specs.private.layout.Rows.{AreAtLimits, IsLastBelow, WritesMeasure, WritesRow, allowance_of, allowed, compare_kept, measure_in, row_of};
 
 use std::cmp::Ordering;
 

@@ -6,7 +6,7 @@ ghost use Rattle.omega_lift.specs.Least.{limits_of};
 ghost use Rattle.omega_lift.specs.Measure.{entries_from};
 ghost use Rattle.omega_measure.specs.Limits.{most_cells};
 ghost use Rattle.omega_measure.specs.Table.{IsPrepareRefusal, is_too_wide};
-ghost use Rattle.omega_measure.specs.layout.Shape.{width_of};
+ghost use Rattle.omega_measure.specs.private.layout.Shape.{width_of};
 
 use crate::cells::is_too_wide;
 use crate::kept::{count_from, kept_of};
@@ -27,7 +27,7 @@ pub(crate) struct Shape {
 }
 
 impl Model for Shape {
-    ghost use Rattle.omega_measure.specs.layout.Shape.{Borne, IsShape};
+    ghost use Rattle.omega_measure.specs.private.layout.Shape.{Borne, IsShape};
 
     ghost Value = { Borne };
 

@@ -1,4 +1,4 @@
--- What contracts of orders cite; what only their layout needs is in layout.
+-- What contracts of orders cite; in `private` what only private contracts cite.
 pub mod Ranking
 pub mod RankSet
-pub mod layout
+pub mod private

@@ -1,5 +1,5 @@
 -- What contracts of game texts and solution texts cite.
 pub mod Symbols
 pub mod game
-pub mod reader
 pub mod solution
+pub mod private

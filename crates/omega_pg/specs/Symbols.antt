@@ -1,5 +1,5 @@
 -- Tokens as grammars see them, and what makes a grammar a syntax of PGSolver's texts.
-use Rattle.std.specs.Prelude.{ℕ, List, map}
+use Rattle.std.specs.Prelude.{ℕ, List}
 use Rattle.omega_text.specs.Lexeme.{Lexeme}
 use Rattle.omega_text.specs.Syntax.{Syntax}
 use Rattle.omega_text.specs.pg.Format.{pg_format}
@@ -28,10 +28,6 @@ symbol Name value text = name (between_quotes text)
 -- the symbol of a token
 abbrev pub pg_symbol_of : Lexeme PgKind → PgSymbol
 pg_symbol_of lexeme = symbol lexeme.kind lexeme.value lexeme.text
-
--- the symbols of tokens
-abbrev pub symbols_of : List (Lexeme PgKind) → List PgSymbol
-symbols_of lexemes = map pg_symbol_of lexemes
 
 -- the syntax of PGSolver's texts that has this grammar
 abbrev pub pg_syntax : {Raw : Type 0} → (List PgSymbol → Raw → Type 0) → Syntax PgKind PgSymbol Raw

@@ -4,4 +4,3 @@ pub mod Grammar
 pub mod Laws
 pub mod Refusing
 pub mod Text
-pub mod reader

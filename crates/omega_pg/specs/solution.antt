@@ -5,4 +5,3 @@ pub mod Grammar
 pub mod Laws
 pub mod Refusing
 pub mod Text
-pub mod reader

@@ -6,11 +6,13 @@ use Rattle.omega_acc.specs.formula.Raw.{RawAccTree}
 use Rattle.omega_acc.specs.label.Raw.{RawLabelTree}
 use Rattle.omega_acc.specs.declared.formula.name.AccName.{AccName}
 use Rattle.omega_acc.specs.declared.formula.name.Parameter.{Parameter}
-use Rattle.omega_raw.specs.steps.Contents.{FindsContent, FindsNamed, FindsUnknown, GivesContent, GivesNamed, GivesUnknown}
-use Rattle.omega_raw.specs.Grammar.{IsRawItem, content_row, header_named, item_header, item_name}
-use Rattle.omega_raw.specs.steps.Parts.{EndsItem}
-use Rattle.omega_raw.specs.steps.Reading.{Found}
-use Rattle.omega_raw.specs.Symbols.{FirstIs, ReadsSymbols, AutomatonSymbol, Tokens}
+use Rattle.omega_raw.specs.private.steps.Contents.{FindsContent, FindsNamed, FindsUnknown, GivesContent, GivesNamed, GivesUnknown}
+use Rattle.omega_raw.specs.Grammar.{IsRawItem, content_row, header_named, item_name}
+use Rattle.omega_raw.specs.private.steps.Rows.{item_header}
+use Rattle.omega_raw.specs.private.steps.Parts.{EndsItem}
+use Rattle.omega_raw.specs.private.steps.Reading.{Found}
+use Rattle.omega_raw.specs.Symbols.{ReadsSymbols, AutomatonSymbol, Tokens}
+use Rattle.omega_raw.specs.private.steps.First.{FirstIs}
 use Rattle.omega_raw.specs.declared.header.name.HeaderKind.{HeaderKind}
 use Rattle.omega_raw.specs.declared.header.name.HeaderKind.TheVariants as named
 use Rattle.omega_raw.specs.declared.header_value.HeaderValue.{HeaderValue}

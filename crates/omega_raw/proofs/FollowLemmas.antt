@@ -3,11 +3,12 @@ use Rattle.std.proofs.Common.{◌≡◌, ℕ, true, List, [], ◌∷◌, Option,
 use Rattle.std.specs.Prelude.{IfSome}
 use Rattle.std.specs.List.{AllByRecursion}
 use Rattle.omega_raw.proofs.SpellingLemmas.{first_then}
-use Rattle.omega_raw.specs.steps.Beginnings.{edge_begun}
+use Rattle.omega_raw.specs.private.steps.Beginnings.{edge_begun}
 use Rattle.omega_raw.specs.Grammar.{IsConj, IsRawEdge, conj_row, each, edge_row, optional_row, sig_row}
-use Rattle.omega_raw.specs.steps.Parts.{EndsConj, EndsEdge, EndsItem, EndsState, is_and, is_brace, is_bracket, is_edge, is_identifier, is_parameter, is_string, is_value}
-use Rattle.omega_raw.specs.steps.Reading.{EndsList, IsAny, IsKind}
-use Rattle.omega_raw.specs.Symbols.{FirstIs, AutomatonSymbol}
+use Rattle.omega_raw.specs.private.steps.Parts.{EndsConj, EndsEdge, EndsItem, EndsState, is_and, is_brace, is_bracket, is_edge, is_identifier, is_parameter, is_string, is_value}
+use Rattle.omega_raw.specs.private.steps.Reading.{EndsList, IsAny, IsKind}
+use Rattle.omega_raw.specs.Symbols.{AutomatonSymbol}
+use Rattle.omega_raw.specs.private.steps.First.{FirstIs}
 use Rattle.omega_raw.specs.declared.raw_edge.RawEdge.{RawEdge}
 use Rattle.omega_text.specs.declared.hoa.kind.HoaKind.{HoaKind}
 use Rattle.omega_text.specs.declared.hoa.kind.HoaKind.TheVariants as kind

@@ -4,8 +4,9 @@ use Rattle.std.specs.Prelude.{IfOk, IfSome}
 use Rattle.std.specs.List.{AllByRecursion}
 use Rattle.omega_raw.proofs.SpellingLemmas.{first_then, next_clash, next_is, next_may}
 use Rattle.omega_raw.specs.Grammar.{each, optional_row}
-use Rattle.omega_raw.specs.steps.Reading.{EndsList, Given, NextIs, NextMayBe}
-use Rattle.omega_raw.specs.Symbols.{FirstIs, ReadsSymbols, AutomatonSymbol, Tokens}
+use Rattle.omega_raw.specs.private.steps.Reading.{EndsList, Given, NextIs, NextMayBe}
+use Rattle.omega_raw.specs.Symbols.{ReadsSymbols, AutomatonSymbol, Tokens}
+use Rattle.omega_raw.specs.private.steps.First.{FirstIs}
 use Rattle.omega_text.specs.declared.hoa.kind.HoaKind.{HoaKind}
 use Rattle.omega_text.specs.declared.refusal.Refusal.{Refusal}
 

@@ -5,9 +5,10 @@ use Rattle.std.specs.Prelude.{IfErr, IsErrAnd}
 use Rattle.omega_acc.specs.Depth.{IsMemory}
 use Rattle.omega_acc.specs.Symbols.{IsUnread}
 use Rattle.omega_raw.specs.Grammar.{IsConj, ReadsAutomaton, ReadsNoAutomaton, conj_row}
-use Rattle.omega_raw.specs.steps.Parts.{EndsConj}
-use Rattle.omega_raw.specs.steps.Reading.{Finds, Found, Given, IsReadingRefusal}
-use Rattle.omega_raw.specs.Symbols.{FirstIs, ReadsSymbols, AutomatonSymbol, Tokens}
+use Rattle.omega_raw.specs.private.steps.Parts.{EndsConj}
+use Rattle.omega_raw.specs.private.steps.Reading.{Finds, Found, Given, IsReadingRefusal}
+use Rattle.omega_raw.specs.Symbols.{ReadsSymbols, AutomatonSymbol, Tokens}
+use Rattle.omega_raw.specs.private.steps.First.{FirstIs}
 use Rattle.omega_raw.specs.declared.raw_automaton.RawAutomaton.{RawAutomaton}
 use Rattle.omega_raw.specs.declared.raw_edge.RawEdge.{RawEdge}
 use Rattle.omega_raw.specs.declared.raw_item.RawItem.{RawItem}

@@ -3,7 +3,6 @@
 use Rattle.std.specs.Prelude.{◌≡◌, ℕ, ◌<◌, Bool, true, false, Option, Some, None, List, [], ◌∷◌, codes, if◌then◌else◌, length}
 use Rattle.std.specs.List.{AllByRecursion}
 use Rattle.std.specs.Str.{bytes_eq}
-use Rattle.omega_acc.specs.formula.Raw.{RawAccTree}
 use Rattle.omega_acc.specs.label.Raw.{RawLabelTree}
 use Rattle.omega_acc.specs.declared.formula.name.Parameter.{Parameter}
 use Rattle.omega_acc.specs.declared.formula.name.Parameter.TheVariants as parameter
@@ -67,14 +66,6 @@ joined_row n others = sign kind.And ∷ number n ∷ others
 abbrev pub conj_row : List ℕ → List AutomatonSymbol → List AutomatonSymbol
 conj_row [] others = others
 conj_row (first ∷ more) others = number first ∷ each joined_row more others
-
--- label-expr
-abbrev pub expression_row : RawLabelTree → List AutomatonSymbol → List AutomatonSymbol
-expression_row tree others = label tree ∷ others
-
--- acc-expr
-abbrev pub formula_row : RawAccTree → List AutomatonSymbol → List AutomatonSymbol
-formula_row tree others = formula tree ∷ others
 
 -- label: `[` label-expr `]`
 abbrev pub label_row : RawLabelTree → List AutomatonSymbol → List AutomatonSymbol
@@ -142,19 +133,6 @@ header_named bytes =
     else (if bytes_eq bytes (codes "tool") then named.Tool
     else (if bytes_eq bytes (codes "name") then named.Name
     else (if bytes_eq bytes (codes "properties") then named.Properties else named.Unknown))))))))))
-
--- the header that an item is
-abbrev pub item_header : RawItem → HeaderKind
-item_header (item.States count) = named.States
-item_header (item.Start states) = named.Start
-item_header (item.Propositions count names) = named.Propositions
-item_header (item.Alias name definition) = named.Alias
-item_header (item.Acceptance count tree) = named.Acceptance
-item_header (item.AccName name) = named.AccName
-item_header (item.Tool first second) = named.Tool
-item_header (item.Name bytes) = named.Name
-item_header (item.Properties words) = named.Properties
-item_header (item.Unknown name values) = named.Unknown
 
 -- a conj can be written: it has a number
 abbrev pub IsConj : List ℕ → Type 0

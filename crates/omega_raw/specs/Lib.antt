@@ -1,6 +1,5 @@
--- What contracts cite: the grammar of automata and what it is written in; what its single steps read in `steps`.
+-- What contracts cite: the grammar of automata and what it is written in; in `private` what its single steps read.
 pub mod Grammar
 pub mod Laws
 pub mod Symbols
-pub mod layout
-pub mod steps
+pub mod private

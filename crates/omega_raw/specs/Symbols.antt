@@ -63,15 +63,3 @@ pub record Splits (Front Back : Tokens → Type 0) : Type 0 where
 abbrev pub ReadsSymbols : Tokens → List AutomatonSymbol → Tokens → Type 0
 ReadsSymbols tokens [] rest = tokens ≡ rest
 ReadsSymbols tokens (symbol ∷ others) rest = Splits (ReadsSymbol symbol tokens) (λ middle. ReadsSymbols middle others rest)
-
--- the first symbol is a token, and this holds of its kind
-abbrev pub FirstIs : (HoaKind → Type 0) → List AutomatonSymbol → Type 0
-FirstIs Holds [] = ⊥
-FirstIs Holds (number n ∷ others) = Holds kind.Int
-FirstIs Holds (word bytes ∷ others) = Holds kind.Identifier
-FirstIs Holds (header bytes ∷ others) = Holds kind.HeaderName
-FirstIs Holds (alias bytes ∷ others) = Holds kind.AliasName
-FirstIs Holds (text bytes ∷ others) = Holds kind.String
-FirstIs Holds (sign kind ∷ others) = Holds kind
-FirstIs Holds (label tree ∷ others) = ⊥
-FirstIs Holds (formula tree ∷ others) = ⊥

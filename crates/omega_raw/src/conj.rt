@@ -1,9 +1,9 @@
 ghost use Rattle.std.specs.Prelude.{◌≡◌, ◌∷◌, IfErr, IfOk, refl};
 ghost use Rattle.omega_acc.specs.Depth.{IsMemory};
 ghost use Rattle.omega_raw.specs.Grammar.{IsConj, conj_row, joined_row};
-ghost use Rattle.omega_raw.specs.steps.Parts.{EndsConj, is_and};
-ghost use Rattle.omega_raw.specs.Symbols.{FirstIs};
-ghost use Rattle.omega_raw.specs.steps.Reading.{Finds, GivesRow, IsAny, IsKind, IsReadingRefusal};
+ghost use Rattle.omega_raw.specs.private.steps.Parts.{EndsConj, is_and};
+ghost use Rattle.omega_raw.specs.private.steps.First.{FirstIs};
+ghost use Rattle.omega_raw.specs.private.steps.Reading.{Finds, GivesRow, IsAny, IsKind, IsReadingRefusal};
 
 use crate::part::{Part, read_numbers};
 use crate::taking::{take_int, take_sign};

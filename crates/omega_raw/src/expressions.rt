@@ -1,8 +1,8 @@
 //! The expressions that a text of an automaton holds.
 
 ghost use Rattle.std.specs.Prelude.{IfErr};
-ghost use Rattle.omega_raw.specs.Grammar.{formula_row, expression_row};
-ghost use Rattle.omega_raw.specs.steps.Reading.{Anything, Finds, GivesRow, IsAny, IsReadingRefusal};
+ghost use Rattle.omega_raw.specs.private.steps.Rows.{formula_row, expression_row};
+ghost use Rattle.omega_raw.specs.private.steps.Reading.{Anything, Finds, GivesRow, IsAny, IsReadingRefusal};
 
 use omega_acc::{RawAcc, RawLabel, formulas_are_one, labels_are_one, read_raw_acc, read_raw_label};
 use omega_text::{HoaKind, Refusal, TokenSource};

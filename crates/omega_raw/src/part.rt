@@ -1,8 +1,8 @@
 ghost use Rattle.std.specs.Prelude.{◌≡◌, All, IfErr, IfSome, MatchBool, true, false};
 ghost use Rattle.std.specs.List.{AllByRecursion};
 ghost use Rattle.omega_raw.specs.Grammar.{each, optional_row};
-ghost use Rattle.omega_raw.specs.Symbols.{FirstIs};
-ghost use Rattle.omega_raw.specs.steps.Reading.{EndsList, Finds, GivesRow, IsReadingRefusal, NextIs, NextMayBe};
+ghost use Rattle.omega_raw.specs.private.steps.First.{FirstIs};
+ghost use Rattle.omega_raw.specs.private.steps.Reading.{EndsList, Finds, GivesRow, IsReadingRefusal, NextIs, NextMayBe};
 
 use crate::raw_edge::RawEdge;
 use crate::raw_edges::RawEdges;

@@ -21,7 +21,7 @@ impl<'a> Model for RawEdgeRef<'a> {
 
     ghost coded = { Prim.hlevel (codes, raw_label.the_row.coded) };
 
-    ghost use Rattle.omega_raw.specs.layout.Edges.{referred};
+    ghost use Rattle.omega_raw.specs.private.layout.Edges.{referred};
 
     ghost view = { referred };
 }

@@ -1,5 +1,5 @@
 ghost use Rattle.std.specs.Prelude.{◌≡◌, ◌<◌, [], ◌∷◌, ◌++◌, IfOk, IfSome, OnErr, OnOk, length, map, slice_index_or};
-ghost use Rattle.omega_raw.specs.layout.Edges.{edges_in, lengthened};
+ghost use Rattle.omega_raw.specs.private.layout.Edges.{edges_in, lengthened};
 
 use crate::raw_edge::RawEdge;
 use crate::raw_edge_ref::RawEdgeRef;
@@ -47,7 +47,7 @@ impl Model for RawEdges {
 
     ghost coded = { Prim.hlevel (codes, raw_label.the_row.coded) };
 
-    ghost use Rattle.omega_raw.specs.layout.Edges.{held_edges};
+    ghost use Rattle.omega_raw.specs.private.layout.Edges.{held_edges};
 
     ghost view = { λ e. held_edges e.held };
 }

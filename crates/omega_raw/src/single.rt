@@ -1,9 +1,9 @@
 //! Parts that are one token.
 
 ghost use Rattle.omega_raw.specs.Grammar.{int_row, parameter_row, string_row, value_row, word_row};
-ghost use Rattle.omega_raw.specs.steps.Parts.{is_identifier, is_int, is_parameter, is_string, is_value};
-ghost use Rattle.omega_raw.specs.steps.Reading.{IsAny, IsKind};
-ghost use Rattle.omega_raw.specs.steps.Beginnings.{parameter_begun, value_begun};
+ghost use Rattle.omega_raw.specs.private.steps.Parts.{is_identifier, is_int, is_parameter, is_string, is_value};
+ghost use Rattle.omega_raw.specs.private.steps.Reading.{IsAny, IsKind};
+ghost use Rattle.omega_raw.specs.private.steps.Beginnings.{parameter_begun, value_begun};
 ghost use Rattle.std.specs.Prelude.{refl};
 
 use crate::header_value::HeaderValue;

@@ -4,7 +4,7 @@ ghost use Rattle.std.specs.Prelude.{◌≡◌, ◌∷◌, List, IfErr, IfNone, I
 ghost use Rattle.omega_acc.specs.Depth.{IsMemory};
 ghost use Rattle.omega_acc.specs.Symbols.{IsUnread};
 ghost use Rattle.omega_raw.specs.Grammar.{int_row, string_row, word_row};
-ghost use Rattle.omega_raw.specs.steps.Reading.{Anything, Finds, FoundThere, GivesRow, IsAny, IsReadingRefusal, NextIsNot};
+ghost use Rattle.omega_raw.specs.private.steps.Reading.{Anything, Finds, FoundThere, GivesRow, IsAny, IsReadingRefusal, NextIsNot};
 ghost use Rattle.omega_raw.specs.Symbols.{ReadsSymbols, AutomatonSymbol, Tokens, header, sign, without_last};
 ghost use Rattle.omega_text.specs.Forms.{between_quotes};
 ghost use Rattle.omega_text.specs.Lexeme.{lexeme_of};

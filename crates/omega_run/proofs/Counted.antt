@@ -19,7 +19,7 @@ use Rattle.omega_run.specs.declared.kinds.OfFile.TheVariants as file
 use Rattle.omega_run.specs.declared.kinds.OfStream.{OfStream}
 use Rattle.omega_run.specs.declared.kinds.OfStream.TheVariants as stream
 use Rattle.omega_run.specs.declared.kinds.OfText.{OfText}
-use Rattle.omega_run.specs.steps.Kinds.{of_file, of_kind, of_stream, of_text}
+use Rattle.omega_run.specs.private.steps.Kinds.{of_file, of_kind, of_stream, of_text}
 use Rattle.omega_run.specs.Progress.{AreProgressLines, CountsLines, CountsToldOfInput, CountsWritten, GoesOnByLine, LiftsInput}
 
 -- what holds of all holds of what a result gives

@@ -20,7 +20,7 @@ use Rattle.omega_run.specs.declared.kinds.OfFile.TheVariants as file
 use Rattle.omega_run.specs.declared.kinds.OfStream.{OfStream}
 use Rattle.omega_run.specs.declared.kinds.OfStream.TheVariants as stream
 use Rattle.omega_run.specs.declared.kinds.OfText.{OfText}
-use Rattle.omega_run.specs.steps.Kinds.{of_file, of_kind, of_stream, of_text}
+use Rattle.omega_run.specs.private.steps.Kinds.{of_file, of_kind, of_stream, of_text}
 
 -- the runs of a command stay made, whatever refuses it later but the budget
 pub input_refused : (command : Command) (unread_before unread_after : Option (List ℕ)) (refusal : Refusal) → refusal ≢ Task Budget

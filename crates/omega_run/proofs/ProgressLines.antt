@@ -11,7 +11,8 @@ use Rattle.omega_game.specs.Game.{Node}
 use Rattle.omega_budget.specs.Watching.{IsWatched, TellsEach, TellsRun, TellsRuns, most_of, progress}
 use Rattle.omega_budget.specs.declared.watching.Progress.{Progress}
 use Rattle.omega_io.specs.Writing.{Tells, WritesBeginning}
-use Rattle.omega_run.specs.Progress.{GoesOnByLine, HasTold, TellsLast, TellsOn, progress_line}
+use Rattle.omega_run.specs.Progress.{GoesOnByLine, HasTold, progress_line}
+use Rattle.omega_run.specs.private.steps.Telling.{TellsLast, TellsOn}
 
 -- ---- one text behind another
 

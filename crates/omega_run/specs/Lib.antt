@@ -1,4 +1,4 @@
--- What contracts of running commands and obeying command lines cite; in `steps` what private contracts alone cite.
+-- What contracts of running commands and obeying command lines cite; in `private` what private contracts alone cite.
 pub use Rattle.omega_command.specs.CommandLine
 pub use Rattle.omega_command.specs.Line
 pub use Rattle.omega_io.specs.Exit
@@ -10,4 +10,4 @@ pub mod Obey
 pub mod Progress
 pub mod Respond
 pub mod Run
-pub mod steps
+pub mod private

@@ -1,5 +1,5 @@
 -- What standard error is told of runs that lift, while they last, and that the answer counts the lifts it is told of.
-use Rattle.std.specs.Prelude.{◌≡◌, ◌++◌, ◌-◌, ◌^◌, ◌<◌, ◌≤◌, List, [], Option, Result, Ok, Err, ℕ, codes, decimal}
+use Rattle.std.specs.Prelude.{◌≡◌, ◌++◌, ◌≤◌, List, [], Option, Result, Ok, Err, ℕ, codes, decimal}
 use Rattle.std.specs.Io.KnownBytes.{Appends}
 use Rattle.omega_text.specs.declared.refusal.Refusal.{Refusal}
 use Rattle.omega_game.specs.declared.player.Player.{Player}
@@ -60,18 +60,6 @@ abbrev pub CountsLines : Command → Result Exit Refusal → (every budget : ℕ
 CountsLines command (Ok exit) every budget unread_before unread_after held_before held_after lines =
     CountsWritten GoesOnByLine every command budget unread_before unread_after held_before held_after [] lines
 CountsLines command (Err refusal) every budget unread_before unread_after held_before held_after lines = Unit {0}
-
--- the output took more of a text of which it took so much before: nothing, where a write of that failed;
--- a failed write breaks it off
-pub record TellsOn (sound : ℕ) (before after : Option (List ℕ)) (failed_before failed_after : ℕ) (text : List ℕ) : Type 0 where
-  pub counted : failed_before ≤ failed_after
-  pub told : failed_before ≡ sound → sound < 2 ^ 64 - 1 → Tells before after failed_before failed_after text
-  pub silent : sound < failed_before → (after ≡ before) × (failed_after ≡ failed_before)
-
--- the same of the last that is told
-pub record TellsLast (sound : ℕ) (before after : Option (List ℕ)) (failed_before failed_after : ℕ) (text : List ℕ) : Type 0 where
-  pub told : failed_before ≡ sound → Tells before after failed_before failed_after text
-  pub silent : sound < failed_before → (after ≡ before) × (failed_after ≡ failed_before)
 
 -- the output took the text, or where one of its writes failed, a beginning of it
 pub record HasTold (before after : Option (List ℕ)) (failed_before failed_after : ℕ) (text : List ℕ) : Type 0 where

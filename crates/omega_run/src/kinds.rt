@@ -1,8 +1,8 @@
 ghost use Rattle.std.specs.Prelude.{◌≡◌};
-ghost use Rattle.omega_run.specs.steps.Kinds.{of_kind};
+ghost use Rattle.omega_run.specs.private.steps.Kinds.{of_kind};
 
-use omega_game::Player;
 use omega_command::{Command, Format};
+use omega_game::Player;
 use omega_text::Seq;
 
 /// A command, told apart by what it reads.

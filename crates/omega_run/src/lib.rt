@@ -12,9 +12,9 @@ mod watching;
 pub use laws::budgets_are_of_solvers;
 pub use obeying::obey;
 pub use omega_budget::{Progress, Unwatched, Watch};
+pub use omega_command::{Command, Format, Line, Player, Seq};
 pub use omega_io::{
     Exit, FromRead, GameFiles, HostFiles, Input, Output, Refusal, ToWrite, exit_code, refusal_line,
 };
-pub use omega_command::{Command, Format, Line, Player, Seq};
 pub use run::run_command;
 pub use watching::run_watched;

@@ -3,15 +3,15 @@ ghost use Rattle.omega_command.specs.Line.{IsRunnable};
 ghost use Rattle.omega_command.specs.declared.command.Command.TheVariants as command;
 ghost use Rattle.omega_run.specs.Obey.{IsObeyed, PerformsWithFile, Prints, Reports, streams};
 ghost use Rattle.omega_io.specs.Writing.{Tells};
-ghost use Rattle.omega_run.specs.Progress.{TellsLast};
+ghost use Rattle.omega_run.specs.private.steps.Telling.{TellsLast};
 
 use crate::run::run_command;
 use crate::watching::run_watched;
 use omega_budget::{LIFTS_BETWEEN_REPORTS, Unwatched};
+use omega_command::{Command, Line};
 use omega_io::{
     Exit, GameFiles, Input, Output, Refusal, exit_code, refusal_line, tell, write_text,
 };
-use omega_command::{Command, Line};
 use omega_solve::MOST_LIFTS;
 use omega_text::Seq;
 use std::alloc::Global;

@@ -1,6 +1,7 @@
 //! How far runs have come, told in lines on standard error.
 ghost use Rattle.std.specs.Prelude.{◌≡◌, ◌++◌, ◌-◌, ◌^◌, ◌<◌, ◌≤◌, ℕ, max, codes, decimal};
-ghost use Rattle.omega_run.specs.Progress.{TellsOn, progress_line};
+ghost use Rattle.omega_run.specs.Progress.{progress_line};
+ghost use Rattle.omega_run.specs.private.steps.Telling.{TellsOn};
 
 use itoa::Buffer;
 use omega_budget::{Progress, Watch};

@@ -5,7 +5,7 @@ ghost use Rattle.omega_budget.specs.Watching.{IsWatched, refusal_in};
 ghost use Rattle.omega_solve.specs.Limits.{most_lifts};
 ghost use Rattle.omega_run.specs.Progress.{CountsToldOfInput, LiftsInput};
 ghost use Rattle.omega_run.specs.Respond.{Answers, IsRunRefusal, Responds, asked_for};
-ghost use Rattle.omega_run.specs.steps.Kinds.{of_text};
+ghost use Rattle.omega_run.specs.private.steps.Kinds.{of_text};
 ghost use Rattle.omega_io.specs.Failures.{failures_of};
 ghost use Rattle.omega_io.specs.Reading.{IsRead};
 ghost use Rattle.omega_io.specs.declared.exit.Exit.TheVariants.{Done};
@@ -16,13 +16,13 @@ use omega_automaton_answers::{
     search_emptiness, show_stream, write_emptiness_game,
 };
 use omega_budget::Watch;
+use omega_command::Command;
 use omega_game::Player;
 use omega_game_answers::{
     Asked, canon_game, canon_part, check_game, draw_game_text, draw_solution_text, show_game,
     solve_game, verify_solution,
 };
 use omega_io::{Exit, Input, Refusal, read_all};
-use omega_command::Command;
 use std::alloc::Global;
 
 /// Reads what a command needs, and makes its whole answer in memory, with how it ends. Each command reads for itself,

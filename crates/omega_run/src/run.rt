@@ -9,8 +9,8 @@ ghost use Rattle.omega_io.specs.Failures.{failures_of};
 
 use crate::respond::respond;
 use omega_budget::Watch;
-use omega_io::{Exit, Input, Output, Refusal, write_text};
 use omega_command::Command;
+use omega_io::{Exit, Input, Output, Refusal, write_text};
 use std::alloc::Global;
 
 /// Reads what the command needs, makes its whole answer in memory, and then writes it. Each run of a solver makes at

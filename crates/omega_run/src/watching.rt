@@ -7,8 +7,8 @@ ghost use Rattle.omega_solve.specs.Limits.{most_lifts};
 
 use crate::progress::ProgressLines;
 use crate::run::run_command;
-use omega_io::{Exit, Input, Output, Refusal};
 use omega_command::Command;
+use omega_io::{Exit, Input, Output, Refusal};
 use std::alloc::Global;
 
 /// Runs a command as `run_command` does, and tells in lines on standard error how far its runs have come, after so many

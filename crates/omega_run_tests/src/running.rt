@@ -3,8 +3,8 @@ ghost use Rattle.std.specs.Prelude.{◌≡◌, IfOk};
 ghost use Rattle.omega_command.specs.Line.{IsRunnable};
 
 use crate::portions::{Filling, Portions};
-use omega_words::read_words;
 use omega_run::{FromRead, GameFiles, Input, Line, Output, Refusal, ToWrite, obey};
+use omega_words::read_words;
 use std::alloc::{AllocError, Global};
 use std::test::Fail;
 

@@ -7,7 +7,7 @@ use Rattle.omega_game.specs.Game.{Node, IsGame}
 use Rattle.omega_game.specs.Solution.{IsExactSolution, choices_of, winner_at}
 use Rattle.omega_game.specs.Winning.{InRegion}
 use Rattle.omega_region.specs.Laws.{RegionsAreApart}
-use Rattle.omega_search.specs.judging.Judging.{ChoosesWhereWon, IsAcceptedFor}
+use Rattle.omega_search.specs.private.judging.Judging.{ChoosesWhereWon, IsAcceptedFor}
 
 -- a player is one of two
 one_of_two : (player : Player) → (player ≡ Zero) ⊎ (player ≡ One)

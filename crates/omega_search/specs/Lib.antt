@@ -2,4 +2,4 @@
 pub use Rattle.omega_game.specs.Game
 pub use Rattle.omega_game.specs.Solution
 pub use Rattle.omega_game.specs.Winning
-pub mod judging
+pub mod private

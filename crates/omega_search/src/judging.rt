@@ -4,7 +4,7 @@
 ghost use Rattle.std.specs.Prelude.{◌≡◌, ◌<◌, ◌^◌, length, IfOk, IfSome, IsOkUnless, IsTrue};
 ghost use Rattle.omega_game.specs.Solution.{IsExactSolution, WinsGiven, choices_of};
 ghost use Rattle.omega_game.specs.Winning.{IsStrategy};
-ghost use Rattle.omega_search.specs.judging.Judging.{ChoosesWhereWon, IsAcceptedFor};
+ghost use Rattle.omega_search.specs.private.judging.Judging.{ChoosesWhereWon, IsAcceptedFor};
 
 use omega_game::{Game, Player, Refusal, Seq, Solution, Strategy, check_strategy_by_order};
 use omega_region::regions_are_apart;

@@ -1,4 +1,4 @@
--- What contracts of the solver cite: its promises first, and behind them what only private contracts cite.
+-- What contracts of the solver cite: its promises; in `private` what only private contracts cite.
 pub use Rattle.omega_game.specs.Game
 pub use Rattle.omega_game.specs.Winning
 pub use Rattle.omega_game.specs.Bound
@@ -15,5 +15,4 @@ pub mod Schedule
 pub mod Solver
 pub mod Headline
 pub mod Determinacy
-pub mod solving
-pub mod schedules
+pub mod private

@@ -1,5 +1,5 @@
 -- What every schedule keeps: which places are pending, and the number of takes.
-use Rattle.std.specs.Prelude.{◌≡◌, ℕ, ◌+◌, ◌<◌, Bool, true, false, List, count_by, length, replicate, slice_get, slice_set, Some}
+use Rattle.std.specs.Prelude.{◌≡◌, ℕ, ◌+◌, ◌<◌, Bool, true, false, List, length, replicate, slice_get, slice_set, Some}
 
 -- what a schedule keeps: for each place whether it is pending, and how many takes were made so far
 pub record Pending : Type 0 where
@@ -29,7 +29,3 @@ with_taken_again pending = record pending { taken = pending.taken + 1 }
 -- with a place made pending, if it is not
 abbrev pub with_added : Pending → ℕ → Pending
 with_added pending place = record pending { flags = slice_set pending.flags place true }
-
--- how many places are pending
-abbrev pub waits : Pending → ℕ
-waits pending = count_by (λ flag. flag) pending.flags

@@ -2,7 +2,7 @@ ghost use Rattle.std.specs.Prelude.{◌≡◌, length};
 ghost use Rattle.omega_game.specs.Game.{IsGame, IsWithinLimits};
 ghost use Rattle.omega_lift.specs.Answer.{AreChoices, won_in};
 ghost use Rattle.omega_lift.specs.Run.{IsStable};
-ghost use Rattle.omega_solve.specs.solving.Successor.{IsTableOf};
+ghost use Rattle.omega_solve.specs.private.solving.Successor.{IsTableOf};
 
 use crate::successor::chosen_successor;
 use omega_measure::{Game, MeasureTable, Player};

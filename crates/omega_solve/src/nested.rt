@@ -1,6 +1,6 @@
 ghost use Rattle.std.specs.Prelude.{◌≡◌, ◌<◌, ◌^◌, length, false, IfOk, IfSome, IsOkUnless, MatchOption};
 ghost use Rattle.omega_order.specs.RankSet.{is_set};
-ghost use Rattle.omega_solve.specs.schedules.Nested.{HasBits, IsEmpty, IsPlaceAt, IsSomeRank};
+ghost use Rattle.omega_solve.specs.private.schedules.Nested.{HasBits, IsEmpty, IsPlaceAt, IsSomeRank};
 
 use crate::schedule::Schedule;
 use omega_measure::{Game, Refusal};
@@ -29,7 +29,7 @@ pub struct Nested {
 
 impl Model for Nested {
     ghost use Rattle.omega_solve.specs.Schedule.{Pending};
-    ghost use Rattle.omega_solve.specs.schedules.Nested.{flags_of, IsNested};
+    ghost use Rattle.omega_solve.specs.private.schedules.Nested.{flags_of, IsNested};
 
     ghost Value = { Pending };
 

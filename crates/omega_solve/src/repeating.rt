@@ -1,7 +1,7 @@
 ghost use Rattle.std.specs.Prelude.{◌≡◌, ◌+◌, ◌-◌, ◌^◌, ◌<◌, ◌≤◌, length, IsTrue, MatchBool};
 ghost use Rattle.omega_game.specs.Game.{HasEdge, IsGame};
-ghost use Rattle.omega_solve.specs.solving.Repeating.{LiftsAgain};
-ghost use Rattle.omega_solve.specs.solving.Successor.{IsTableOf};
+ghost use Rattle.omega_solve.specs.private.solving.Repeating.{LiftsAgain};
+ghost use Rattle.omega_solve.specs.private.solving.Successor.{IsTableOf};
 
 use crate::schedule::Schedule;
 use crate::successor::due_towards;

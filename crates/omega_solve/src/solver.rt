@@ -36,7 +36,7 @@ pub struct Solver<'g, T: MeasureTable, S: Schedule> {
 
 impl<'g, T: MeasureTable, S: Schedule> Model for Solver<'g, T, S> {
     ghost use Rattle.omega_solve.specs.Solver.{SolverState, solver_state};
-    ghost use Rattle.omega_solve.specs.solving.Progress.{IsSolver};
+    ghost use Rattle.omega_solve.specs.private.solving.Progress.{IsSolver};
 
     ghost Value = { SolverState };
 
@@ -51,8 +51,8 @@ impl<'g, T: MeasureTable, S: Schedule> Solver<'g, T, S> {
     ghost use Rattle.omega_solve.specs.declared.outcome.Outcome.TheVariants.{Done};
     ghost use Rattle.omega_solve.specs.Headline.{IsExact, Runs};
     ghost use Rattle.omega_solve.specs.Schedule.{IsIdle, IsPending, all_pending, with_taken};
-    ghost use Rattle.omega_solve.specs.solving.Successor.{IsDueTowards};
-    ghost use Rattle.omega_solve.specs.solving.Progress.{IsLifted};
+    ghost use Rattle.omega_solve.specs.private.solving.Successor.{IsDueTowards};
+    ghost use Rattle.omega_solve.specs.private.solving.Progress.{IsLifted};
     ghost use Rattle.omega_solve.specs.Solver.{IsFinished, IsReached, attempt_bound, lift_bound};
 
     /// A solver with every measure 0 and all places pending, in an order that suits the game where the schedule has

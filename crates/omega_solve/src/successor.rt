@@ -2,7 +2,7 @@ ghost use Rattle.std.specs.Prelude.{◌≡◌, ◌≢◌, ◌↔◌, ◌<◌, �
 ghost use Rattle.std.specs.declared.cmp.Ordering.TheVariants.{Equal};
 ghost use Rattle.omega_game.specs.Game.{IsGame, owner_at, priorities, priority_at, successors_at};
 ghost use Rattle.omega_lift.specs.Run.{IsDue};
-ghost use Rattle.omega_solve.specs.solving.Successor.{ExceedsToAll, IsChoiceAt, IsDueTowards, IsFirstBest, IsTableOf, KeepsToSome, order_from};
+ghost use Rattle.omega_solve.specs.private.solving.Successor.{ExceedsToAll, IsChoiceAt, IsDueTowards, IsFirstBest, IsTableOf, KeepsToSome, order_from};
 
 use omega_lift::{
     allowances_are_monotone, allowances_are_strict, allowances_exist, measures_are_ordered,

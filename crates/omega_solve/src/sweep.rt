@@ -21,7 +21,7 @@ pub struct Sweep {
 
 impl Model for Sweep {
     ghost use Rattle.omega_solve.specs.Schedule.{Pending};
-    ghost use Rattle.omega_solve.specs.schedules.Sweep.{IsSweep};
+    ghost use Rattle.omega_solve.specs.private.schedules.Sweep.{IsSweep};
 
     ghost Value = { Pending };
 

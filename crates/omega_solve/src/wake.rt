@@ -1,6 +1,6 @@
 ghost use Rattle.std.specs.Prelude.{◌≡◌, ◌<◌, length};
 ghost use Rattle.omega_game.specs.Game.{predecessors_of};
-ghost use Rattle.omega_solve.specs.solving.Wake.{Wakes};
+ghost use Rattle.omega_solve.specs.private.solving.Wake.{Wakes};
 
 use crate::schedule::Schedule;
 use omega_measure::{Game, MeasureTable};

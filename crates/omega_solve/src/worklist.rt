@@ -1,5 +1,5 @@
 ghost use Rattle.std.specs.Prelude.{◌≡◌, ℕ, ◌+◌, ◌<◌, ◌≤◌, length};
-ghost use Rattle.omega_solve.specs.schedules.Worklist.{ClosesGap, queued, slot_of};
+ghost use Rattle.omega_solve.specs.private.schedules.Worklist.{ClosesGap, queued, slot_of};
 
 use crate::schedule::Schedule;
 use omega_measure::Refusal;
@@ -23,7 +23,7 @@ pub struct Worklist {
 impl Model for Worklist {
     ghost use Rattle.omega_solve.specs.Schedule.{Pending};
     ghost use Rattle.std.specs.List.{range_with_len};
-    ghost use Rattle.omega_solve.specs.schedules.Worklist.{IsWorklist};
+    ghost use Rattle.omega_solve.specs.private.schedules.Worklist.{IsWorklist};
 
     ghost Value = { Pending };
 

@@ -18,7 +18,7 @@ use Rattle.omega_hoa.specs.declared.item.Item.{Item}
 use Rattle.omega_hoa.specs.declared.item.Item.TheVariants.{Aborted, Automaton}
 use Rattle.omega_hoa.proofs.Wholes.{errors_are_one}
 use Rattle.omega_stream_reading.specs.Telling.{IsTelling, texts_from}
-use Rattle.omega_stream_reading.specs.steps.Following.{AreRefusedBy, TellsItems}
+use Rattle.omega_stream_reading.specs.private.steps.Following.{AreRefusedBy, TellsItems}
 
 -- the texts of items with others behind them
 pub texts_from-append : (text : ℕ → Item → List ℕ) (number : ℕ) (items more : List Item)

@@ -12,7 +12,7 @@ use Rattle.omega_io.specs.Reading.{IsRead, ReadsText}
 use Rattle.omega_hoa.specs.Stream.{IsStreamRefusal}
 use Rattle.omega_hoa.specs.declared.item.Item.{Item}
 use Rattle.omega_stream_reading.specs.declared.telling.Telling.{Telling}
-use Rattle.omega_stream_reading.specs.steps.Following.{FollowsTelling}
+use Rattle.omega_stream_reading.specs.private.steps.Following.{FollowsTelling}
 
 -- so many bytes were read, and within the limit, followed
 pub record IsReading (text : ℕ → Item → List ℕ) (before now : Option (List ℕ)) (total : ℕ) (telling : Telling) : Type 0 where

@@ -1,3 +1,3 @@
--- What contracts cite: what is told of a stream; in `steps` what private contracts alone cite.
+-- What contracts cite: what is told of a stream; in `private` what private contracts alone cite.
 pub mod Telling
-pub mod steps
+pub mod private

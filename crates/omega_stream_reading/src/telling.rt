@@ -3,7 +3,7 @@ ghost use Rattle.omega_text.specs.Limits.{most_text};
 ghost use Rattle.omega_text.specs.declared.refusal.Refusal.TheVariants.{Memory};
 ghost use Rattle.omega_hoa.specs.Stream.{IsStreamRefusal};
 ghost use Rattle.omega_stream_reading.specs.Telling.{IsTelling, texts_from};
-ghost use Rattle.omega_stream_reading.specs.steps.Following.{FollowsTelling, FollowsSome};
+ghost use Rattle.omega_stream_reading.specs.private.steps.Following.{FollowsTelling, FollowsSome};
 
 use crate::item_text::ItemText;
 use omega_hoa::{Item, Stream};

@@ -1,19 +1,15 @@
 -- What contracts cite: refusals and limits, then tokens, texts and how they are read; of PGSolver's texts in `pg`.
-pub mod ByteString
 pub mod Bytes
 pub mod Cases
 pub mod Cursor
 pub mod Cut
 pub mod Format
 pub mod Forms
-pub mod Left
 pub mod Lexeme
 pub mod Limits
-pub mod Marks
-pub mod Numbers
 pub mod Reading
 pub mod Refusal
 pub mod Syntax
 pub mod hoa
 pub mod pg
-pub mod reader
+pub mod private

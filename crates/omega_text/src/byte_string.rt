@@ -1,5 +1,5 @@
 ghost use Rattle.std.specs.Prelude.{◌≡◌, ◌≤◌, [], length, IfOk};
-ghost use Rattle.omega_text.specs.ByteString.{bytes_in, fits_in_place};
+ghost use Rattle.omega_text.specs.private.ByteString.{bytes_in, fits_in_place};
 
 use std::alloc::{AllocError, Global};
 use std::marker::Model;
@@ -30,7 +30,7 @@ const _: () = prove!(std::mem::size_of::<ByteString>() <= 16);
 
 impl Model for ByteString {
     ghost use Rattle.std.specs.Prelude.{List, ℕ};
-    ghost use Rattle.omega_text.specs.ByteString.{bytes_in, fits_in_place};
+    ghost use Rattle.omega_text.specs.private.ByteString.{bytes_in, fits_in_place};
 
     ghost Value = { List ℕ };
 

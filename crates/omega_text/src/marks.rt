@@ -26,7 +26,7 @@ const _: () = prove!(std::mem::size_of::<Marks>() <= 16);
 
 impl Model for Marks {
     ghost use Rattle.std.specs.Prelude.{List, Option, ℕ};
-    ghost use Rattle.omega_text.specs.Marks.{fits, marks_in};
+    ghost use Rattle.omega_text.specs.private.Marks.{fits, marks_in};
 
     ghost Value = { Option (List ℕ) };
 

@@ -1,5 +1,5 @@
 ghost use Rattle.std.specs.Prelude.{◌≡◌, ◌≤◌, [], ◌∷◌, ◌++◌, length, take, IfOk, OnErr, OnOk};
-ghost use Rattle.omega_text.specs.Numbers.{fits_in_place, numbers_in};
+ghost use Rattle.omega_text.specs.private.Numbers.{fits_in_place, numbers_in};
 
 use std::alloc::{AllocError, Global};
 use std::marker::Model;
@@ -28,7 +28,7 @@ pub(crate) enum Held {
 
 impl Model for Numbers {
     ghost use Rattle.std.specs.Prelude.{List, ℕ};
-    ghost use Rattle.omega_text.specs.Numbers.{fits_in_place, numbers_in};
+    ghost use Rattle.omega_text.specs.private.Numbers.{fits_in_place, numbers_in};
 
     ghost Value = { List ℕ };
 

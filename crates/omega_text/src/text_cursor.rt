@@ -1,7 +1,7 @@
 ghost use Rattle.std.specs.Prelude.{◌≡◌, ◌≤◌, List, Some, drop, length, option_map, IfSome};
 ghost use Rattle.omega_text.specs.Cursor.{next_place};
 ghost use Rattle.omega_text.specs.Cut.{IsCut};
-ghost use Rattle.omega_text.specs.Left.{IsAllLeft, IsRestOfText, Left, Left-prop, next_of};
+ghost use Rattle.omega_text.specs.private.Left.{IsAllLeft, IsRestOfText, Left, Left-prop, next_of};
 ghost use Rattle.omega_text.specs.Lexeme.{Lexeme, lexeme_of};
 
 use crate::token::{Span, Token};

@@ -1,5 +1,5 @@
 ghost use Rattle.std.specs.Prelude.{[], IfErr, IfOk};
-ghost use Rattle.omega_text.specs.reader.Taking.{IsReadWhole, IsTokenRefusal};
+ghost use Rattle.omega_text.specs.private.reader.Taking.{IsReadWhole, IsTokenRefusal};
 
 use crate::refusal::{Refusal, TextFault};
 use crate::token::Token;

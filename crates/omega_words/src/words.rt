@@ -9,8 +9,8 @@ ghost use Rattle.omega_command.specs.Line.{IsRunnable};
 use crate::found::options_in;
 use clap::error::ErrorKind;
 use clap::{ArgMatches, Error};
-use omega_help::matches_of;
 use omega_command::{Line, Mistake, line_for};
+use omega_help::matches_of;
 use omega_text::Refusal;
 use std::alloc::Global;
 

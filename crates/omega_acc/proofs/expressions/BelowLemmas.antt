@@ -6,10 +6,10 @@ use Rattle.omega_acc.specs.formula.Meaning.{acc_sets}
 use Rattle.omega_acc.specs.formula.Raw.{RawAccTree}
 use Rattle.omega_acc.specs.formula.Raw as acc
 use Rattle.omega_acc.specs.label.Raw.{RawLabelTree, alias, conjunction, constant, disjunction, group, negation, proposition, raw_propositions}
-use Rattle.omega_acc.specs.layout.formula.Plain.{set_below}
-use Rattle.omega_acc.specs.layout.label.Propositions.{proposition_below}
-use Rattle.omega_acc.specs.layout.formula.Raw.{raw_acc_postfix}
-use Rattle.omega_acc.specs.layout.label.Raw.{raw_postfix}
+use Rattle.omega_acc.specs.private.layout.formula.Plain.{set_below}
+use Rattle.omega_acc.specs.private.layout.label.Propositions.{proposition_below}
+use Rattle.omega_acc.specs.private.layout.formula.Raw.{raw_acc_postfix}
+use Rattle.omega_acc.specs.private.layout.label.Raw.{raw_postfix}
 use Rattle.omega_acc.specs.declared.formula.raw.RawAccNode.TheVariants as acc_node
 use Rattle.omega_acc.specs.declared.label.LabelNode.TheVariants.{And, Group, Not, Or}
 

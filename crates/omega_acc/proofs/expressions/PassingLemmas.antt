@@ -2,7 +2,7 @@
 use Rattle.std.proofs.Common.{◌≡◌, List, [], ◌∷◌, ◌++◌, map, ap, append_assoc, refl, sym, ◌∙◌, subst, Result, Ok, Err, IfErr, IsErrAnd}
 use Rattle.std.proofs.lemmas.List.{map-append}
 use Rattle.omega_acc.specs.Symbols.{EndsThere, IsNoOperator, IsUnread, ExpressionSymbol, expression_symbol_of}
-use Rattle.omega_acc.specs.layout.Passing.{NextIsNot, Passed}
+use Rattle.omega_acc.specs.private.layout.Passing.{NextIsNot, Passed}
 use Rattle.omega_text.specs.Lexeme.{Lexeme}
 use Rattle.omega_text.specs.declared.hoa.kind.HoaKind.{HoaKind}
 use Rattle.omega_text.specs.declared.hoa.kind.HoaKind.TheVariants as kind

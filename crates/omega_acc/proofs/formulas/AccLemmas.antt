@@ -2,7 +2,7 @@
 use Rattle.std.proofs.Common.{◌≡◌, ℕ, ◌≤◌, List, [], ◌∷◌, ◌++◌, ap, append_assoc, sym, ◌∙◌}
 use Rattle.omega_acc.specs.formula.Acceptance.{AccTree, acc_depth, conjunction, disjunction}
 use Rattle.omega_acc.specs.Limits.{most_depth}
-use Rattle.omega_acc.specs.layout.formula.Acceptance.{IsAcc, acc_postfix, acc_tree_of, acc_tree_of-postfix}
+use Rattle.omega_acc.specs.private.layout.formula.Acceptance.{IsAcc, acc_postfix, acc_tree_of, acc_tree_of-postfix}
 use Rattle.omega_acc.specs.declared.formula.AccNode.{AccNode}
 use Rattle.omega_acc.specs.declared.formula.AccNode.TheVariants.{And, Or}
 

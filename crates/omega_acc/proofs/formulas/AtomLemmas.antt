@@ -2,8 +2,8 @@
 use Rattle.std.proofs.Common.{◌≡◌, ℕ, ◌<◌, Bool, true, false, List, [], ◌∷◌, MatchBool, length, ap, refl, sym, ◌∙◌, subst, arith}
 use Rattle.std.proofs.lemmas.List.{length-append, length-map}
 use Rattle.omega_acc.specs.Symbols.{ExpressionSymbol, number, seen_as, sign, expression_symbol_of}
-use Rattle.omega_acc.specs.layout.formula.States.{IsStuck, PassesSet, barred, entered, named, numbered}
-use Rattle.omega_acc.specs.layout.Passing.{NextIsNot, Passed, PassesNumber, PassesOne}
+use Rattle.omega_acc.specs.private.layout.formula.States.{IsStuck, PassesSet, barred, entered, named, numbered}
+use Rattle.omega_acc.specs.private.layout.Passing.{NextIsNot, Passed, PassesNumber, PassesOne}
 use Rattle.omega_acc.proofs.formulas.Unread.{IsStuck-barred, IsStuck-behind, IsStuck-entered, IsStuck-numbered}
 use Rattle.omega_acc.proofs.expressions.PassingLemmas.{passed_then}
 use Rattle.omega_text.specs.Lexeme.{Lexeme}

@@ -3,8 +3,8 @@ use Rattle.std.proofs.Common.{◌≡◌, ◌↔◌, ℕ, suc, Bool, true, false,
 use Rattle.std.proofs.lemmas.List.{append_cancel_right}
 use Rattle.omega_acc.specs.formula.Acceptance.{AccTree, conjunction, disjunction, fin, inf}
 use Rattle.omega_acc.specs.formula.Kind.{buchi_formula, first_left, formula_of, has_parity, sets_left}
-use Rattle.omega_acc.specs.layout.formula.Acceptance.{acc_postfix}
-use Rattle.omega_acc.specs.layout.formula.Chain.{atom_node, joining_node}
+use Rattle.omega_acc.specs.private.layout.formula.Acceptance.{acc_postfix}
+use Rattle.omega_acc.specs.private.layout.formula.Chain.{atom_node, joining_node}
 use Rattle.omega_acc.specs.declared.formula.AccNode.{AccNode}
 use Rattle.omega_acc.specs.declared.formula.AccNode.TheVariants.{And, Fin, Inf, Or}
 use Rattle.omega_acc.specs.declared.formula.kind.Order.{Order}

@@ -11,10 +11,10 @@ use Rattle.omega_acc.specs.formula.Acceptance.{AccTree, acc_depth}
 use Rattle.omega_acc.specs.formula.Acceptance as acc
 use Rattle.omega_acc.specs.Depth.{counted}
 use Rattle.omega_acc.specs.formula.Raw.{RawAccTree, atom, conjunction, constant, disjunction, group, raw_acc_depth}
-use Rattle.omega_acc.specs.layout.formula.Acceptance.{IsAcc, acc_postfix, acc_tree_of}
-use Rattle.omega_acc.specs.layout.Joins.{regrouped}
-use Rattle.omega_acc.specs.layout.formula.Plain.{alone, atom_plain, behind_nodes, depths_behind, plain_nodes, top_depth}
-use Rattle.omega_acc.specs.layout.formula.Raw.{atom_names, raw_acc_postfix}
+use Rattle.omega_acc.specs.private.layout.formula.Acceptance.{IsAcc, acc_postfix, acc_tree_of}
+use Rattle.omega_acc.specs.private.layout.Joins.{regrouped}
+use Rattle.omega_acc.specs.private.layout.formula.Plain.{alone, atom_plain, behind_nodes, depths_behind, plain_nodes, top_depth}
+use Rattle.omega_acc.specs.private.layout.formula.Raw.{atom_names, raw_acc_postfix}
 use Rattle.omega_acc.specs.declared.formula.AccNode.{AccNode}
 use Rattle.omega_acc.specs.declared.formula.AccNode.TheVariants as plain
 use Rattle.omega_acc.specs.declared.formula.raw.RawAccNode.{RawAccNode}

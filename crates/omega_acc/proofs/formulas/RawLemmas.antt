@@ -2,8 +2,8 @@
 use Rattle.std.proofs.Common.{◌≡◌, ℕ, List, [], ◌∷◌, ◌++◌, ap, append_assoc, sym, ◌∙◌, ◌+◌, max, refl}
 use Rattle.omega_acc.specs.formula.Raw.{RawAccTree, conjunction, disjunction, group, raw_acc_depth}
 use Rattle.omega_acc.specs.Depth.{counted}
-use Rattle.omega_acc.specs.layout.formula.Raw.{IsRawAcc, atom_names, raw_acc_postfix, raw_acc_tree_of, raw_acc_tree_of-postfix}
-use Rattle.omega_acc.specs.layout.formula.Joining.{IsJoining, joined_by}
+use Rattle.omega_acc.specs.private.layout.formula.Raw.{IsRawAcc, atom_names, raw_acc_postfix, raw_acc_tree_of, raw_acc_tree_of-postfix}
+use Rattle.omega_acc.specs.private.layout.formula.Joining.{IsJoining, joined_by}
 use Rattle.omega_acc.specs.declared.formula.raw.RawAccNode.{RawAccNode}
 use Rattle.omega_acc.specs.declared.formula.raw.RawAccNode.TheVariants.{And, Atom, Constant, Group, Or}
 

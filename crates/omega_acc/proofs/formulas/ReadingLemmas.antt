@@ -7,9 +7,9 @@ use Rattle.omega_acc.specs.declared.pending.Pending.{Pending}
 use Rattle.omega_acc.specs.declared.pending.Pending.TheVariants.{And, Not, Open, Or}
 use Rattle.omega_acc.specs.declared.formula.raw.RawAccNode.{RawAccNode}
 use Rattle.omega_acc.specs.declared.formula.raw.RawAccNode.TheVariants as node
-use Rattle.omega_acc.specs.layout.formula.Building.{Before, FitsBehind, Has, IsOpenBefore, Wants, anded, before_names, before_nodes, before_pending, before_symbols, capped, opened, ored, start}
-use Rattle.omega_acc.specs.layout.Passing.{NextIsNot, Passed, PassesOne}
-use Rattle.omega_acc.specs.layout.formula.Raw.{atom_names, raw_acc_postfix}
+use Rattle.omega_acc.specs.private.layout.formula.Building.{Before, FitsBehind, Has, IsOpenBefore, Wants, anded, before_names, before_nodes, before_pending, before_symbols, capped, opened, ored, start}
+use Rattle.omega_acc.specs.private.layout.Passing.{NextIsNot, Passed, PassesOne}
+use Rattle.omega_acc.specs.private.layout.formula.Raw.{atom_names, raw_acc_postfix}
 use Rattle.omega_acc.proofs.expressions.PassingLemmas.{enclosed_list, end_others, followed_lists, joined_lists, passed_next, passed_same, passed_then}
 use Rattle.omega_acc.proofs.expressions.PendingLemmas.{IsBar, IsConjunct, IsDisjunct, IsFree, IsLoose, IsNothing, IsParenthesis, below, free_open, kept, top}
 use Rattle.omega_text.specs.Lexeme.{Lexeme}

@@ -5,7 +5,7 @@ use Rattle.std.proofs.Math.Seq.{drop-append_seam}
 use Rattle.omega_acc.specs.formula.Raw.{RawAccTree, atom, conjunction, constant, disjunction, group}
 use Rattle.omega_acc.specs.formula.Reading.{IsAccOf, ReadsAcc, formula_symbols}
 use Rattle.omega_acc.specs.Symbols.{EndsThere, IsNoOperator, ExpressionSymbol, conjunctive, disjunctive, number, seen_as, sign, expression_symbol_of, unary, word}
-use Rattle.omega_acc.specs.layout.formula.Building.{Before, FitsBehind, anded, opened, ored, start}
+use Rattle.omega_acc.specs.private.layout.formula.Building.{Before, FitsBehind, anded, opened, ored, start}
 use Rattle.omega_text.specs.Lexeme.{Lexeme}
 use Rattle.omega_text.specs.declared.hoa.kind.HoaKind.{HoaKind}
 use Rattle.omega_text.specs.declared.hoa.kind.HoaKind.TheVariants as kind

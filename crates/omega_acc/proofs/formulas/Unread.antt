@@ -7,9 +7,9 @@ use Rattle.omega_acc.specs.Symbols.{EndsThere, IsNoOperator, ExpressionSymbol, d
 use Rattle.omega_acc.specs.declared.pending.Pending.{Pending}
 use Rattle.omega_acc.specs.declared.pending.Pending.TheVariants.{Open}
 use Rattle.omega_acc.specs.declared.formula.raw.RawAccNode.{RawAccNode}
-use Rattle.omega_acc.specs.layout.formula.Building.{Before, Has, Wants, anded, before_pending, before_symbols, opened, ored, start}
-use Rattle.omega_acc.specs.layout.formula.States.{IsStuck, IsThrough, NameState, barred, ended, entered, failed, go, had, named, numbered, run, wanted}
-use Rattle.omega_acc.specs.layout.Passing.{NextIsNot, Passed}
+use Rattle.omega_acc.specs.private.layout.formula.Building.{Before, Has, Wants, anded, before_pending, before_symbols, opened, ored, start}
+use Rattle.omega_acc.specs.private.layout.formula.States.{IsStuck, IsThrough, NameState, barred, ended, entered, failed, go, had, named, numbered, run, wanted}
+use Rattle.omega_acc.specs.private.layout.Passing.{NextIsNot, Passed}
 use Rattle.omega_acc.proofs.formulas.ReadingLemmas.{has_is_free}
 use Rattle.omega_acc.proofs.expressions.PassingLemmas.{GoOnNone, GoesOnNone, go_on_others}
 use Rattle.omega_acc.proofs.expressions.PendingLemmas.{IsFree, IsParenthesis, free_open, top}

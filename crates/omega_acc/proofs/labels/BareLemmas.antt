@@ -7,14 +7,14 @@ use Rattle.std.proofs.lemmas.List.Folds.{list_any-append}
 use Rattle.std.proofs.lemmas.List.Sums.{sum_by-append}
 use Rattle.omega_acc.specs.Depth.{counted}
 use Rattle.omega_acc.specs.label.Expanding.{Defined, Entry, IsExpansion, Meaning, both, entries_of, expansion, fault_of_meaning, in_parentheses, negated, replaced}
-use Rattle.omega_acc.specs.label.Label.{LabelTree, label_depth, label_size}
+use Rattle.omega_acc.specs.label.Label.{LabelTree, label_size}
+use Rattle.omega_acc.specs.private.layout.label.Label.{label_depth, IsLabelInPostfix, postfix, tree_of, tree_of-postfix}
 use Rattle.omega_acc.specs.label.Label as label
 use Rattle.omega_acc.specs.label.Raw.{RawLabelTree, alias, conjunction, constant, disjunction, group, negation, proposition, raw_depth}
-use Rattle.omega_acc.specs.layout.label.Bare.{bare, is_alias, is_bare}
-use Rattle.omega_acc.specs.layout.label.Extents.{extent_of}
+use Rattle.omega_acc.specs.private.layout.label.Bare.{bare, is_alias, is_bare}
+use Rattle.omega_acc.specs.private.layout.label.Extents.{extent_of}
 use Rattle.omega_acc.specs.Limits.{most_depth}
-use Rattle.omega_acc.specs.layout.label.Label.{IsLabelInPostfix, postfix, tree_of, tree_of-postfix}
-use Rattle.omega_acc.specs.layout.label.Raw.{raw_postfix}
+use Rattle.omega_acc.specs.private.layout.label.Raw.{raw_postfix}
 use Rattle.omega_acc.proofs.labels.ExpansionLemmas.{deep-none}
 use Rattle.omega_acc.specs.declared.label.extents.Extent.{Extent}
 use Rattle.omega_acc.specs.declared.label.LabelNode.{LabelNode}

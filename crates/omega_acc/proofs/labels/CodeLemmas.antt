@@ -3,8 +3,8 @@ use Rattle.std.proofs.Common.{◌≡◌, ◌<◌, ◌+◌, ◌++◌, ◌&&◌, �
 use Rattle.std.proofs.lemmas.List.{map_more, map_push, take_more, take_more_set}
 use Rattle.std.specs.Prelude.{◌==◌, if◌then◌else◌}
 use Rattle.std.specs.List.{list_all, list_any}
-use Rattle.omega_acc.specs.layout.label.Bare.{is_alias}
-use Rattle.omega_acc.specs.layout.label.Codes.{code_of, node_of}
+use Rattle.omega_acc.specs.private.layout.label.Bare.{is_alias}
+use Rattle.omega_acc.specs.private.layout.label.Codes.{code_of, node_of}
 use Rattle.omega_acc.specs.declared.label.LabelNode.{LabelNode}
 use Rattle.omega_acc.specs.declared.label.LabelNode.TheVariants.{Alias, And, Constant, Group, Not, Or, Proposition}
 

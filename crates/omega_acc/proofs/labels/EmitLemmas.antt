@@ -6,9 +6,9 @@ use Rattle.omega_acc.specs.label.Expanding.{Entry, Meaning, both, in_parentheses
 use Rattle.omega_acc.specs.label.Label.{LabelTree}
 use Rattle.omega_acc.specs.label.Label as label
 use Rattle.omega_acc.specs.label.Raw.{RawLabelTree, alias, conjunction, constant, disjunction, group, negation, proposition}
-use Rattle.omega_acc.specs.layout.label.Emitting.{AllStand, emitted, nodes_of}
-use Rattle.omega_acc.specs.layout.Joins.{regrouped}
-use Rattle.omega_acc.specs.layout.label.Raw.{alias_names, raw_postfix}
+use Rattle.omega_acc.specs.private.layout.label.Emitting.{AllStand, emitted, nodes_of}
+use Rattle.omega_acc.specs.private.layout.Joins.{regrouped}
+use Rattle.omega_acc.specs.private.layout.label.Raw.{alias_names, raw_postfix}
 use Rattle.omega_acc.specs.declared.label.LabelNode.{LabelNode}
 use Rattle.omega_acc.specs.declared.label.LabelNode.TheVariants.{Alias, And, Group, Not, Or}
 

@@ -5,9 +5,9 @@ use Rattle.omega_acc.specs.label.Expanding.{Entry, Meaning, both, in_parentheses
 use Rattle.omega_acc.specs.label.Label.{LabelTree, label_size}
 use Rattle.omega_acc.specs.label.Label as label
 use Rattle.omega_acc.specs.label.Raw.{RawLabelTree, alias, conjunction, constant, disjunction, group, negation, proposition}
-use Rattle.omega_acc.specs.layout.label.Extents.{atom_extent, both_extents, deeper_extent, extent_named, extent_of, extents_behind, negated_extent}
-use Rattle.omega_acc.specs.layout.Joins.{regrouped}
-use Rattle.omega_acc.specs.layout.label.Raw.{alias_names, raw_postfix}
+use Rattle.omega_acc.specs.private.layout.label.Extents.{atom_extent, both_extents, deeper_extent, extent_named, extent_of, extents_behind, negated_extent}
+use Rattle.omega_acc.specs.private.layout.Joins.{regrouped}
+use Rattle.omega_acc.specs.private.layout.label.Raw.{alias_names, raw_postfix}
 use Rattle.omega_acc.specs.declared.label.extents.Extent.{Extent}
 use Rattle.omega_acc.specs.declared.label.LabelNode.{LabelNode}
 use Rattle.omega_acc.specs.declared.label.LabelNode.TheVariants.{And, Group, Not, Or}

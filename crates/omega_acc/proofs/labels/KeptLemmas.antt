@@ -3,9 +3,9 @@ use Rattle.std.proofs.Common.{◌≡◌, ℕ, ◌<◌, zero, suc, List, [], ◌�
 use Rattle.std.proofs.lemmas.Bool.{false≢true}
 use Rattle.omega_acc.specs.label.Expanding.{Entry, Meaning, entries_of, replaced}
 use Rattle.omega_acc.specs.label.Raw.{RawLabelTree}
-use Rattle.omega_acc.specs.layout.label.Aliases.{defined_of}
-use Rattle.omega_acc.specs.layout.label.Emitting.{AllKept, IsBodyAt, IsKept, nodes_of}
-use Rattle.omega_acc.specs.layout.label.Extents.{extent_of}
+use Rattle.omega_acc.specs.private.layout.label.Aliases.{defined_of}
+use Rattle.omega_acc.specs.private.layout.label.Emitting.{AllKept, IsBodyAt, IsKept, nodes_of}
+use Rattle.omega_acc.specs.private.layout.label.Extents.{extent_of}
 use Rattle.omega_acc.specs.declared.label.aliases.Definition.{Definition}
 use Rattle.omega_acc.specs.declared.label.extents.Extent.{Extent}
 use Rattle.omega_acc.specs.declared.label.LabelNode.{LabelNode}

@@ -1,7 +1,7 @@
 -- Labels in postfix order: their count of nodes, and what is kept of a label's nodes.
 use Rattle.std.proofs.Common.{◌≡◌, ◌+◌, [], ◌∷◌, ◌++◌, length, ap, refl, ◌∙◌, arith, length-append}
 use Rattle.omega_acc.specs.label.Label.{LabelTree, conjunction, constant, disjunction, label_size, negation, proposition}
-use Rattle.omega_acc.specs.layout.label.Label.{postfix}
+use Rattle.omega_acc.specs.private.layout.label.Label.{postfix}
 use Rattle.omega_acc.specs.declared.label.LabelNode.TheVariants.{And, Not, Or}
 
 -- there is a node for each atom and operator

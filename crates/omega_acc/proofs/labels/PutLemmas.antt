@@ -7,9 +7,9 @@ use Rattle.std.proofs.lemmas.Bool.{cond-false}
 use Rattle.std.proofs.lemmas.List.{map-append}
 use Rattle.omega_text.specs.declared.refusal.Refusal.{Refusal}
 use Rattle.omega_acc.specs.label.Expanding.{Entry, entries_of, expansion}
-use Rattle.omega_acc.specs.layout.label.Aliases.{defined_of}
-use Rattle.omega_acc.specs.layout.label.Emitting.{AllKept, IsKept}
-use Rattle.omega_acc.specs.layout.label.Extents.{extent_of}
+use Rattle.omega_acc.specs.private.layout.label.Aliases.{defined_of}
+use Rattle.omega_acc.specs.private.layout.label.Emitting.{AllKept, IsKept}
+use Rattle.omega_acc.specs.private.layout.label.Extents.{extent_of}
 use Rattle.omega_acc.specs.declared.label.aliases.Definition.{Definition}
 use Rattle.omega_acc.proofs.labels.EntryLemmas.{entries_of-push, entry_of}
 use Rattle.omega_acc.proofs.labels.KeptLemmas.{AllKept-push}

@@ -2,8 +2,8 @@
 use Rattle.std.proofs.Common.{◌≡◌, ℕ, List, [], ◌∷◌, ◌++◌, ap, append_assoc, sym, ◌∙◌, ◌+◌, max, refl}
 use Rattle.omega_acc.specs.label.Raw.{RawLabelTree, conjunction, disjunction, group, negation, raw_depth}
 use Rattle.omega_acc.specs.Depth.{counted}
-use Rattle.omega_acc.specs.layout.label.Raw.{IsRawLabel, alias_names, raw_postfix, raw_tree_of, raw_tree_of-postfix}
-use Rattle.omega_acc.specs.layout.label.Joining.{IsJoining, joined_by}
+use Rattle.omega_acc.specs.private.layout.label.Raw.{IsRawLabel, alias_names, raw_postfix, raw_tree_of, raw_tree_of-postfix}
+use Rattle.omega_acc.specs.private.layout.label.Joining.{IsJoining, joined_by}
 use Rattle.omega_acc.specs.declared.label.LabelNode.{LabelNode}
 use Rattle.omega_acc.specs.declared.label.LabelNode.TheVariants.{Alias, And, Constant, Group, Not, Or, Proposition}
 

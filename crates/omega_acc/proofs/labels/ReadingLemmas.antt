@@ -8,9 +8,9 @@ use Rattle.omega_acc.specs.declared.pending.Pending.{Pending}
 use Rattle.omega_acc.specs.declared.pending.Pending.TheVariants.{And, Not, Open, Or}
 use Rattle.omega_acc.specs.declared.label.LabelNode.{LabelNode}
 use Rattle.omega_acc.specs.declared.label.LabelNode.TheVariants as node
-use Rattle.omega_acc.specs.layout.label.Building.{Before, FitsBehind, Has, IsOpenBefore, Wants, anded, before_names, before_nodes, before_pending, before_symbols, capped, denied, literal, literal_depth, opened, ored, start}
-use Rattle.omega_acc.specs.layout.Passing.{NextIsNot, Passed, PassesNumber, PassesOne}
-use Rattle.omega_acc.specs.layout.label.Raw.{alias_names, raw_postfix}
+use Rattle.omega_acc.specs.private.layout.label.Building.{Before, FitsBehind, Has, IsOpenBefore, Wants, anded, before_names, before_nodes, before_pending, before_symbols, capped, denied, literal, literal_depth, opened, ored, start}
+use Rattle.omega_acc.specs.private.layout.Passing.{NextIsNot, Passed, PassesNumber, PassesOne}
+use Rattle.omega_acc.specs.private.layout.label.Raw.{alias_names, raw_postfix}
 use Rattle.omega_acc.proofs.expressions.PassingLemmas.{GoOnNone, GoesOnNone, enclosed_list, end_others, followed_lists, go_on_others, joined_lists, passed_next, passed_same}
 use Rattle.omega_acc.proofs.expressions.PendingLemmas.{IsBar, IsConjunct, IsDisjunct, IsFree, IsLoose, IsNothing, IsParenthesis, below, free_open, kept, top}
 use Rattle.omega_text.specs.Lexeme.{Lexeme}

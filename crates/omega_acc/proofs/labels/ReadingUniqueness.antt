@@ -5,7 +5,7 @@ use Rattle.std.proofs.Math.Seq.{drop-append_seam}
 use Rattle.omega_acc.specs.label.Raw.{RawLabelTree, alias, conjunction, constant, disjunction, group, negation, proposition}
 use Rattle.omega_acc.specs.label.Reading.{IsOf, Reads, label_symbols}
 use Rattle.omega_acc.specs.Symbols.{EndsThere, IsNoOperator, ExpressionSymbol, conjunctive, disjunctive, name, number, seen_as, sign, expression_symbol_of, unary}
-use Rattle.omega_acc.specs.layout.label.Building.{Before, FitsBehind, anded, denied, opened, ored, start}
+use Rattle.omega_acc.specs.private.layout.label.Building.{Before, FitsBehind, anded, denied, opened, ored, start}
 use Rattle.omega_text.specs.Lexeme.{Lexeme}
 use Rattle.omega_text.specs.declared.hoa.kind.HoaKind.{HoaKind}
 use Rattle.omega_text.specs.declared.hoa.kind.HoaKind.TheVariants as kind

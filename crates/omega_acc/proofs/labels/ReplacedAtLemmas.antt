@@ -5,7 +5,7 @@ use Rattle.std.proofs.lemmas.List.{drop-append-le, take-append-le}
 use Rattle.std.specs.List.{slice_range}
 use Rattle.omega_acc.specs.label.Expanding.{Defined, entries_of, replaced}
 use Rattle.omega_acc.specs.label.Raw.{RawLabelTree}
-use Rattle.omega_acc.specs.layout.label.Emitting.{IsBodyAt, IsReplacedAt, nodes_of}
+use Rattle.omega_acc.specs.private.layout.label.Emitting.{IsBodyAt, IsReplacedAt, nodes_of}
 use Rattle.omega_acc.specs.declared.label.LabelNode.{LabelNode}
 
 -- at first there are none

@@ -6,7 +6,7 @@ use Rattle.std.proofs.lemmas.Bool.{agree_below_at, cases_Bool, cases_lt, falseâ‰
 use Rattle.std.proofs.lemmas.Nat.Bits.{bit_at-suc, bit_at_cat_high, bit_at_cat_low, bit_at_lowest}
 use Rattle.omega_acc.specs.label.Label.{LabelTree, conjunction, constant, disjunction, negation, proposition, propositions, truth}
 use Rattle.omega_acc.specs.label.Satisfiable.{each_once, mentioned}
-use Rattle.omega_acc.specs.layout.label.Words.{mask, pattern, propositions_of, word_among, word_of, word_of_truth}
+use Rattle.omega_acc.specs.private.layout.label.Words.{mask, pattern, propositions_of, word_among, word_of, word_of_truth}
 use Rattle.omega_acc.specs.declared.label.LabelNode.{LabelNode}
 use Rattle.omega_acc.specs.declared.label.LabelNode.TheVariants.{Proposition}
 use Rattle.omega_acc.proofs.labels.WordLemmas.{held_in, lane-off, on, on-truth, on-word_of}

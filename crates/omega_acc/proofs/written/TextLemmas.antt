@@ -7,10 +7,10 @@ use Rattle.omega_acc.specs.formula.Acceptance.{AccTree}
 use Rattle.omega_acc.specs.formula.Acceptance as acc
 use Rattle.omega_acc.specs.label.Label.{LabelTree, conjunction, constant, disjunction, negation, proposition}
 use Rattle.omega_acc.specs.Writing.{Text, acc_text, label_text}
-use Rattle.omega_acc.specs.layout.formula.Acceptance.{acc_postfix}
-use Rattle.omega_acc.specs.layout.Joins.{regrouped}
-use Rattle.omega_acc.specs.layout.label.Label.{postfix}
-use Rattle.omega_acc.specs.layout.Texts.{acc_texts_behind, texts_behind, top_text}
+use Rattle.omega_acc.specs.private.layout.formula.Acceptance.{acc_postfix}
+use Rattle.omega_acc.specs.private.layout.Joins.{regrouped}
+use Rattle.omega_acc.specs.private.layout.label.Label.{postfix}
+use Rattle.omega_acc.specs.private.layout.Texts.{acc_texts_behind, texts_behind, top_text}
 use Rattle.omega_acc.specs.declared.formula.AccNode.{AccNode}
 use Rattle.omega_acc.specs.declared.formula.AccNode.TheVariants as node
 use Rattle.omega_acc.specs.declared.label.LabelNode.{LabelNode}

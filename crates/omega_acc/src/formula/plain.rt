@@ -2,8 +2,8 @@
 
 ghost use Rattle.std.specs.Prelude.{◌≡◌, ◌∷◌, [], Some, None, IfErr, IfOk, OnOk};
 ghost use Rattle.omega_acc.specs.Depth.{IsMemory};
-ghost use Rattle.omega_acc.specs.layout.formula.Plain.{alone, atom_plain, depths_behind, plain_nodes, top_depth};
-ghost use Rattle.omega_acc.specs.layout.formula.Raw.{atom_names, raw_acc_postfix};
+ghost use Rattle.omega_acc.specs.private.layout.formula.Plain.{alone, atom_plain, depths_behind, plain_nodes, top_depth};
+ghost use Rattle.omega_acc.specs.private.layout.formula.Raw.{atom_names, raw_acc_postfix};
 ghost use Rattle.omega_text.specs.Cases.{never, or_automaton, or_memory};
 ghost use Rattle.omega_text.specs.declared.refusal.automaton.AutomatonFault.TheVariants.{AcceptanceAtom};
 

@@ -3,8 +3,8 @@ ghost use Rattle.std.specs.List.{list_all};
 ghost use Rattle.omega_acc.specs.formula.Raw.{atom as atom_tree, conjunction, constant as constant_tree, disjunction, group as group_tree, raw_acc_depth};
 ghost use Rattle.omega_acc.specs.Depth.{IsDeeper, IsMemory, counted};
 ghost use Rattle.omega_acc.specs.Limits.{most_depth};
-ghost use Rattle.omega_acc.specs.layout.formula.Plain.{set_below};
-ghost use Rattle.omega_acc.specs.layout.formula.Joining.{IsJoining, joined_by};
+ghost use Rattle.omega_acc.specs.private.layout.formula.Plain.{set_below};
+ghost use Rattle.omega_acc.specs.private.layout.formula.Joining.{IsJoining, joined_by};
 
 use crate::depth::deeper;
 use crate::formula::Acc;
@@ -40,13 +40,13 @@ pub struct RawAcc {
 impl Model for RawAcc {
     ghost use Rattle.omega_acc.specs.Depth.{counted};
     ghost use Rattle.omega_acc.specs.formula.Raw.{RawAccTree, raw_acc_depth};
-    ghost use Rattle.omega_acc.specs.layout.formula.Raw.{IsRawAcc, atom_names, raw_acc_code, raw_acc_postfix, raw_acc_tree_of};
+    ghost use Rattle.omega_acc.specs.private.layout.formula.Raw.{IsRawAcc, atom_names, raw_acc_code, raw_acc_postfix, raw_acc_tree_of};
 
     ghost Value = { RawAccTree };
 
     ghost coded = { raw_acc_code };
 
-    ghost use Rattle.omega_acc.specs.layout.formula.RawFields.{raw_acc_given_back};
+    ghost use Rattle.omega_acc.specs.private.layout.formula.RawFields.{raw_acc_given_back};
 
     ghost view = { λ a. raw_acc_tree_of a.nodes a.names };
 
@@ -59,7 +59,7 @@ impl Model for RawAcc {
 
 impl RawAcc {
     ghost use Rattle.omega_acc.specs.formula.Meaning.{IsMeant, IsUnmeant, acc_sets};
-    ghost use Rattle.omega_acc.specs.layout.formula.Raw.{IsRawAcc, atom_names, raw_acc_postfix, raw_acc_tree_of};
+    ghost use Rattle.omega_acc.specs.private.layout.formula.Raw.{IsRawAcc, atom_names, raw_acc_postfix, raw_acc_tree_of};
 
     /// `t` or `f`.
     pub fn constant(alloc: Global, value: bool) -> Result<RawAcc, Refusal>

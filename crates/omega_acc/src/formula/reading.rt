@@ -4,8 +4,8 @@ ghost use Rattle.std.specs.Prelude.{◌≡◌, ◌<◌, ◌≤◌, List, length,
 ghost use Rattle.omega_acc.specs.formula.Meaning.{IsUnreadAcc, ReadsFaulty, ReadsMeant};
 ghost use Rattle.omega_acc.specs.formula.Reading.{ReadsAcc, ReadsNoAcc};
 ghost use Rattle.omega_acc.specs.Symbols.{IsUnread, conjunctive, unary};
-ghost use Rattle.omega_acc.specs.layout.formula.Building.{HasIn, IsWhole, WantsIn};
-ghost use Rattle.omega_acc.specs.layout.formula.States.{IsStuck, PassesSet, named};
+ghost use Rattle.omega_acc.specs.private.layout.formula.Building.{HasIn, IsWhole, WantsIn};
+ghost use Rattle.omega_acc.specs.private.layout.formula.States.{IsStuck, PassesSet, named};
 ghost use Rattle.omega_text.specs.Lexeme.{Lexeme};
 ghost use Rattle.omega_text.specs.declared.hoa.kind.HoaKind.{HoaKind as Kind};
 

@@ -6,8 +6,8 @@ ghost use Rattle.omega_acc.specs.formula.Names.{IsAcceptanceRow, IsNotParity, Is
 ghost use Rattle.omega_acc.specs.declared.formula.AccNode.{AccNode};
 ghost use Rattle.omega_acc.specs.declared.formula.kind.AccKind.{AccKind};
 ghost use Rattle.omega_acc.specs.declared.formula.kind.ParityKind.{ParityKind};
-ghost use Rattle.omega_acc.specs.layout.formula.Acceptance.{acc_postfix};
-ghost use Rattle.omega_acc.specs.layout.formula.Chain.{atom_node, joining_node};
+ghost use Rattle.omega_acc.specs.private.layout.formula.Acceptance.{acc_postfix};
+ghost use Rattle.omega_acc.specs.private.layout.formula.Chain.{atom_node, joining_node};
 
 use crate::formula::kind::{AccKind, Order, Parity, ParityKind};
 use crate::formula::name::{AccName, Parameter};

@@ -19,7 +19,7 @@ pub(crate) struct UnfinishedAcc {
 }
 
 impl UnfinishedAcc {
-    ghost use Rattle.omega_acc.specs.layout.formula.Building.{HasIn, WantsIn};
+    ghost use Rattle.omega_acc.specs.private.layout.formula.Building.{HasIn, WantsIn};
     ghost use Rattle.omega_acc.specs.Symbols.{conjunctive, disjunctive, unary};
     ghost use Rattle.omega_text.specs.Lexeme.{Lexeme};
     ghost use Rattle.omega_text.specs.declared.hoa.kind.HoaKind.{HoaKind};

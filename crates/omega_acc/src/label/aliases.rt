@@ -3,8 +3,8 @@ ghost use Rattle.std.specs.List.{list_any};
 ghost use Rattle.std.specs.Str.{bytes_eq};
 ghost use Rattle.omega_acc.specs.Depth.{IsMemory};
 ghost use Rattle.omega_acc.specs.label.Expanding.{IsAdded, IsRepeated, entries_of, expansion, place_among};
-ghost use Rattle.omega_acc.specs.layout.label.Emitting.{IsBodyAt, IsKept, IsKeptAt};
-ghost use Rattle.omega_acc.specs.layout.label.Extents.{extent_named, extent_of};
+ghost use Rattle.omega_acc.specs.private.layout.label.Emitting.{IsBodyAt, IsKept, IsKeptAt};
+ghost use Rattle.omega_acc.specs.private.layout.label.Extents.{extent_named, extent_of};
 
 use crate::label::LabelNode;
 use crate::label::codes::ROOM;
@@ -47,7 +47,7 @@ impl Model for Aliases {
     ghost use Rattle.std.specs.Prelude.{List};
     ghost use Rattle.std.specs.Coded.{coded_list};
     ghost use Rattle.omega_acc.specs.label.Expanding.{Defined};
-    ghost use Rattle.omega_acc.specs.layout.label.Aliases.{IsAliases, defined_code, definitions_held};
+    ghost use Rattle.omega_acc.specs.private.layout.label.Aliases.{IsAliases, defined_code, definitions_held};
 
     ghost Value = { List Defined };
 

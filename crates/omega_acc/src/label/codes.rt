@@ -1,7 +1,7 @@
 //! Nodes of labels as bytes.
 
 ghost use Rattle.std.specs.Prelude.{◌≡◌, ◌≤◌, length, map, take};
-ghost use Rattle.omega_acc.specs.layout.label.Codes.{code_of, node_of};
+ghost use Rattle.omega_acc.specs.private.layout.label.Codes.{code_of, node_of};
 
 use crate::label::LabelNode;
 

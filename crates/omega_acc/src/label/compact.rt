@@ -2,10 +2,10 @@ ghost use Rattle.std.specs.Prelude.{◌≡◌, ◌<◌, ◌≤◌, ◌++◌, [],
 ghost use Rattle.std.specs.List.{list_all, list_any};
 ghost use Rattle.std.specs.Option.{SomeIff};
 ghost use Rattle.omega_acc.specs.Depth.{IsMemory};
-ghost use Rattle.omega_acc.specs.layout.label.Bare.{is_alias, is_bare};
-ghost use Rattle.omega_acc.specs.layout.label.Codes.{node_of};
-ghost use Rattle.omega_acc.specs.layout.label.Compact.{fits_in_place, notation_in};
-ghost use Rattle.omega_acc.specs.layout.label.Propositions.{proposition_below};
+ghost use Rattle.omega_acc.specs.private.layout.label.Bare.{is_alias, is_bare};
+ghost use Rattle.omega_acc.specs.private.layout.label.Codes.{node_of};
+ghost use Rattle.omega_acc.specs.private.layout.label.Compact.{fits_in_place, notation_in};
+ghost use Rattle.omega_acc.specs.private.layout.label.Propositions.{proposition_below};
 
 use crate::label::LabelNode;
 use crate::label::codes::{MOST_IN_PLACE, ROOM, code, decoded, unpack};
@@ -44,7 +44,7 @@ const _: () = prove!(std::mem::size_of::<Compact>() <= 24);
 impl Model for Compact {
     ghost use Rattle.omega_acc.specs.contracts.label.notation.Notation as notation;
     ghost use Rattle.omega_acc.specs.declared.label.notation.Notation.{Notation};
-    ghost use Rattle.omega_acc.specs.layout.label.Compact.{fits_in_place, notation_in};
+    ghost use Rattle.omega_acc.specs.private.layout.label.Compact.{fits_in_place, notation_in};
 
     ghost Value = { Notation };
 

@@ -1,7 +1,7 @@
 ghost use Rattle.std.specs.Prelude.{◌≡◌, ◌≤◌, ◌++◌, [], length, slice_range, take, IfErr, IfOk, IsSome, OnOk};
 ghost use Rattle.omega_acc.specs.Depth.{IsMemory};
 ghost use Rattle.omega_acc.specs.label.Expanding.{IsExpanded, IsExpansion, IsUnexpanded, entries_of, replaced};
-ghost use Rattle.omega_acc.specs.layout.label.Emitting.{nodes_of};
+ghost use Rattle.omega_acc.specs.private.layout.label.Emitting.{nodes_of};
 
 use crate::label::aliases::{Aliases, behind, front};
 use crate::label::codes::ROOM;

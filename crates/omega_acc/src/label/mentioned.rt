@@ -1,7 +1,7 @@
 ghost use Rattle.std.specs.Prelude.{◌≡◌, ◌<◌, ◌≤◌, ◌==◌, ◌++◌, [], ◌∷◌, false, length, if◌then◌else◌, IsTrue};
 ghost use Rattle.std.specs.List.{list_any};
 ghost use Rattle.omega_acc.specs.Limits.{most_mentioned};
-ghost use Rattle.omega_acc.specs.layout.label.Words.{mask, pattern, word_among};
+ghost use Rattle.omega_acc.specs.private.layout.label.Words.{mask, pattern, word_among};
 
 use crate::limits::MOST_MENTIONED;
 use std::marker::Model;

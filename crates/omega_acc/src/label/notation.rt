@@ -1,8 +1,8 @@
 ghost use Rattle.std.specs.Prelude.{◌≡◌, count_by, false, filter, nat_lt};
 ghost use Rattle.std.specs.List.{list_all, list_any};
 ghost use Rattle.std.specs.Option.{SomeIff};
-ghost use Rattle.omega_acc.specs.layout.label.Bare.{is_alias, is_bare};
-ghost use Rattle.omega_acc.specs.layout.label.Propositions.{proposition_below};
+ghost use Rattle.omega_acc.specs.private.layout.label.Bare.{is_alias, is_bare};
+ghost use Rattle.omega_acc.specs.private.layout.label.Propositions.{proposition_below};
 
 use crate::label::LabelNode;
 use omega_text::Seq;

@@ -4,8 +4,8 @@ ghost use Rattle.std.specs.Option.{SomeIff};
 ghost use Rattle.omega_acc.specs.label.Raw.{alias as alias_tree, conjunction, constant as constant_tree, disjunction, group as group_tree, negation, proposition as proposition_tree, raw_depth, raw_propositions};
 ghost use Rattle.omega_acc.specs.Depth.{IsDeeper, IsMemory, counted};
 ghost use Rattle.omega_acc.specs.Limits.{most_depth};
-ghost use Rattle.omega_acc.specs.layout.label.Bare.{bare, is_alias, is_bare};
-ghost use Rattle.omega_acc.specs.layout.label.Joining.{IsJoining, joined_by};
+ghost use Rattle.omega_acc.specs.private.layout.label.Bare.{bare, is_alias, is_bare};
+ghost use Rattle.omega_acc.specs.private.layout.label.Joining.{IsJoining, joined_by};
 
 use crate::depth::deeper;
 use crate::label::codes::ROOM;
@@ -30,7 +30,7 @@ const _: () = prove!(std::mem::size_of::<RawLabel>() <= 24);
 
 impl Model for RawLabel {
     ghost use Rattle.omega_acc.specs.label.Raw.{RawLabelTree};
-    ghost use Rattle.omega_acc.specs.layout.label.Raw.{IsRawLabel, raw_label_code, raw_tree_of};
+    ghost use Rattle.omega_acc.specs.private.layout.label.Raw.{IsRawLabel, raw_label_code, raw_tree_of};
 
     ghost Value = { RawLabelTree };
 
@@ -42,7 +42,7 @@ impl Model for RawLabel {
 }
 
 impl RawLabel {
-    ghost use Rattle.omega_acc.specs.layout.label.Raw.{IsRawLabel, alias_names, raw_postfix, raw_tree_of};
+    ghost use Rattle.omega_acc.specs.private.layout.label.Raw.{IsRawLabel, alias_names, raw_postfix, raw_tree_of};
 
     /// `t` or `f`.
     pub fn constant(alloc: Global, value: bool) -> Result<RawLabel, Refusal>
@@ -221,7 +221,7 @@ impl PartialEq for RawLabel {
     ghost use Rattle.std.proofs.Common.{rules};
     ghost use Rattle.omega_acc.specs.contracts.label.LabelNodePartialEq.TheImpl as node;
     ghost use Rattle.omega_acc.specs.contracts.label.LabelNodePartialEq.TheImpl.Laws.{laws-law};
-    ghost use Rattle.omega_acc.specs.layout.label.Raw.{alias_names, raw_postfix};
+    ghost use Rattle.omega_acc.specs.private.layout.label.Raw.{alias_names, raw_postfix};
 
     ghost eq = { eq_of_both (on raw_postfix (pointwise node.ghosts.eq)) (on alias_names (pointwise nat_eq)) };
 

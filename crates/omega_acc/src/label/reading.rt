@@ -5,8 +5,8 @@ ghost use Rattle.omega_acc.specs.label.Reading.{IsUnreadLabel, Reads, ReadsDeep,
 ghost use Rattle.omega_acc.specs.Symbols.{IsUnread, conjunctive, unary};
 ghost use Rattle.omega_acc.specs.Limits.{most_depth};
 ghost use Rattle.omega_acc.specs.label.Raw.{raw_depth};
-ghost use Rattle.omega_acc.specs.layout.label.Building.{HasIn, IsWhole, WantsIn};
-ghost use Rattle.omega_acc.specs.layout.Passing.{PassesOne};
+ghost use Rattle.omega_acc.specs.private.layout.label.Building.{HasIn, IsWhole, WantsIn};
+ghost use Rattle.omega_acc.specs.private.layout.Passing.{PassesOne};
 ghost use Rattle.omega_text.specs.Lexeme.{Lexeme};
 ghost use Rattle.omega_text.specs.declared.hoa.kind.HoaKind.{HoaKind as Kind};
 ghost use Rattle.omega_text.specs.declared.hoa.kind.HoaKind.TheVariants as kinds;

@@ -3,7 +3,7 @@
 ghost use Rattle.std.specs.Prelude.{◌≡◌, ◌≤◌, ◌-◌, ◌^◌, ◌↔◌, [], length, IfErr, IfOk, IsTrue};
 ghost use Rattle.omega_acc.specs.Limits.{most_mentioned};
 ghost use Rattle.omega_acc.specs.label.Satisfiable.{IsJudged, IsOverMentioned, IsSatisfiable, mentioned};
-ghost use Rattle.omega_acc.specs.layout.label.Words.{peak, top_word, word_among, words_behind};
+ghost use Rattle.omega_acc.specs.private.layout.label.Words.{peak, top_word, word_among, words_behind};
 
 use crate::label::codes::{MOST_IN_PLACE, ROOM};
 use crate::label::mentioned::Mentioned;

@@ -23,7 +23,7 @@ pub(crate) struct Unfinished {
 impl Unfinished {
     ghost use Rattle.omega_acc.specs.declared.label.LabelNode.TheVariants.{And};
     ghost use Rattle.omega_acc.specs.declared.pending.Pending.TheVariants.{And as WaitingAnd, Not};
-    ghost use Rattle.omega_acc.specs.layout.label.Building.{HasIn, WantsIn, literal, literal_depth};
+    ghost use Rattle.omega_acc.specs.private.layout.label.Building.{HasIn, WantsIn, literal, literal_depth};
     ghost use Rattle.omega_acc.specs.Symbols.{conjunctive, disjunctive, unary};
     ghost use Rattle.omega_text.specs.Lexeme.{Lexeme};
     ghost use Rattle.omega_text.specs.declared.hoa.kind.HoaKind.{HoaKind};

@@ -1,5 +1,5 @@
 ghost use Rattle.std.specs.Prelude.{◌≡◌, ◌<◌, ◌≤◌, [], ◌∷◌, length};
-ghost use Rattle.omega_acc.specs.layout.label.Words.{top_word, words_below};
+ghost use Rattle.omega_acc.specs.private.layout.label.Words.{top_word, words_below};
 
 use std::marker::Model;
 

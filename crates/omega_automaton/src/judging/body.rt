@@ -1,4 +1,4 @@
-ghost use Rattle.omega_automaton.specs.layout.Body.{IsFoundOfState, IsFoundOfStates};
+ghost use Rattle.omega_automaton.specs.private.layout.Body.{IsFoundOfState, IsFoundOfStates};
 
 use crate::judging::counts::Counts;
 use crate::judging::edges::found_of_edges;

@@ -1,4 +1,4 @@
-ghost use Rattle.omega_automaton.specs.layout.Body.{AreCountsOf};
+ghost use Rattle.omega_automaton.specs.private.layout.Body.{AreCountsOf};
 
 use crate::judging::propositions::proposition_count;
 use crate::judging::sets::set_count;

@@ -1,4 +1,4 @@
-ghost use Rattle.omega_automaton.specs.layout.Body.{IsFoundOfEdges};
+ghost use Rattle.omega_automaton.specs.private.layout.Body.{IsFoundOfEdges};
 
 use crate::judging::counts::Counts;
 use crate::judging::propositions::label_beyond;

@@ -1,5 +1,5 @@
 ghost use Rattle.std.specs.Prelude.{◌≡◌, None, IfErr, OnOk};
-ghost use Rattle.omega_automaton.specs.layout.Order.{IsLastFault, fault_found, last_fault};
+ghost use Rattle.omega_automaton.specs.private.layout.Order.{IsLastFault, fault_found, last_fault};
 
 use crate::judging::findings::{Findings, findings_of_states};
 use crate::limits::MOST_TOTAL_SIZE;

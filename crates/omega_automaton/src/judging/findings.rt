@@ -5,7 +5,7 @@ ghost use Rattle.omega_acc.specs.Depth.{IsMemory};
 ghost use Rattle.omega_acc.specs.label.Expanding.{expansion};
 ghost use Rattle.omega_automaton.specs.Faults.{is_labelled, label_total, passes, size_under};
 ghost use Rattle.omega_automaton.specs.Limits.{most_total_size};
-ghost use Rattle.omega_automaton.specs.layout.Findings.{AreFound, AreJoinedFindings, labels_pass};
+ghost use Rattle.omega_automaton.specs.private.layout.Findings.{AreFound, AreJoinedFindings, labels_pass};
 
 use crate::limits::MOST_TOTAL_SIZE;
 use omega_acc::{Aliases, RawLabel, expanded_size};

@@ -2,7 +2,7 @@ ghost use Rattle.std.specs.Prelude.{◌≡◌, count_by, is_some, nat_lt};
 ghost use Rattle.std.specs.List.{list_any};
 ghost use Rattle.omega_automaton.specs.Faults.{begins_capital as capital, has_repeated_item as repeated_item, has_unknown_capital as unknown_capital, lacks_acceptance as no_acceptance, passes};
 ghost use Rattle.omega_automaton.specs.Items.{acceptance_in, unknown_in};
-ghost use Rattle.omega_automaton.specs.layout.Single.{says};
+ghost use Rattle.omega_automaton.specs.private.layout.Single.{says};
 
 use omega_raw::{RawAutomaton, RawItem};
 

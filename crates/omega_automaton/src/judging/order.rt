@@ -1,7 +1,7 @@
 ghost use Rattle.std.specs.Prelude.{◌≡◌, IfErr, IfOk};
 ghost use Rattle.omega_acc.specs.Depth.{IsMemory};
-ghost use Rattle.omega_automaton.specs.layout.Body.{AreCountsOf, IsFoundOfStates};
-ghost use Rattle.omega_automaton.specs.layout.Order.{early_fault as earliest, late_fault as latest};
+ghost use Rattle.omega_automaton.specs.private.layout.Body.{AreCountsOf, IsFoundOfStates};
+ghost use Rattle.omega_automaton.specs.private.layout.Order.{early_fault as earliest, late_fault as latest};
 
 use crate::judging::acceptance::has_wrong_atom;
 use crate::judging::body::BodyFound;

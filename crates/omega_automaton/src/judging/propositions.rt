@@ -4,7 +4,7 @@ ghost use Rattle.std.specs.Option.{option_copied};
 ghost use Rattle.omega_acc.specs.Depth.{IsMemory};
 ghost use Rattle.omega_automaton.specs.Faults.{has_wrong_proposition as wrong_proposition, is_beyond as beyond, is_misnamed as misnamed, passes, proposition_count as count_of_propositions};
 ghost use Rattle.omega_automaton.specs.Items.{alias_in, first_said, propositions_in};
-ghost use Rattle.omega_automaton.specs.layout.Body.{AreCountsOf, IsFoundOfStates};
+ghost use Rattle.omega_automaton.specs.private.layout.Body.{AreCountsOf, IsFoundOfStates};
 
 use crate::judging::body::BodyFound;
 use crate::judging::counts::Counts;

@@ -2,7 +2,7 @@ ghost use Rattle.std.specs.Prelude.{◌≡◌, nat_le, option_map, unwrap_or};
 ghost use Rattle.std.specs.List.{list_any};
 ghost use Rattle.omega_automaton.specs.Faults.{has_set_beyond as set_beyond, has_set_out_of_range as set_out_of_range, passes, set_count as count_of_sets};
 ghost use Rattle.omega_automaton.specs.Items.{acceptance_in, first_said};
-ghost use Rattle.omega_automaton.specs.layout.Body.{AreCountsOf, IsFoundOfStates};
+ghost use Rattle.omega_automaton.specs.private.layout.Body.{AreCountsOf, IsFoundOfStates};
 
 use crate::judging::body::BodyFound;
 use crate::judging::counts::Counts;

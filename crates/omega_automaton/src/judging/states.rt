@@ -2,7 +2,7 @@ ghost use Rattle.std.specs.Prelude.{◌≡◌, ◌+◌, ◌≤◌, ◌^◌, max,
 ghost use Rattle.std.specs.List.{list_any};
 ghost use Rattle.omega_automaton.specs.Faults.{count_above as bound_in, greatest_of, has_state_out_of_range as state_out_of_range, are_out_of_range as out_of_range, item_bound as bound_of_item, mentioned_count as count_mentioned, passes, state_bound as bound_of_state, state_count as count_of_states};
 ghost use Rattle.omega_automaton.specs.Items.{first_said, start_in, states_in};
-ghost use Rattle.omega_automaton.specs.layout.Body.{AreCountsOf, IsFoundOfStates};
+ghost use Rattle.omega_automaton.specs.private.layout.Body.{AreCountsOf, IsFoundOfStates};
 
 use crate::judging::body::BodyFound;
 use crate::judging::counts::Counts;

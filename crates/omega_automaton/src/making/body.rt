@@ -4,8 +4,8 @@ ghost use Rattle.omega_acc.specs.formula.Meaning.{acc_meant};
 ghost use Rattle.omega_acc.specs.Depth.{IsMemory};
 ghost use Rattle.omega_automaton.specs.Automaton.{edges_from};
 ghost use Rattle.omega_automaton.specs.Meaning.{IsStateOf};
-ghost use Rattle.omega_automaton.specs.layout.Draft.{IsSoundAcceptance};
-ghost use Rattle.omega_automaton.specs.layout.Findings.{is_faulty, labels_pass};
+ghost use Rattle.omega_automaton.specs.private.layout.Draft.{IsSoundAcceptance};
+ghost use Rattle.omega_automaton.specs.private.layout.Findings.{is_faulty, labels_pass};
 
 use crate::making::acceptance::acceptance_of;
 use crate::making::edges::count_edges;

@@ -1,5 +1,5 @@
 ghost use Rattle.std.specs.Prelude.{◌≡◌, [], false, IfErr, OnOk};
-ghost use Rattle.omega_automaton.specs.layout.Definitions.{HasDefined, IsUndefinable};
+ghost use Rattle.omega_automaton.specs.private.layout.Definitions.{HasDefined, IsUndefinable};
 
 use crate::judging::findings_of;
 use omega_acc::{Aliases, RawLabel};

@@ -1,7 +1,7 @@
 ghost use Rattle.std.specs.Prelude.{◌≡◌, ◌++◌, [], None, Some, IfErr, OnOk};
 ghost use Rattle.std.specs.Option.{option_or};
 ghost use Rattle.omega_acc.specs.Depth.{IsMemory};
-ghost use Rattle.omega_automaton.specs.layout.Gathered.{HasTaken};
+ghost use Rattle.omega_automaton.specs.private.layout.Gathered.{HasTaken};
 
 use crate::header::Header;
 use crate::tool::Tool;

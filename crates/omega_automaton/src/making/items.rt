@@ -1,8 +1,8 @@
 ghost use Rattle.std.specs.Prelude.{[], IfErr, OnOk};
 ghost use Rattle.std.specs.List.{filter_map};
 ghost use Rattle.omega_automaton.specs.Items.{alias_in};
-ghost use Rattle.omega_automaton.specs.layout.Definitions.{AreNoted, HasMet, IsUnmet, IsUnnoted};
-ghost use Rattle.omega_automaton.specs.layout.Gathered.{HasGathered, HasTaken};
+ghost use Rattle.omega_automaton.specs.private.layout.Definitions.{AreNoted, HasMet, IsUnmet, IsUnnoted};
+ghost use Rattle.omega_automaton.specs.private.layout.Gathered.{HasGathered, HasTaken};
 
 use crate::making::definitions::{Definitions, define};
 use crate::making::gathered::Gathered;

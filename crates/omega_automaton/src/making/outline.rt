@@ -1,8 +1,8 @@
 ghost use Rattle.std.specs.Prelude.{◌≡◌, None, IfErr, IfOk};
 ghost use Rattle.omega_automaton.specs.Meaning.{IsMeaningless};
-ghost use Rattle.omega_automaton.specs.layout.Body.{AreCountsOf, IsFoundOfStates};
-ghost use Rattle.omega_automaton.specs.layout.Draft.{IsOutlineOf};
-ghost use Rattle.omega_automaton.specs.layout.Order.{early_fault as earliest};
+ghost use Rattle.omega_automaton.specs.private.layout.Body.{AreCountsOf, IsFoundOfStates};
+ghost use Rattle.omega_automaton.specs.private.layout.Draft.{IsOutlineOf};
+ghost use Rattle.omega_automaton.specs.private.layout.Order.{early_fault as earliest};
 
 use crate::judging::{
     BodyFound, Counts, counts_of, early_fault, found_of_states, has_deep_acceptance, late_fault,

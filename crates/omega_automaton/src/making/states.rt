@@ -4,7 +4,7 @@ ghost use Rattle.omega_acc.specs.Depth.{IsMemory};
 ghost use Rattle.omega_acc.specs.label.Expanding.{IsExpansion, expansion};
 ghost use Rattle.omega_automaton.specs.Faults.{is_labelled, passes};
 ghost use Rattle.omega_automaton.specs.Meaning.{IsEdgeOf, IsLabelOf, IsStateOf};
-ghost use Rattle.omega_automaton.specs.layout.Findings.{is_faulty, labels_pass};
+ghost use Rattle.omega_automaton.specs.private.layout.Findings.{is_faulty, labels_pass};
 
 use crate::edge::Edge;
 use crate::edges::Edges;

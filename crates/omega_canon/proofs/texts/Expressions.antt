@@ -8,7 +8,7 @@ use Rattle.omega_acc.specs.label.Label.{LabelTree}
 use Rattle.omega_acc.specs.Symbols.{EndsThere, IsNoOperator}
 use Rattle.omega_acc.specs.Writing.{acc_text, label_text}
 use Rattle.omega_acc.specs.WritingLaws.{NumbersFit, SetsFit, StandsApart, acc_written, label_written}
-use Rattle.omega_raw.specs.Symbols.{FirstIs}
+use Rattle.omega_raw.specs.private.steps.First.{FirstIs}
 use Rattle.omega_raw.specs.Symbols.{IsNext, Shows, ReadsSymbols, AutomatonSymbol, Tokens, alias, formula, header, label, number, sign, text, word}
 use Rattle.omega_canon.proofs.texts.Spelled.{IsSpelled, Known, drop-first, first-within}
 

@@ -11,7 +11,7 @@ use Rattle.omega_acc.specs.Writing.{acc_text}
 use Rattle.omega_acc.specs.WritingLaws.{SetsFit, acc_written}
 use Rattle.omega_acc.specs.declared.formula.name.AccName.{AccName}
 use Rattle.omega_raw.specs.Grammar.{each, item_row}
-use Rattle.omega_raw.specs.Symbols.{FirstIs}
+use Rattle.omega_raw.specs.private.steps.First.{FirstIs}
 use Rattle.omega_raw.specs.Symbols.{AutomatonSymbol}
 use Rattle.omega_raw.specs.declared.raw_item.RawItem.TheVariants as item
 use Rattle.omega_automaton.specs.declared.header.Header.{Header}

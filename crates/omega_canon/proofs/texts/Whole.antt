@@ -9,7 +9,8 @@ use Rattle.omega_acc.specs.Symbols.{IsNoOperator}
 use Rattle.omega_acc.specs.WritingLaws.{acc_written}
 use Rattle.omega_acc.specs.declared.formula.name.AccName.{AccName}
 use Rattle.omega_raw.specs.Grammar.{IsRawEdge, IsRawItem, IsRawState, ReadsAutomaton, each, item_row, automaton_symbols, state_row}
-use Rattle.omega_raw.specs.Symbols.{FirstIs, ReadsSymbols, AutomatonSymbol, Tokens, sign}
+use Rattle.omega_raw.specs.Symbols.{ReadsSymbols, AutomatonSymbol, Tokens, sign}
+use Rattle.omega_raw.specs.private.steps.First.{FirstIs}
 use Rattle.omega_raw.specs.declared.raw_item.RawItem.{RawItem}
 use Rattle.omega_raw.specs.declared.raw_item.RawItem.TheVariants as item
 use Rattle.omega_automaton.specs.Automaton.{Description}

@@ -13,8 +13,8 @@ use Rattle.omega_game.specs.declared.player.Player.TheVariants.{Zero, One}
 use Rattle.omega_empty.specs.EmptinessGame.{IsEmptinessGame}
 use Rattle.omega_empty.specs.GameLaws.{WonWalksAccept, number_at, numbers_on, within_counter}
 use Rattle.omega_empty.specs.Lasso.{IsAcceptingLasso, IsStart}
-use Rattle.omega_empty.specs.layout.Passing.{PassesLasso}
-use Rattle.omega_empty.specs.layout.Starting.{start_places}
+use Rattle.omega_empty.specs.private.layout.Passing.{PassesLasso}
+use Rattle.omega_empty.specs.private.layout.Starting.{start_places}
 use Rattle.omega_empty.proofs.finding.Starts.{IsStartPlace, listed_starts}
 use Rattle.omega_empty.proofs.finding.Turning.{end_last, plain_walk, turned_closed, turned_greatest, walk_inside, walk_last}
 use Rattle.omega_empty.proofs.meaning.Accepting.{at_start, not_sunk, single, start_below}

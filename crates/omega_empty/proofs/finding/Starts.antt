@@ -9,7 +9,7 @@ use Rattle.omega_game.proofs.elements.Membership.{Contains-cases, Contains-here,
 use Rattle.omega_game.specs.Game.{IsGame, Node, identifier_at, identifiers, no_node, node_at}
 use Rattle.omega_game.specs.Part.{new_place}
 use Rattle.omega_empty.specs.Lasso.{IsStart}
-use Rattle.omega_empty.specs.layout.Starting.{place_list, places_of_start, start_places}
+use Rattle.omega_empty.specs.private.layout.Starting.{place_list, places_of_start, start_places}
 use Rattle.omega_empty.proofs.meaning.Membership.{contains_joined}
 use Rattle.omega_empty.proofs.playing.Places.{same_place}
 

@@ -12,7 +12,7 @@ use Rattle.omega_region.specs.Laws.{RegionsAreApart}
 use Rattle.omega_empty.specs.EmptinessGame.{IsEmptinessGame}
 use Rattle.omega_empty.specs.GameLaws.{UnwonIsEmpty}
 use Rattle.omega_empty.specs.Lasso.{IsAcceptingLasso}
-use Rattle.omega_empty.specs.layout.Starting.{start_places}
+use Rattle.omega_empty.specs.private.layout.Starting.{start_places}
 use Rattle.omega_empty.proofs.finding.Starts.{starts_listed}
 
 -- where nothing is chosen, nothing is

@@ -7,8 +7,8 @@ use Rattle.std.proofs.lemmas.List.Elements.{filter-append}
 use Rattle.omega_game.specs.Building.{with_last, with_successor}
 use Rattle.omega_game.specs.declared.node_spec.NodeSpec.{NodeSpec}
 use Rattle.omega_empty.specs.EmptinessGame.{is_usable, plain_node}
-use Rattle.omega_empty.specs.layout.Nodes.{begun, linked}
-use Rattle.omega_empty.specs.layout.Ranges.{usable_in}
+use Rattle.omega_empty.specs.private.layout.Nodes.{begun, linked}
+use Rattle.omega_empty.specs.private.layout.Ranges.{usable_in}
 
 -- numbers in order, one more at the end
 pub range_push : (a n : ℕ) → range_with_len a (suc n) ≡ range_with_len a n ++ (a + n) ∷ []

@@ -14,8 +14,8 @@ use Rattle.omega_automaton.specs.declared.state.State.{State}
 use Rattle.omega_game.specs.Limits.{most_nodes}
 use Rattle.omega_empty.specs.Counters.{counters}
 use Rattle.omega_empty.specs.EmptinessGame.{HasKind, has_branch, span, state_branches}
-use Rattle.omega_empty.specs.layout.Marks.{AreMarksBelow, IsSmall}
-use Rattle.omega_empty.specs.layout.Ready.{IsPlainState}
+use Rattle.omega_empty.specs.private.layout.Marks.{AreMarksBelow, IsSmall}
+use Rattle.omega_empty.specs.private.layout.Ready.{IsPlainState}
 use Rattle.omega_empty.proofs.making.MarkLists.{count_shallow}
 
 -- a test that passes nowhere fails at each place

@@ -10,7 +10,7 @@ use Rattle.omega_automaton.specs.declared.edge.Edge.{Edge}
 use Rattle.omega_automaton.specs.declared.state.State.{State}
 use Rattle.omega_empty.specs.EmptinessGame.{is_usable, leaving}
 use Rattle.omega_empty.specs.declared.edge_ranges.EdgeRange.{EdgeRange}
-use Rattle.omega_empty.specs.layout.Ranges.{IsRangeOf, no_range, range_of}
+use Rattle.omega_empty.specs.private.layout.Ranges.{IsRangeOf, no_range, range_of}
 
 module _ (usable : List Bool) (s : ℕ) where
   -- those that leave a state, of some edges and then of others

@@ -11,8 +11,8 @@ use Rattle.omega_game.specs.declared.node_spec.NodeSpec.{NodeSpec}
 use Rattle.omega_empty.specs.Counters.{counters}
 use Rattle.omega_empty.specs.EmptinessGame.{edge_id, edge_node, edge_nodes, is_usable, leaving, nodes_at, or_sink, plain_node, sink_id, span, state_id, state_node, table}
 use Rattle.omega_empty.specs.declared.edge_ranges.EdgeRange.{EdgeRange}
-use Rattle.omega_empty.specs.layout.Nodes.{begun}
-use Rattle.omega_empty.specs.layout.Ranges.{AreRanges, IsRangeOf, no_range, usable_in}
+use Rattle.omega_empty.specs.private.layout.Nodes.{begun}
+use Rattle.omega_empty.specs.private.layout.Ranges.{AreRanges, IsRangeOf, no_range, usable_in}
 use Rattle.omega_empty.proofs.making.Linking.{range_push}
 
 -- as many edges as the state lists

@@ -18,7 +18,7 @@ use Rattle.omega_solve.specs.Headline.{IsExact}
 use Rattle.omega_empty.specs.EmptinessGame.{IsEmptinessGame}
 use Rattle.omega_empty.specs.GameLaws.{WonWalksAccept, number_at, numbers_on, within_counter}
 use Rattle.omega_empty.specs.Lasso.{IsAcceptingLasso}
-use Rattle.omega_empty.specs.layout.Following.{IsKnotted, IsWonStart}
+use Rattle.omega_empty.specs.private.layout.Following.{IsKnotted, IsWonStart}
 use Rattle.omega_empty.proofs.meaning.Accepting.{at_start}
 use Rattle.omega_empty.proofs.meaning.Searching.{even_from}
 use Rattle.omega_empty.proofs.meaning.Steps.{AtSink, AtState, Leaving, edge_number, edge_stands, edge_within, leaves_state, sink_stands, state_number, state_stands, state_within}

@@ -6,7 +6,7 @@ use Rattle.std.proofs.lemmas.Option.{get_or_from_slice_get, none-some, slice_get
 use Rattle.omega_automaton.specs.Automaton.{Description}
 use Rattle.omega_game.proofs.elements.Membership.{place_of_contained}
 use Rattle.omega_game.specs.Game.{IsGame, Node, identifier_at, identifiers, no_node}
-use Rattle.omega_empty.specs.layout.Following.{HasNoWonStart, IsWonAt}
+use Rattle.omega_empty.specs.private.layout.Following.{HasNoWonStart, IsWonAt}
 use Rattle.omega_empty.proofs.playing.Places.{same_place}
 
 -- the identifier that stands at a place

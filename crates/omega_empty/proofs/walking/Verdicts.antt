@@ -12,7 +12,7 @@ use Rattle.omega_empty.specs.Lasso.{IsAcceptingLasso}
 use Rattle.omega_empty.specs.Verdict.{IsVerdict}
 use Rattle.omega_empty.specs.declared.verdict.Verdict.{Verdict}
 use Rattle.omega_empty.specs.declared.verdict.Verdict.TheVariants.{Lasso}
-use Rattle.omega_empty.specs.layout.Following.{HasNoWonStart, IsKnotted}
+use Rattle.omega_empty.specs.private.layout.Following.{HasNoWonStart, IsKnotted}
 
 -- the edges before the knot and those from there on are a right verdict
 pub knot_is_right : (a : Description) (edges list : List ℕ) (knot : ℕ) (answer : Result Verdict Refusal) → IsKnotted a edges knot → list ≡ edges

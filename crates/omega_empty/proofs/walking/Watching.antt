@@ -9,7 +9,7 @@ use Rattle.omega_game.specs.declared.player.Player.{Player}
 use Rattle.omega_budget.proofs.Watched.{made_refused}
 use Rattle.omega_empty.specs.EmptinessGame.{IsEmptinessGame}
 use Rattle.omega_empty.specs.Watching.{LiftsAutomaton}
-use Rattle.omega_empty.specs.layout.Solving.{LiftsGame}
+use Rattle.omega_empty.specs.private.layout.Solving.{LiftsGame}
 
 -- the run stays made, whatever refuses it later but the budget
 pub automaton_refused : (automaton : Description) (refusal : Refusal) → refusal ≢ Task Budget

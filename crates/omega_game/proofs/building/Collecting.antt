@@ -14,8 +14,8 @@ use Rattle.omega_game.specs.declared.player.Player.TheVariants.{Zero}
 use Rattle.omega_game.specs.declared.node_spec.NodeSpec.{NodeSpec}
 use Rattle.omega_game.specs.Game.{IsNameByte}
 use Rattle.omega_game.specs.Building.{IsWellFormed, with_last, with_successor, with_name}
-use Rattle.omega_game.specs.layout.Collected.{AreCollected, ids_of}
-use Rattle.omega_game.specs.layout.Columns.{Columns, AreEven, collected, spec_in, specs_of}
+use Rattle.omega_game.specs.private.layout.Collected.{AreCollected, ids_of}
+use Rattle.omega_game.specs.private.layout.Columns.{Columns, AreEven, collected, spec_in, specs_of}
 
 -- there is a specification for each identifier
 pub length-specs_of : (columns : Columns) → length (specs_of columns) ≡ length columns.identifiers

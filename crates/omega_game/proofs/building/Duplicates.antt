@@ -11,8 +11,8 @@ use Rattle.std.proofs.lemmas.List.Sums.{sum_by-cons}
 use Rattle.std.proofs.lemmas.List.Sorted.{length_permutation, sum_by-IsPermutation, list_any-IsPermutation}
 use Rattle.omega_game.specs.declared.node_spec.NodeSpec.{NodeSpec}
 use Rattle.omega_game.specs.Building.{game_fault_of, has_duplicate, has_undefined, listed_successors, specified_times}
-use Rattle.omega_game.specs.layout.Collected.{ids_of}
-use Rattle.omega_game.specs.layout.Resolving.{is_defined}
+use Rattle.omega_game.specs.private.layout.Collected.{ids_of}
+use Rattle.omega_game.specs.private.layout.Resolving.{is_defined}
 use Rattle.omega_game.proofs.building.Resolutions.{rises_by}
 
 -- rearranged specifications specify each identifier as often

@@ -12,9 +12,9 @@ use Rattle.omega_game.specs.Limits.{most_nodes, most_successors}
 use Rattle.omega_game.specs.declared.player.Player.{Player}
 use Rattle.omega_game.specs.declared.node_spec.NodeSpec.{NodeSpec}
 use Rattle.omega_game.specs.Building.{game_fault_of, has_duplicate, has_undefined, listed_successors}
-use Rattle.omega_game.specs.layout.Collected.{AreCollected, ids_of}
-use Rattle.omega_game.specs.layout.Columns.{Columns, AreEven, collected, columns_of, identifiers_of, specs_of, spec_in}
-use Rattle.omega_game.specs.layout.Resolving.{is_defined, resolved_in}
+use Rattle.omega_game.specs.private.layout.Collected.{AreCollected, ids_of}
+use Rattle.omega_game.specs.private.layout.Columns.{Columns, AreEven, collected, columns_of, identifiers_of, specs_of, spec_in}
+use Rattle.omega_game.specs.private.layout.Resolving.{is_defined, resolved_in}
 use Rattle.omega_game.proofs.building.Collecting.{length-specs_of, get_or-specs_of, ids-specs_of, successors-specs_of}
 use Rattle.omega_game.proofs.building.Duplicates.{no_duplicate, has_undefined-not}
 use Rattle.omega_game.proofs.building.Resolved.{AreResolved}

@@ -12,9 +12,9 @@ use Rattle.omega_game.specs.declared.player.Player.{Player}
 use Rattle.omega_game.specs.declared.node_spec.NodeSpec.{NodeSpec}
 use Rattle.omega_game.specs.Game.{Node, no_node, IsGame, IsWithinLimits, IsWritableNode, HasEdge, node_at, successors_at}
 use Rattle.omega_game.specs.Building.{IsGameOf, IsWellFormed, specified}
-use Rattle.omega_game.specs.layout.Collected.{AreCollected}
-use Rattle.omega_game.specs.layout.Columns.{Columns, AreEven, collected, nodes_of, node_in, specs_of, spec_in}
-use Rattle.omega_game.specs.layout.Resolving.{is_defined, resolved_in}
+use Rattle.omega_game.specs.private.layout.Collected.{AreCollected}
+use Rattle.omega_game.specs.private.layout.Columns.{Columns, AreEven, collected, nodes_of, node_in, specs_of, spec_in}
+use Rattle.omega_game.specs.private.layout.Resolving.{is_defined, resolved_in}
 use Rattle.omega_game.proofs.building.Collecting.{get_or-specs_of, length-specs_of, specs_of_is}
 use Rattle.omega_game.proofs.layout.Columns.{get_or-nodes_of, node_at-nodes_of, length-nodes_of, identifiers-nodes_of, edge_count-nodes_of}
 

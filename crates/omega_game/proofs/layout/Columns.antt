@@ -9,7 +9,7 @@ use Rattle.std.proofs.lemmas.List.FromFn.{length-range_with_len, get_or-range_wi
 use Rattle.omega_game.specs.declared.player.Player.{Player}
 use Rattle.omega_game.specs.declared.player.Player.TheVariants.{Zero}
 use Rattle.omega_game.specs.Game.{Node, no_node, node_at, priority_at, owner_at, successors_at, predecessors_of, identifiers, priorities, successor_count}
-use Rattle.omega_game.specs.layout.Columns.{Columns, AreEven, node_in, nodes_of, name_in_column, identifiers_of}
+use Rattle.omega_game.specs.private.layout.Columns.{Columns, AreEven, node_in, nodes_of, name_in_column, identifiers_of}
 
 -- there is a node for each identifier
 pub length-nodes_of : (columns : Columns) → length (nodes_of columns) ≡ length columns.identifiers

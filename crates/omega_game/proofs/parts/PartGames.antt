@@ -12,7 +12,7 @@ use Rattle.std.specs.List.Sorted.{IsStrictlyIncreasing}
 use Rattle.omega_game.specs.declared.node_spec.NodeSpec.{NodeSpec}
 use Rattle.omega_text.specs.declared.refusal.Refusal.{Refusal}
 use Rattle.omega_text.specs.declared.refusal.Refusal.TheVariants.{Automaton, Game, Io, Memory, Task, Text}
-use Rattle.omega_game.specs.checking.Reaching.{mark_at}
+use Rattle.omega_game.specs.private.checking.Reaching.{mark_at}
 use Rattle.omega_game.specs.Game.{Node, IsGame, IsWithinLimits, IsWritableNode, HasEdge, node_at, no_node, identifiers, successors_at, successor_count}
 use Rattle.omega_game.specs.Building.{IsBuildRefusal, IsGameOf, specified, game_fault_of}
 use Rattle.omega_game.specs.Part.{IsPart, IsPartAt, Reaches, new_place, restricted}

@@ -5,7 +5,7 @@ use Rattle.omega_game.specs.declared.player.Player.{Player}
 use Rattle.omega_game.specs.declared.priority_counts.PriorityCount.{PriorityCount}
 use Rattle.omega_game.specs.Player.{loses}
 use Rattle.omega_game.specs.Bound.{bearers, borne_priorities, priority_counts, product, product_of}
-use Rattle.omega_game.specs.priorities.Factors.{factor_of}
+use Rattle.omega_game.specs.private.priorities.Factors.{factor_of}
 use Rattle.omega_game.proofs.priorities.Products.{product_kept}
 
 -- the factor of a priority that loses

@@ -7,7 +7,7 @@ use Rattle.omega_game.specs.Game.{Node, IsGame, priority_at}
 use Rattle.omega_game.specs.Winning.{IsStrategy, IsWalk, IsClosedWalk, greatest_on}
 use Rattle.omega_game.specs.Counterexample.{IsCounterexample}
 use Rattle.omega_game.specs.Player.{loses}
-use Rattle.omega_game.specs.refuting.Ways.{LeadsTo, IsCycle}
+use Rattle.omega_game.specs.private.refuting.Ways.{LeadsTo, IsCycle}
 use Rattle.omega_game.proofs.walks.Recurrence.{walk_from_path, walk_below, round, greatest_round}
 
 module _ (nodes : List Node) (player : Player) (choices : List (Option ℕ)) (game : IsGame nodes) (strategy : IsStrategy nodes player choices) where

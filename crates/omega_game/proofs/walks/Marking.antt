@@ -7,7 +7,7 @@ use Rattle.std.proofs.lemmas.List.Sums.{sum_by-set}
 use Rattle.omega_game.specs.Game.{Node, IsGame, priority_at}
 use Rattle.omega_game.specs.Part.{IsPath, Reaches}
 use Rattle.omega_game.specs.Winning.{end_of}
-use Rattle.omega_game.specs.checking.Reaching.{left_at, mark_at, IsLowPath, IsReachedFrom, AreReached, AreEntered, LeadsInside, AreClosed}
+use Rattle.omega_game.specs.private.checking.Reaching.{left_at, mark_at, IsLowPath, IsReachedFrom, AreReached, AreEntered, LeadsInside, AreClosed}
 use Rattle.omega_game.proofs.elements.Membership.{Contains-nothing}
 
 -- the mark that was set

@@ -1,8 +1,8 @@
 //! Whether no place that is reached bears a losing priority and recurs: suggested by a fast search, checked, and else
 //! tested plainly.
 ghost use Rattle.std.specs.Prelude.{◌≡◌, ℕ, ◌<◌, length, vec_len, IfOk, IfSome, IsTrue};
-ghost use Rattle.omega_game.specs.checking.Decision.{IsLosingPlace, IsRightDecision};
-ghost use Rattle.omega_game.specs.checking.Reaching.{LeadsInside, AreClosed};
+ghost use Rattle.omega_game.specs.private.checking.Decision.{IsLosingPlace, IsRightDecision};
+ghost use Rattle.omega_game.specs.private.checking.Reaching.{LeadsInside, AreClosed};
 
 use crate::checking::components::Edge;
 use crate::checking::decision::Decision;

@@ -10,7 +10,7 @@ pub(crate) enum Decision {
 }
 
 impl Decision {
-    ghost use Rattle.omega_game.specs.checking.Decision.{is_won};
+    ghost use Rattle.omega_game.specs.private.checking.Decision.{is_won};
 
     /// Whether the strategy wins.
     pub(crate) fn is_won(self) -> bool

@@ -1,9 +1,9 @@
 //! A proof that a strategy wins, as an order of the places: each edge leads forward, or back to a place whose priority
 //! does not lose and is the greatest on the way. A closed walk passes its greatest priority by such a step back.
 ghost use Rattle.std.specs.Prelude.{◌≡◌, ℕ, ◌<◌, ◌≤◌, length, vec_len, All, IfOk, IsTrue, slice_index};
-ghost use Rattle.omega_game.specs.checking.Reaching.{mark_at, LeadsInside, AreClosed};
-ghost use Rattle.omega_game.specs.checking.Ordering.{AreEnds, IsInOrder, StandsInOrder};
-ghost use Rattle.omega_game.specs.checking.Recurring.{NoneRecurs};
+ghost use Rattle.omega_game.specs.private.checking.Reaching.{mark_at, LeadsInside, AreClosed};
+ghost use Rattle.omega_game.specs.private.checking.Ordering.{AreEnds, IsInOrder, StandsInOrder};
+ghost use Rattle.omega_game.specs.private.checking.Recurring.{NoneRecurs};
 
 use crate::game::Game;
 use crate::player::Player;

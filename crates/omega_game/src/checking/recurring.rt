@@ -1,8 +1,8 @@
 //! The plain test: whether a place that is reached bears a losing priority and recurs.
 ghost use Rattle.std.specs.Prelude.{◌≡◌, ◌↔◌, ℕ, ◌<◌, length, IfOk, IsTrue};
-ghost use Rattle.omega_game.specs.checking.Decision.{IsRightDecision};
-ghost use Rattle.omega_game.specs.checking.Reaching.{LeadsInside};
-ghost use Rattle.omega_game.specs.checking.Recurring.{Recurs};
+ghost use Rattle.omega_game.specs.private.checking.Decision.{IsRightDecision};
+ghost use Rattle.omega_game.specs.private.checking.Reaching.{LeadsInside};
+ghost use Rattle.omega_game.specs.private.checking.Recurring.{Recurs};
 
 use crate::checking::decision::Decision;
 use crate::game::Game;

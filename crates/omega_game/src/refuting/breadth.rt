@@ -1,7 +1,7 @@
 //! A search in breadth: each place that is reached is met on a shortest way.
 ghost use Rattle.std.specs.Prelude.{◌≡◌, ℕ, ◌<◌, length, vec_len, All, IfOk, OnOk};
-ghost use Rattle.omega_game.specs.checking.Reaching.{LeadsInside};
-ghost use Rattle.omega_game.specs.refuting.Ways.{AreMet, IsTree, MeetsAll};
+ghost use Rattle.omega_game.specs.private.checking.Reaching.{LeadsInside};
+ghost use Rattle.omega_game.specs.private.refuting.Ways.{AreMet, IsTree, MeetsAll};
 
 use crate::game::Game;
 use crate::reaching::edges_left;

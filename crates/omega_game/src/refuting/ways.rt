@@ -1,7 +1,7 @@
 //! Shortest ways to a place that is reached.
 ghost use Rattle.std.specs.Prelude.{◌≡◌, ℕ, ◌<◌, length, vec_len, All, Contains, IfOk, slice_index};
-ghost use Rattle.omega_game.specs.checking.Reaching.{LeadsInside, IsReachedFrom};
-ghost use Rattle.omega_game.specs.refuting.Ways.{IsWay, LeadBack, LeadsTo};
+ghost use Rattle.omega_game.specs.private.checking.Reaching.{LeadsInside, IsReachedFrom};
+ghost use Rattle.omega_game.specs.private.refuting.Ways.{IsWay, LeadBack, LeadsTo};
 
 use crate::game::Game;
 use crate::refuting::breadth::met_from;

@@ -2,7 +2,7 @@ ghost use Rattle.std.specs.Prelude.{◌≡◌, ◌++◌, ℕ, ◌<◌, Some, IfO
 ghost use Rattle.omega_text.specs.declared.refusal.Refusal.TheVariants.{Memory};
 ghost use Rattle.omega_game.specs.Winning.{IsStrategy};
 ghost use Rattle.omega_game_answers.specs.solve.AnswerText.{answer_text, lifts_line, answer_line};
-ghost use Rattle.omega_game_answers.specs.steps.Places.{places_from};
+ghost use Rattle.omega_game_answers.specs.private.steps.Places.{places_from};
 
 use crate::player_text::append_player;
 use omega_game::{Game, Player, Refusal};

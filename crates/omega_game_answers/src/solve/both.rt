@@ -8,9 +8,9 @@ ghost use Rattle.omega_solve.specs.Limits.{most_lifts};
 ghost use Rattle.omega_text.specs.declared.refusal.Refusal.TheVariants.{Memory, Task};
 ghost use Rattle.omega_game_answers.specs.declared.solve.asked.Asked.TheVariants.{Both};
 ghost use Rattle.omega_game_answers.specs.solve.Solution.{IsRight, IsSolutionOf};
-ghost use Rattle.omega_game_answers.specs.steps.SolveGameRefusal.{IsSolveGameRefusal};
-ghost use Rattle.omega_game_answers.specs.steps.Winners.{winners_of};
-ghost use Rattle.omega_game_answers.specs.Watching.{LiftsWholeGame};
+ghost use Rattle.omega_game_answers.specs.private.steps.SolveGameRefusal.{IsSolveGameRefusal};
+ghost use Rattle.omega_game_answers.specs.private.steps.Winners.{winners_of};
+ghost use Rattle.omega_game_answers.specs.private.steps.Lifts.{LiftsWholeGame};
 ghost use Rattle.omega_budget.specs.Watching.{IsWatched, refusal_in};
 
 use omega_budget::{Reordered, Watch};

@@ -3,8 +3,8 @@ ghost use Rattle.omega_solve.specs.Limits.{most_lifts};
 ghost use Rattle.omega_game_answers.specs.declared.solve.asked.Asked.TheVariants.{Search};
 ghost use Rattle.omega_game.specs.Solution.{IsExactSolution};
 ghost use Rattle.omega_game_answers.specs.solve.Solution.{IsExactSolutionOf};
-ghost use Rattle.omega_game_answers.specs.steps.SolveGameRefusal.{IsSolveGameRefusal};
-ghost use Rattle.omega_game_answers.specs.Watching.{LiftsWholeGame};
+ghost use Rattle.omega_game_answers.specs.private.steps.SolveGameRefusal.{IsSolveGameRefusal};
+ghost use Rattle.omega_game_answers.specs.private.steps.Lifts.{LiftsWholeGame};
 ghost use Rattle.omega_budget.specs.Watching.{IsWatched, refusal_in};
 
 use super::both::solution_of;

@@ -10,14 +10,14 @@ use Rattle.omega_text.specs.declared.refusal.game.GameFault.{GameFault}
 use Rattle.omega_game.specs.Building.{IsGameOf, has_duplicate, has_undefined, fault_with}
 use Rattle.omega_game.specs.Game.{IsWithinLimits, Node}
 use Rattle.omega_game.specs.declared.node_spec.NodeSpec.{NodeSpec}
-use Rattle.omega_pg.specs.game.reader.Automaton.{IsReachedBy, IsReadyAt, GameReaderState}
-use Rattle.omega_pg.specs.game.reader.Built.{IsBuiltRefusal}
+use Rattle.omega_pg.specs.private.game.reader.Automaton.{IsReachedBy, IsReadyAt, GameReaderState}
+use Rattle.omega_pg.specs.private.game.reader.Built.{IsBuiltRefusal}
 use Rattle.omega_pg.specs.game.Grammar.{game_syntax}
 use Rattle.omega_text.specs.Reading.{IsReadText}
 use Rattle.omega_text.specs.Cases.{never, or_memory, or_text}
 use Rattle.omega_text.specs.pg.Format.{pg_format}
 use Rattle.omega_pg.specs.game.Refusing.{IsReadRefusal, is_header_small}
-use Rattle.omega_pg.specs.Symbols.{symbols_of}
+use Rattle.omega_pg.specs.private.reader.Symbols.{symbols_of}
 use Rattle.omega_text.specs.Syntax.{IsTextFault, IsTextOf, TokensComplete}
 use Rattle.omega_pg.specs.game.Text.{Covers, IsGameText}
 use Rattle.omega_pg.specs.declared.game.stage.Stage.TheVariants.{Ended}

@@ -10,7 +10,7 @@ use Rattle.omega_game.specs.Laws.{GamesExist, GamesKeepLimits}
 use Rattle.omega_pg.specs.game.Grammar.{RawGame, header_symbols, node_symbols, game_syntax}
 use Rattle.omega_pg.specs.game.Laws.{TextsAreReadOrRefused}
 use Rattle.omega_pg.specs.game.Refusing.{IsRefusal, fault_in, is_header_small}
-use Rattle.omega_pg.specs.Symbols.{symbols_of}
+use Rattle.omega_pg.specs.private.reader.Symbols.{symbols_of}
 use Rattle.omega_text.specs.Syntax.{IsDecidable, IsTextOf, TextsAreReadOrFaulty}
 use Rattle.omega_pg.specs.game.Text.{IsGameText}
 use Rattle.omega_pg.proofs.games.Built.{Covers-from_test, header_fits}

@@ -2,11 +2,12 @@
 use Rattle.std.proofs.Common.{◌≡◌, ℕ, ◌⊎◌, inl, inr, Bool, true, false, Result, Ok, Err, IfOk, Option, Some, List, [], ◌∷◌, refl, ◌∙◌, subst, IfSome, append-nil}
 use Rattle.omega_game.specs.declared.node_spec.NodeSpec.{NodeSpec}
 use Rattle.omega_text.specs.declared.refusal.Refusal.{Refusal}
-use Rattle.omega_pg.specs.game.reader.Automaton.{IsReachedBy, GameReaderState, Takes, initial, run, step}
+use Rattle.omega_pg.specs.private.game.reader.Automaton.{IsReachedBy, GameReaderState, Takes, initial, run, step}
 use Rattle.omega_pg.specs.game.Grammar.{RawGame, SpellsGame, game_syntax}
 use Rattle.omega_text.specs.Reading.{IsWholeOrUnfinished, TakesOrRefuses}
 use Rattle.omega_pg.specs.game.Refusing.{is_header_small}
-use Rattle.omega_pg.specs.Symbols.{PgSymbol, number, semicolon, pg_symbol_of, symbols_of}
+use Rattle.omega_pg.specs.Symbols.{PgSymbol, number, semicolon, pg_symbol_of}
+use Rattle.omega_pg.specs.private.reader.Symbols.{symbols_of}
 use Rattle.omega_text.specs.Syntax.{TokensBegin, TokensComplete}
 use Rattle.omega_text.specs.Lexeme.{Lexeme}
 use Rattle.omega_text.specs.declared.pg.kind.PgKind.{PgKind}

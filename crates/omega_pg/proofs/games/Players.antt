@@ -5,7 +5,7 @@ use Rattle.std.proofs.lemmas.Bool.{cond_both, eqb-true}
 use Rattle.omega_game.specs.Player.{player_number}
 use Rattle.omega_game.specs.declared.player.Player.{Player}
 use Rattle.omega_game.specs.declared.player.Player.TheVariants.{One, Zero}
-use Rattle.omega_pg.specs.game.reader.Automaton.{player_of}
+use Rattle.omega_pg.specs.private.game.reader.Automaton.{player_of}
 
 -- the player of a number has that number
 pub player_of-number : (n : ℕ) → IfSome (player_of n) (λ owner. player_number owner ≡ n)

@@ -9,7 +9,7 @@ use Rattle.std.proofs.lemmas.List.Folds.{list_any-append}
 use Rattle.omega_game.specs.Building.{with_last, with_name, with_successor}
 use Rattle.omega_game.specs.declared.node_spec.NodeSpec.{NodeSpec}
 use Rattle.omega_pg.proofs.games.Players.{player_of-number}
-use Rattle.omega_pg.specs.game.reader.Automaton.{GameReaderState, after_comma, after_name, after_number, after_semicolon, after_word, begun, is_above, player_of, step, to_stage}
+use Rattle.omega_pg.specs.private.game.reader.Automaton.{GameReaderState, after_comma, after_name, after_number, after_semicolon, after_word, begun, is_above, player_of, step, to_stage}
 use Rattle.omega_pg.specs.game.Grammar.{header_symbols, name_symbols, node_symbols, successor_symbols}
 use Rattle.omega_pg.specs.game.Refusing.{is_header_small}
 use Rattle.omega_pg.specs.Symbols.{PgSymbol, comma, name, number, parity, paritysol, semicolon}

@@ -6,7 +6,7 @@ use Rattle.omega_game.specs.Building.{with_name, with_successor}
 use Rattle.omega_game.specs.declared.node_spec.NodeSpec.{NodeSpec}
 use Rattle.omega_game.specs.declared.player.Player.{Player}
 use Rattle.omega_game.specs.declared.player.Player.TheVariants.{One, Zero}
-use Rattle.omega_pg.specs.game.reader.Automaton.{GameReaderState, begun, initial, is_above, run}
+use Rattle.omega_pg.specs.private.game.reader.Automaton.{GameReaderState, begun, initial, is_above, run}
 use Rattle.omega_pg.specs.game.Grammar.{RawGame, SpellsGame, header_symbols, name_symbols, node_symbols, successor_symbols}
 use Rattle.omega_pg.specs.Symbols.{PgSymbol, comma, number, semicolon}
 use Rattle.omega_game.specs.Player.{player_number}

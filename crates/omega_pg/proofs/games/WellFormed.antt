@@ -18,7 +18,8 @@ use Rattle.omega_game.specs.Game.{IsNameByte}
 use Rattle.omega_text.specs.Limits.{most_number}
 use Rattle.omega_game.specs.declared.node_spec.NodeSpec.{NodeSpec}
 use Rattle.omega_pg.specs.game.Grammar.{name_symbols, node_symbols, successor_symbols}
-use Rattle.omega_pg.specs.Symbols.{PgSymbol, comma, name, number, parity, paritysol, semicolon, symbol, symbols_of}
+use Rattle.omega_pg.specs.Symbols.{PgSymbol, comma, name, number, parity, paritysol, semicolon, symbol}
+use Rattle.omega_pg.specs.private.reader.Symbols.{symbols_of}
 use Rattle.omega_text.specs.Forms.{between_quotes}
 
 -- a symbol that a token may be: a number within the limit, or a name of the allowed bytes

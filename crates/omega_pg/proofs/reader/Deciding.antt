@@ -6,8 +6,9 @@ use Rattle.omega_text.specs.Lexeme.{Lexeme}
 use Rattle.omega_text.specs.Syntax.{Begins, IsDecidable, IsTextOf, IsUnfinished, TokensBegin, TokensComplete}
 use Rattle.omega_text.specs.pg.Format.{pg_format}
 use Rattle.omega_text.specs.declared.pg.kind.PgKind.{PgKind}
-use Rattle.omega_pg.specs.reader.Run.{run_by}
-use Rattle.omega_pg.specs.Symbols.{PgSymbol, pg_syntax, pg_symbol_of, symbols_of}
+use Rattle.omega_pg.specs.private.reader.Run.{run_by}
+use Rattle.omega_pg.specs.Symbols.{PgSymbol, pg_syntax, pg_symbol_of}
+use Rattle.omega_pg.specs.private.reader.Symbols.{symbols_of}
 use Rattle.omega_pg.proofs.reader.Runs.{run_by_on, run_by_push, run_by_stopped}
 
 -- symbols lead to an end, where this raw text is kept

@@ -1,7 +1,7 @@
 -- Runs of an automaton over symbols, joined.
 use Rattle.std.proofs.Common.{◌≡◌, Option, Some, None, IfSome, List, [], ◌∷◌, ◌++◌, refl, ap, sym, ◌∙◌, subst, append_assoc, append-nil}
 use Rattle.std.specs.Prelude.{option_and_then}
-use Rattle.omega_pg.specs.reader.Run.{run_by}
+use Rattle.omega_pg.specs.private.reader.Run.{run_by}
 use Rattle.omega_pg.specs.Symbols.{PgSymbol}
 
 module _ {State : Type 0} (step : State → PgSymbol → Option State) where

@@ -16,7 +16,7 @@ use Rattle.omega_pg.specs.solution.Grammar.{SolutionLine, RawSolution, no_line, 
 use Rattle.omega_game.specs.Solution.{IsSolution}
 use Rattle.omega_pg.specs.solution.Text.{raw_solution, IsSolutionText}
 use Rattle.omega_pg.specs.solution.Laws.{SolutionTextsAreReadOrRefused}
-use Rattle.omega_pg.specs.solution.reader.Lines.{AreJudged, IsWrongLine, Says}
+use Rattle.omega_pg.specs.private.solution.reader.Lines.{AreJudged, IsWrongLine, Says}
 use Rattle.omega_pg.specs.solution.Refusing.{IsSolutionRefusal}
 use Rattle.omega_text.specs.Syntax.{IsDecidable as IsDecidedSyntax, IsTextOf, TextsAreReadOrFaulty}
 use Rattle.omega_game.specs.declared.solution.Solution.{Solution}

@@ -5,9 +5,9 @@ use Rattle.std.specs.List.{flat_map}
 use Rattle.std.proofs.lemmas.List.Concat.{flat_map-append}
 use Rattle.omega_game.specs.declared.player.Player.{Player}
 use Rattle.omega_game.specs.declared.player.Player.TheVariants.{One, Zero}
-use Rattle.omega_pg.specs.game.reader.Automaton.{player_of}
+use Rattle.omega_pg.specs.private.game.reader.Automaton.{player_of}
 use Rattle.omega_pg.specs.solution.Grammar.{SolutionLine, RawSolution, SpellsSolution, line_symbols}
-use Rattle.omega_pg.specs.solution.reader.Automaton.{SolutionReaderState, after_number, after_semicolon, after_word, initial, run, step, to_stage}
+use Rattle.omega_pg.specs.private.solution.reader.Automaton.{SolutionReaderState, after_number, after_semicolon, after_word, initial, run, step, to_stage}
 use Rattle.omega_pg.specs.Symbols.{PgSymbol, comma, name, number, parity, paritysol, semicolon}
 use Rattle.omega_game.specs.Player.{player_number}
 use Rattle.omega_pg.specs.declared.solution.stage.Stage.{Stage}

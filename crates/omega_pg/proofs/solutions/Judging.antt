@@ -7,7 +7,7 @@ use Rattle.omega_game.specs.Game.{Node, owner_at}
 use Rattle.omega_game.specs.declared.player.Player.{Player}
 use Rattle.omega_game.specs.declared.player.Player.TheVariants.{One, Zero}
 use Rattle.omega_pg.specs.solution.Grammar.{SolutionLine, no_line}
-use Rattle.omega_pg.specs.solution.reader.Lines.{AreJudged, AreSaid, IsKept, IsWrongLine, Says, entry_of}
+use Rattle.omega_pg.specs.private.solution.reader.Lines.{AreJudged, AreSaid, IsKept, IsWrongLine, Says, entry_of}
 
 -- what is mapped is none where it was
 pub none_mapped : {A B : Type 0} (o : Option A) (p : Option B) (P Q : Type 0) → is_some p ≡ is_some o → (P → Q) → IfNone o P → IfNone p Q

@@ -13,7 +13,7 @@ use Rattle.omega_pg.specs.solution.BadSolution.{IsNoSolution}
 use Rattle.omega_pg.specs.solution.Grammar.{SolutionLine, RawSolution, no_line}
 use Rattle.omega_game.specs.Solution.{IsSolution, choices_of}
 use Rattle.omega_pg.specs.solution.Text.{line_at, raw_solution}
-use Rattle.omega_pg.specs.solution.reader.Lines.{AreJudged, AreSaid, IsKept, entry_of}
+use Rattle.omega_pg.specs.private.solution.reader.Lines.{AreJudged, AreSaid, IsKept, entry_of}
 use Rattle.omega_game.specs.declared.solution.Solution.{Solution}
 
 -- a header with another number

@@ -5,16 +5,17 @@ use Rattle.omega_text.specs.declared.refusal.Refusal.{Refusal}
 use Rattle.omega_game.specs.Game.{Node}
 use Rattle.omega_game.specs.declared.player.Player.{Player}
 use Rattle.omega_pg.specs.solution.Grammar.{SolutionLine}
-use Rattle.omega_pg.specs.solution.reader.Automaton.{SolutionReaderState, after_number, after_semicolon, after_word, stage_after_number, stage_after_word, step, to_stage, with_line}
-use Rattle.omega_pg.specs.solution.reader.Lines.{AreJudged}
-use Rattle.omega_pg.specs.solution.reader.Reading.{GoesOnTo, HasTaken, Keeps, KeepsNext}
+use Rattle.omega_pg.specs.private.solution.reader.Automaton.{SolutionReaderState, after_number, after_semicolon, after_word, stage_after_number, stage_after_word, step, to_stage, with_line}
+use Rattle.omega_pg.specs.private.solution.reader.Lines.{AreJudged}
+use Rattle.omega_pg.specs.private.solution.reader.Reading.{GoesOnTo, HasTaken, Keeps, KeepsNext}
 use Rattle.omega_pg.specs.solution.Grammar.{solution_syntax}
 use Rattle.omega_text.specs.Lexeme.{Lexeme}
 use Rattle.omega_text.specs.Reading.{IsWholeOrUnfinished, TakesOrRefuses}
 use Rattle.omega_text.specs.Syntax.{TokensBegin, TokensComplete}
 use Rattle.omega_text.specs.declared.pg.kind.PgKind.{PgKind}
-use Rattle.omega_pg.specs.Symbols.{pg_symbol_of, symbols_of}
-use Rattle.omega_pg.specs.solution.reader.Reader.{HasBecome}
+use Rattle.omega_pg.specs.Symbols.{pg_symbol_of}
+use Rattle.omega_pg.specs.private.reader.Symbols.{symbols_of}
+use Rattle.omega_pg.specs.private.solution.reader.Reader.{HasBecome}
 use Rattle.omega_pg.specs.declared.solution.lines.Lines.{Lines}
 use Rattle.omega_pg.specs.declared.solution.reader.Reader.{Reader}
 use Rattle.omega_pg.specs.declared.solution.stage.Stage.{Stage}

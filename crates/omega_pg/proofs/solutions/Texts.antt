@@ -7,13 +7,13 @@ use Rattle.omega_text.specs.pg.Format.{pg_format}
 use Rattle.omega_text.specs.declared.refusal.Refusal.{Refusal}
 use Rattle.omega_text.specs.declared.refusal.Refusal.TheVariants.{Automaton, Game, Io, Memory, Task, Text}
 use Rattle.omega_game.specs.Game.{Node}
-use Rattle.omega_pg.specs.Symbols.{symbols_of}
+use Rattle.omega_pg.specs.private.reader.Symbols.{symbols_of}
 use Rattle.omega_pg.specs.solution.Grammar.{SpellsSolution, solution_syntax}
 use Rattle.omega_pg.specs.solution.Refusing.{IsReadSolutionRefusal}
 use Rattle.omega_pg.specs.solution.Text.{IsSolutionText}
-use Rattle.omega_pg.specs.solution.reader.Lines.{IsOutcome}
-use Rattle.omega_pg.specs.solution.reader.Reader.{HasBecome}
-use Rattle.omega_pg.specs.solution.reader.Reading.{HasTaken}
+use Rattle.omega_pg.specs.private.solution.reader.Lines.{IsOutcome}
+use Rattle.omega_pg.specs.private.solution.reader.Reader.{HasBecome}
+use Rattle.omega_pg.specs.private.solution.reader.Reading.{HasTaken}
 use Rattle.omega_game.specs.declared.solution.Solution.{Solution}
 use Rattle.omega_pg.specs.declared.solution.lines.Lines.{Lines}
 use Rattle.omega_pg.specs.declared.solution.reader.Reader.{Reader}

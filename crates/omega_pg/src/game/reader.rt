@@ -3,7 +3,7 @@ ghost use Rattle.omega_text.specs.pg.Forms.{IsQuoted};
 ghost use Rattle.omega_text.specs.Limits.{most_number};
 ghost use Rattle.omega_game.specs.Game.{IsNameByte};
 ghost use Rattle.omega_text.specs.Forms.{between_quotes};
-ghost use Rattle.omega_pg.specs.game.reader.Automaton.{is_above};
+ghost use Rattle.omega_pg.specs.private.game.reader.Automaton.{is_above};
 
 use crate::game::stage::Stage;
 use omega_game::{GameBuilder, Player, Refusal};
@@ -24,8 +24,8 @@ pub(crate) struct Reader {
 
 impl Reader {
     ghost use Rattle.omega_pg.specs.declared.game.stage.Stage.TheVariants.{Owner};
-    ghost use Rattle.omega_pg.specs.game.reader.Automaton.{IsReady, Takes, after_comma, after_name, after_number, after_semicolon, after_word, begun, initial, player_of, to_stage, with_node};
-    ghost use Rattle.omega_pg.specs.game.reader.Reader.{game_reader_state};
+    ghost use Rattle.omega_pg.specs.private.game.reader.Automaton.{IsReady, Takes, after_comma, after_name, after_number, after_semicolon, after_word, begun, initial, player_of, to_stage, with_node};
+    ghost use Rattle.omega_pg.specs.private.game.reader.Reader.{game_reader_state};
     ghost use Rattle.omega_game.specs.Game.{IsNameByte};
 
     pub(crate) fn new(alloc: Global) -> Self
@@ -185,10 +185,11 @@ impl Reader {
 }
 
 impl TokenReader<PgKind> for Reader {
-    ghost use Rattle.omega_pg.specs.Symbols.{pg_symbol_of, symbols_of};
+    ghost use Rattle.omega_pg.specs.Symbols.{pg_symbol_of};
+    ghost use Rattle.omega_pg.specs.private.reader.Symbols.{symbols_of};
     ghost use Rattle.omega_pg.specs.game.Grammar.{game_syntax};
-    ghost use Rattle.omega_pg.specs.game.reader.Automaton.{IsReachedBy, IsReady, Takes, step};
-    ghost use Rattle.omega_pg.specs.game.reader.Reader.{game_reader_state};
+    ghost use Rattle.omega_pg.specs.private.game.reader.Automaton.{IsReachedBy, IsReady, Takes, step};
+    ghost use Rattle.omega_pg.specs.private.game.reader.Reader.{game_reader_state};
     ghost use Rattle.omega_pg.specs.declared.game.stage.Stage.TheVariants.{Ended};
     ghost use Rattle.omega_text.specs.Lexeme.{lexeme_of};
     ghost use Rattle.omega_text.specs.Syntax.{TokensBegin, TokensComplete};

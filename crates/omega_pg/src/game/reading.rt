@@ -2,7 +2,7 @@ ghost use Rattle.std.specs.Prelude.{◌≡◌, ◌<◌, List, length, true, None
 ghost use Rattle.omega_game.specs.Building.{IsBuildRefusal, IsGameOf, fault_with};
 ghost use Rattle.omega_game.specs.declared.node_spec.NodeSpec.{NodeSpec};
 ghost use Rattle.omega_game.specs.Game.{IsWithinLimits};
-ghost use Rattle.omega_pg.specs.game.reader.Built.{IsBuiltRefusal};
+ghost use Rattle.omega_pg.specs.private.game.reader.Built.{IsBuiltRefusal};
 ghost use Rattle.omega_pg.specs.game.Refusing.{IsReadRefusal};
 ghost use Rattle.omega_pg.specs.game.Text.{IsGameText};
 

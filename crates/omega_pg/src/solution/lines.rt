@@ -1,6 +1,6 @@
 ghost use Rattle.std.specs.Prelude.{◌≡◌, ◌<◌, ◌^◌, ◌≢◌, ◌↔◌, ℕ, [], ◌∷◌, ◌++◌, true, All, Contains, IfNone, IfSome, IsOkUnless, OnOk, length};
 ghost use Rattle.omega_game.specs.Game.{identifier_at};
-ghost use Rattle.omega_pg.specs.solution.reader.Lines.{IsWrongLine, Says};
+ghost use Rattle.omega_pg.specs.private.solution.reader.Lines.{IsWrongLine, Says};
 
 use omega_game::{Game, Player, Refusal, Seq, Solution, Strategy, TaskFault};
 use std::alloc::Global;
@@ -18,7 +18,7 @@ pub(crate) struct Lines {
 impl Lines {
     ghost use Rattle.std.specs.Prelude.{List};
     ghost use Rattle.omega_pg.specs.solution.Grammar.{SolutionLine};
-    ghost use Rattle.omega_pg.specs.solution.reader.Lines.{AreJudged, IsOutcome, entry_of};
+    ghost use Rattle.omega_pg.specs.private.solution.reader.Lines.{AreJudged, IsOutcome, entry_of};
     ghost use Rattle.omega_game.specs.declared.player.Player.TheVariants.{One, Zero};
 
     pub(crate) fn new(alloc: Global) -> Self

@@ -1,5 +1,5 @@
 ghost use Rattle.std.specs.Prelude.{◌≡◌, ◌↔◌, IfOk, IsOkUnless, IsTrue};
-ghost use Rattle.omega_pg.specs.solution.reader.Automaton.{stage_after_number, stage_after_word};
+ghost use Rattle.omega_pg.specs.private.solution.reader.Automaton.{stage_after_number, stage_after_word};
 
 use crate::solution::lines::Lines;
 use crate::solution::stage::Stage;
@@ -18,8 +18,8 @@ pub(crate) struct Reader<'g> {
 }
 
 impl<'g> Reader<'g> {
-    ghost use Rattle.omega_pg.specs.solution.reader.Automaton.{SolutionReaderState, after_semicolon, initial};
-    ghost use Rattle.omega_pg.specs.solution.reader.Reading.{GoesOnTo, Keeps, KeepsNext};
+    ghost use Rattle.omega_pg.specs.private.solution.reader.Automaton.{SolutionReaderState, after_semicolon, initial};
+    ghost use Rattle.omega_pg.specs.private.solution.reader.Reading.{GoesOnTo, Keeps, KeepsNext};
 
     pub(crate) fn new(alloc: Global, game: &'g Game) -> Self
         ensures game { result.game.now ≡ game.now }
@@ -82,9 +82,9 @@ impl<'g> Reader<'g> {
 impl TokenReader<PgKind> for Reader<'_> {
     ghost use Rattle.omega_pg.specs.Symbols.{pg_symbol_of};
     ghost use Rattle.omega_pg.specs.solution.Grammar.{solution_syntax};
-    ghost use Rattle.omega_pg.specs.solution.reader.Automaton.{SolutionReaderState, step};
-    ghost use Rattle.omega_pg.specs.solution.reader.Reader.{HasBecome};
-    ghost use Rattle.omega_pg.specs.solution.reader.Reading.{Keeps, KeepsNext};
+    ghost use Rattle.omega_pg.specs.private.solution.reader.Automaton.{SolutionReaderState, step};
+    ghost use Rattle.omega_pg.specs.private.solution.reader.Reader.{HasBecome};
+    ghost use Rattle.omega_pg.specs.private.solution.reader.Reading.{Keeps, KeepsNext};
     ghost use Rattle.omega_pg.specs.declared.solution.stage.Stage.TheVariants.{Ended};
     ghost use Rattle.omega_text.specs.Lexeme.{lexeme_of};
     ghost use Rattle.omega_text.specs.Syntax.{TokensBegin, TokensComplete};

@@ -9,7 +9,7 @@ use Rattle.omega_raw.proofs.uniqueness.Tokens.{sign_passed, token_one}
 use Rattle.omega_raw.proofs.RowLemmas.{raw_same}
 use Rattle.omega_raw.specs.Grammar.{IsRawItem, IsRawState, each, item_row, state_row}
 use Rattle.omega_raw.specs.Laws.{RawsAreOne}
-use Rattle.omega_raw.specs.steps.Parts.{EndsItem, EndsState, is_header}
+use Rattle.omega_raw.specs.private.steps.Parts.{EndsItem, EndsState, is_header}
 use Rattle.omega_raw.specs.Symbols.{AutomatonSymbol, header, sign, word}
 use Rattle.omega_raw.specs.declared.raw_automaton.RawAutomaton.{RawAutomaton}
 use Rattle.omega_text.specs.declared.hoa.kind.HoaKind.TheVariants as kind

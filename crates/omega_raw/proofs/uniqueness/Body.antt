@@ -6,11 +6,12 @@ use Rattle.omega_raw.proofs.PartLemmas.{IsPart}
 use Rattle.omega_raw.proofs.RowLemmas.{edge_same, state_same}
 use Rattle.omega_raw.proofs.uniqueness.Rows.{IsOne, each_one, int_one, optional_one, string_one}
 use Rattle.omega_raw.proofs.uniqueness.Tokens.{expression_one, sign_passed, token_one}
-use Rattle.omega_raw.specs.steps.Beginnings.{edge_begun, edge_follows, state_begun, state_follows}
+use Rattle.omega_raw.specs.private.steps.Beginnings.{edge_begun, edge_follows, state_begun, state_follows}
 use Rattle.omega_raw.specs.Grammar.{IsConj, IsRawEdge, IsRawState, conj_row, each, edge_row, int_row, joined_row, label_row, optional_row, sig_row, state_row, string_row}
-use Rattle.omega_raw.specs.steps.Parts.{EndsConj, EndsEdge, EndsState, is_and, is_brace, is_bracket, is_edge, is_header, is_int, is_string}
-use Rattle.omega_raw.specs.steps.Reading.{IsAny, IsKind}
-use Rattle.omega_raw.specs.Symbols.{FirstIs, AutomatonSymbol, header, label, number, sign}
+use Rattle.omega_raw.specs.private.steps.Parts.{EndsConj, EndsEdge, EndsState, is_and, is_brace, is_bracket, is_edge, is_header, is_int, is_string}
+use Rattle.omega_raw.specs.private.steps.Reading.{IsAny, IsKind}
+use Rattle.omega_raw.specs.Symbols.{AutomatonSymbol, header, label, number, sign}
+use Rattle.omega_raw.specs.private.steps.First.{FirstIs}
 use Rattle.omega_raw.specs.declared.raw_state.RawState.{RawState}
 use Rattle.omega_text.specs.declared.hoa.kind.HoaKind.TheVariants as kind
 

@@ -11,11 +11,13 @@ use Rattle.omega_raw.proofs.PartLemmas.{IsPart}
 use Rattle.omega_raw.proofs.uniqueness.Body.{conj_one, string_part}
 use Rattle.omega_raw.proofs.uniqueness.Rows.{IsOne, each_one, optional_one, parameter_one, string_one, value_one, word_one}
 use Rattle.omega_raw.proofs.uniqueness.Tokens.{Both, expression_one, token_one}
-use Rattle.omega_raw.specs.steps.Beginnings.{item_begun, item_follows, parameter_begun, value_begun}
-use Rattle.omega_raw.specs.Grammar.{IsRawItem, content_row, each, header_named, item_header, item_name, item_row, optional_row, parameter_row, string_row, value_row, word_row}
-use Rattle.omega_raw.specs.steps.Parts.{EndsItem, is_header, is_identifier, is_parameter, is_string, is_value}
-use Rattle.omega_raw.specs.steps.Reading.{IsAny, IsKind}
-use Rattle.omega_raw.specs.Symbols.{FirstIs, ReadsSymbols, AutomatonSymbol, Tokens, alias, formula, header, label, number, text, word}
+use Rattle.omega_raw.specs.private.steps.Beginnings.{item_begun, item_follows, parameter_begun, value_begun}
+use Rattle.omega_raw.specs.Grammar.{IsRawItem, content_row, each, header_named, item_name, item_row, optional_row, parameter_row, string_row, value_row, word_row}
+use Rattle.omega_raw.specs.private.steps.Rows.{item_header}
+use Rattle.omega_raw.specs.private.steps.Parts.{EndsItem, is_header, is_identifier, is_parameter, is_string, is_value}
+use Rattle.omega_raw.specs.private.steps.Reading.{IsAny, IsKind}
+use Rattle.omega_raw.specs.Symbols.{ReadsSymbols, AutomatonSymbol, Tokens, alias, formula, header, label, number, text, word}
+use Rattle.omega_raw.specs.private.steps.First.{FirstIs}
 use Rattle.omega_raw.specs.declared.header_value.HeaderValue.{HeaderValue}
 use Rattle.omega_raw.specs.declared.raw_item.RawItem.{RawItem}
 use Rattle.omega_raw.specs.declared.raw_item.RawItem.TheVariants as item

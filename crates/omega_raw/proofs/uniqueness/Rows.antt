@@ -8,8 +8,9 @@ use Rattle.omega_raw.proofs.PartLemmas.{IsPart, follows_part}
 use Rattle.omega_raw.proofs.SpellingLemmas.{first_then, next_clash, next_is, next_may}
 use Rattle.omega_raw.proofs.uniqueness.Tokens.{Both, IsToken, token_one}
 use Rattle.omega_raw.specs.Grammar.{each, int_row, optional_row, parameter_row, string_row, value_row, word_row}
-use Rattle.omega_raw.specs.steps.Reading.{EndsList, IsAny}
-use Rattle.omega_raw.specs.Symbols.{FirstIs, ReadsSymbols, AutomatonSymbol, Tokens, number, sign, text, word}
+use Rattle.omega_raw.specs.private.steps.Reading.{EndsList, IsAny}
+use Rattle.omega_raw.specs.Symbols.{ReadsSymbols, AutomatonSymbol, Tokens, number, sign, text, word}
+use Rattle.omega_raw.specs.private.steps.First.{FirstIs}
 use Rattle.omega_raw.specs.declared.header_value.HeaderValue.{HeaderValue}
 use Rattle.omega_raw.specs.declared.header_value.HeaderValue.TheVariants as value
 use Rattle.omega_text.specs.declared.hoa.kind.HoaKind.{HoaKind}

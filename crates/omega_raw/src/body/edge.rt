@@ -1,10 +1,10 @@
 ghost use Rattle.std.specs.Prelude.{IfErr};
 ghost use Rattle.std.specs.List.{AllByRecursion};
-ghost use Rattle.omega_raw.specs.Symbols.{FirstIs};
-ghost use Rattle.omega_raw.specs.steps.Reading.{EndsList, Finds, GivesRow, IsReadingRefusal};
-ghost use Rattle.omega_raw.specs.steps.Beginnings.{edge_begun, edge_follows};
+ghost use Rattle.omega_raw.specs.private.steps.First.{FirstIs};
+ghost use Rattle.omega_raw.specs.private.steps.Reading.{EndsList, Finds, GivesRow, IsReadingRefusal};
+ghost use Rattle.omega_raw.specs.private.steps.Beginnings.{edge_begun, edge_follows};
 ghost use Rattle.omega_raw.specs.Grammar.{IsRawEdge, each, edge_row};
-ghost use Rattle.omega_raw.specs.steps.Parts.{EndsEdge, is_edge};
+ghost use Rattle.omega_raw.specs.private.steps.Parts.{EndsEdge, is_edge};
 
 use crate::body::guard::Guard;
 use crate::body::sig::read_marks;

@@ -1,7 +1,7 @@
 ghost use Rattle.std.specs.Prelude.{refl};
 ghost use Rattle.omega_raw.specs.Grammar.{label_row};
-ghost use Rattle.omega_raw.specs.steps.Parts.{is_bracket};
-ghost use Rattle.omega_raw.specs.steps.Reading.{IsAny, IsKind};
+ghost use Rattle.omega_raw.specs.private.steps.Parts.{is_bracket};
+ghost use Rattle.omega_raw.specs.private.steps.Reading.{IsAny, IsKind};
 
 use crate::expressions::label_expression;
 use crate::part::Part;

@@ -1,8 +1,8 @@
 ghost use Rattle.std.specs.Prelude.{IfErr, IfSome, refl};
 ghost use Rattle.omega_raw.specs.Grammar.{optional_row, sig_row};
-ghost use Rattle.omega_raw.specs.Symbols.{FirstIs};
-ghost use Rattle.omega_raw.specs.steps.Parts.{is_brace};
-ghost use Rattle.omega_raw.specs.steps.Reading.{EndsList, Finds, GivesRow, IsAny, IsKind, IsReadingRefusal};
+ghost use Rattle.omega_raw.specs.private.steps.First.{FirstIs};
+ghost use Rattle.omega_raw.specs.private.steps.Parts.{is_brace};
+ghost use Rattle.omega_raw.specs.private.steps.Reading.{EndsList, Finds, GivesRow, IsAny, IsKind, IsReadingRefusal};
 
 use crate::part::{Part, read_if, read_numbers};
 use crate::single::Int;

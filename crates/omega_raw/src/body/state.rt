@@ -1,9 +1,9 @@
 ghost use Rattle.std.specs.Prelude.{IfErr, IfSome};
-ghost use Rattle.omega_raw.specs.Symbols.{FirstIs};
-ghost use Rattle.omega_raw.specs.steps.Reading.{EndsList, Finds, GivesRow, IsAny, IsKind, IsReadingRefusal};
-ghost use Rattle.omega_raw.specs.steps.Beginnings.{state_begun, state_follows};
+ghost use Rattle.omega_raw.specs.private.steps.First.{FirstIs};
+ghost use Rattle.omega_raw.specs.private.steps.Reading.{EndsList, Finds, GivesRow, IsAny, IsKind, IsReadingRefusal};
+ghost use Rattle.omega_raw.specs.private.steps.Beginnings.{state_begun, state_follows};
 ghost use Rattle.omega_raw.specs.Grammar.{IsRawState, optional_row, state_row, string_row};
-ghost use Rattle.omega_raw.specs.steps.Parts.{EndsState, is_header, is_string};
+ghost use Rattle.omega_raw.specs.private.steps.Parts.{EndsState, is_header, is_string};
 
 use crate::body::edge::read_edges;
 use crate::body::guard::Guard;

@@ -1,7 +1,7 @@
 ghost use Rattle.std.specs.Prelude.{◌≡◌, IfErr};
-ghost use Rattle.omega_raw.specs.steps.Contents.{FindsNamed, GivesNamed, FindsUnknown, GivesUnknown};
+ghost use Rattle.omega_raw.specs.private.steps.Contents.{FindsNamed, GivesNamed, FindsUnknown, GivesUnknown};
 ghost use Rattle.omega_raw.specs.Grammar.{header_named};
-ghost use Rattle.omega_raw.specs.steps.Reading.{IsReadingRefusal};
+ghost use Rattle.omega_raw.specs.private.steps.Reading.{IsReadingRefusal};
 ghost use Rattle.omega_raw.specs.declared.header.name.HeaderKind.TheVariants as header;
 
 use crate::header::known;

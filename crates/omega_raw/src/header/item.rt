@@ -1,6 +1,6 @@
-ghost use Rattle.omega_raw.specs.steps.Beginnings.{item_begun, item_follows};
+ghost use Rattle.omega_raw.specs.private.steps.Beginnings.{item_begun, item_follows};
 ghost use Rattle.omega_raw.specs.Grammar.{IsRawItem, item_row};
-ghost use Rattle.omega_raw.specs.steps.Parts.{EndsItem, is_header};
+ghost use Rattle.omega_raw.specs.private.steps.Parts.{EndsItem, is_header};
 
 use crate::header::content::content;
 use crate::part::Part;

@@ -1,8 +1,8 @@
 //! What stands behind the header of an item.
 
 ghost use Rattle.std.specs.Prelude.{IfErr};
-ghost use Rattle.omega_raw.specs.steps.Contents.{FindsContent, GivesContent};
-ghost use Rattle.omega_raw.specs.steps.Reading.{IsReadingRefusal};
+ghost use Rattle.omega_raw.specs.private.steps.Contents.{FindsContent, GivesContent};
+ghost use Rattle.omega_raw.specs.private.steps.Reading.{IsReadingRefusal};
 ghost use Rattle.omega_raw.specs.declared.header.name.HeaderKind.TheVariants as header;
 
 use crate::conj::conj;

@@ -10,7 +10,7 @@ use Rattle.omega_game.specs.Winning.{Chooses}
 use Rattle.omega_lift.specs.Measure.{Measure}
 use Rattle.omega_lift.specs.Allowance.{measure_at}
 use Rattle.omega_lift.specs.Answer.{AreChoices, IsFirstLeast, won_in}
-use Rattle.omega_solve.specs.solving.Successor.{IsChoiceAt}
+use Rattle.omega_solve.specs.private.solving.Successor.{IsChoiceAt}
 use Rattle.omega_solve.proofs.schedules.Flags.{slice_get-set_other, slice_get-set_same}
 
 -- a place is won where its measure is not top

@@ -15,7 +15,7 @@ use Rattle.omega_lift.specs.Measure.{Measure}
 use Rattle.omega_lift.specs.Run.{IsLiftingRun, zero_table}
 use Rattle.omega_lift.specs.Laws.{PlacesAreLiftedBoundedly}
 use Rattle.omega_solve.specs.Limits.{most_lifts}
-use Rattle.omega_solve.specs.solving.Progress.{in_degree}
+use Rattle.omega_solve.specs.private.solving.Progress.{in_degree}
 use Rattle.omega_solve.proofs.lifting.Totals.{sum_by-indices, sum_by-range, sum_by-times, times_in, total, total_le, total_same, total_swap, total_times}
 
 -- the edges into a place are those of all nodes that lead there

@@ -15,7 +15,7 @@ use Rattle.omega_lift.specs.Run.{IsDue}
 use Rattle.omega_lift.specs.Answer.{IsFirstLeast}
 use Rattle.omega_lift.specs.Laws.{AllowancesAreMonotone, AllowancesAreStrict, AllowancesExist, MeasuresAreOrdered}
 use Rattle.omega_measure.specs.Table.{Content, Exceeds, IsAllowanceIn}
-use Rattle.omega_solve.specs.solving.Successor.{ExceedsToAll, IsDueTowards, IsFirstBest, IsTableOf, KeepsToSome, order_from}
+use Rattle.omega_solve.specs.private.solving.Successor.{ExceedsToAll, IsDueTowards, IsFirstBest, IsTableOf, KeepsToSome, order_from}
 use Rattle.omega_solve.proofs.lifting.Edges.{edge_at, index_of_edge}
 use Rattle.omega_solve.proofs.lifting.Order.{reversed, still_above}
 

@@ -7,7 +7,7 @@ use Rattle.omega_lift.specs.Laws.{PlacesAreLiftedBoundedly, RunsAreBounded}
 use Rattle.omega_solve.specs.Limits.{most_lifts}
 use Rattle.omega_solve.specs.Schedule.{IsIdle, IsPending}
 use Rattle.omega_solve.specs.Solver.{IsFinished, IsReached, SolverState, attempt_bound, lift_bound}
-use Rattle.omega_solve.specs.solving.Progress.{IsSolving}
+use Rattle.omega_solve.specs.private.solving.Progress.{IsSolving}
 use Rattle.omega_solve.proofs.lifting.Attempts.{in_degrees_bounded, in_degrees_fits}
 use Rattle.omega_solve.proofs.schedules.Flags.{pending_inside, waits_none}
 

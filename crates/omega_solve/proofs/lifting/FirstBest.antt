@@ -6,7 +6,7 @@ use Rattle.std.specs.declared.cmp.Ordering.{Ordering}
 use Rattle.std.specs.declared.cmp.Ordering.TheVariants.{Equal}
 use Rattle.std.proofs.lemmas.Bool.{cases_eq}
 use Rattle.std.proofs.lemmas.Cmp.{tied_itself}
-use Rattle.omega_solve.specs.solving.Successor.{IsFirstBest}
+use Rattle.omega_solve.specs.private.solving.Successor.{IsFirstBest}
 use Rattle.omega_solve.proofs.lifting.Order.{ahead, wanted_trans}
 
 -- the first element is the first best of itself

@@ -16,12 +16,13 @@ use Rattle.omega_lift.specs.Run.{IsDue, IsLiftingRun, IsTable, Lifts}
 use Rattle.omega_lift.specs.Laws.{AllowancesAreUnique, RunsKeepTables}
 use Rattle.omega_measure.specs.Table.{Content, Exceeds, Raises, with_measure}
 use Rattle.omega_solve.specs.Limits.{most_lifts}
-use Rattle.omega_solve.specs.Schedule.{IsPending, Pending, waits, with_taken}
+use Rattle.omega_solve.specs.Schedule.{IsPending, Pending, with_taken}
+use Rattle.omega_solve.specs.private.schedules.Waits.{waits}
 use Rattle.omega_solve.specs.Solver.{LiftsWithin, SolverState}
-use Rattle.omega_solve.specs.solving.Successor.{IsDueTowards, IsTableOf}
-use Rattle.omega_solve.specs.solving.Repeating.{LiftsAgain}
-use Rattle.omega_solve.specs.solving.Wake.{Wakes}
-use Rattle.omega_solve.specs.solving.Progress.{IsLifted, IsSolving, in_degree}
+use Rattle.omega_solve.specs.private.solving.Successor.{IsDueTowards, IsTableOf}
+use Rattle.omega_solve.specs.private.solving.Repeating.{LiftsAgain}
+use Rattle.omega_solve.specs.private.solving.Wake.{Wakes}
+use Rattle.omega_solve.specs.private.solving.Progress.{IsLifted, IsSolving, in_degree}
 use Rattle.omega_solve.proofs.lifting.Due.{allowance_in, allowance_of, table_entries}
 use Rattle.omega_solve.proofs.lifting.Edges.{contained, edge_from_predecessor, edge_leaves}
 use Rattle.omega_solve.proofs.schedules.Flags.{pending_taken, waits_taken}

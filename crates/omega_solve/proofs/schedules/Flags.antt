@@ -6,7 +6,8 @@ use Rattle.std.proofs.lemmas.List.{get_or-replicate, length-replicate, length-se
 use Rattle.std.proofs.lemmas.List.Folds.{sum_by-replicate}
 use Rattle.std.proofs.lemmas.List.Sums.{count_by-le-length, sum_by-cons, sum_by-set}
 use Rattle.std.proofs.lemmas.Option.{slice_get_within, get_or_from_slice_get, same_Some, slice_get-get_or, slice_get_read}
-use Rattle.omega_solve.specs.Schedule.{IsIdle, IsPending, Pending, all_pending, waits, with_added, with_taken}
+use Rattle.omega_solve.specs.Schedule.{IsIdle, IsPending, Pending, all_pending, with_added, with_taken}
+use Rattle.omega_solve.specs.private.schedules.Waits.{waits}
 
 -- an element that was just written
 pub slice_get-set_same : {X : Type 0} (xs : List X) (i : ℕ) (y : X) → i < length xs → slice_get (set xs i y) i ≡ Some y

@@ -10,7 +10,7 @@ use Rattle.std.proofs.lemmas.Option.{slice_get-get_or, slice_get_within}
 use Rattle.omega_solve.specs.Schedule.{IsIdle, IsPending}
 use Rattle.omega_order.specs.Ranking.{AreInverse}
 use Rattle.omega_order.specs.RankSet.{is_set}
-use Rattle.omega_solve.specs.schedules.Nested.{IsEmpty, IsNested, IsSomeRank, flags_of}
+use Rattle.omega_solve.specs.private.schedules.Nested.{IsEmpty, IsNested, IsSomeRank, flags_of}
 
 -- functions that agree on a list's elements map it to the same list
 map_same : (f g : ℕ → Bool) (xs : List ℕ) → ((k : ℕ) → k < length xs → f (get_or xs k 0) ≡ g (get_or xs k 0)) → map f xs ≡ map g xs

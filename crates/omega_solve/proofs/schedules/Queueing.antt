@@ -7,7 +7,7 @@ use Rattle.std.proofs.lemmas.List.FromFn.{get_or-range_with_len, length-range_wi
 use Rattle.std.proofs.lemmas.List.Sums.{count_by-le-length}
 use Rattle.std.proofs.lemmas.Option.{same_Some}
 use Rattle.omega_solve.specs.Schedule.{IsPending, Pending, with_added, with_taken}
-use Rattle.omega_solve.specs.schedules.Worklist.{ClosesGap, IsWorklist, queued, slot_of}
+use Rattle.omega_solve.specs.private.schedules.Worklist.{ClosesGap, IsWorklist, queued, slot_of}
 use Rattle.omega_solve.proofs.schedules.Flags.{added_before, added_pending, pending_added, pending_all, pending_inside, pending_taken, taken_before, taken_other, waits_all, waits_newly, waits_room, waits_taken}
 
 -- slots before the end

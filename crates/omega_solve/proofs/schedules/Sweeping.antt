@@ -3,7 +3,7 @@ use Rattle.std.proofs.Common.{◌≡◌, ℕ, ◌+◌, ◌-◌, ◌<◌, ◌^◌
 use Rattle.std.specs.List.{slice_get}
 use Rattle.std.proofs.lemmas.List.{length-replicate, length-set}
 use Rattle.omega_solve.specs.Schedule.{IsPending, Pending, with_added, with_taken}
-use Rattle.omega_solve.specs.schedules.Sweep.{IsSweep}
+use Rattle.omega_solve.specs.private.schedules.Sweep.{IsSweep}
 use Rattle.omega_solve.proofs.schedules.Flags.{pending_all, waits_all, waits_newly, waits_taken}
 
 -- what a sweep keeps holds at its start

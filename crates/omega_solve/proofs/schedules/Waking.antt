@@ -5,7 +5,7 @@ use Rattle.std.proofs.lemmas.List.{length-set}
 use Rattle.omega_lift.specs.Measure.{Measure}
 use Rattle.omega_lift.specs.Allowance.{measure_at}
 use Rattle.omega_solve.specs.Schedule.{Pending, with_added}
-use Rattle.omega_solve.specs.solving.Wake.{Wakes}
+use Rattle.omega_solve.specs.private.solving.Wake.{Wakes}
 use Rattle.omega_solve.proofs.schedules.Flags.{added_pending, pending_added, waits_added, waits_kept}
 
 -- waking goes on by adding the next place

@@ -6,7 +6,7 @@ use Rattle.omega_text.specs.Cursor.{next_place}
 use Rattle.std.proofs.Math.Logic.{∥∥₁_elim, ∥∥₁_map}
 use Rattle.omega_text.specs.Cut.{Cuts, IsCut}
 use Rattle.omega_text.specs.Format.{TextFormat, GoesOneWay, IsPartBehind}
-use Rattle.omega_text.specs.Left.{IsAllLeft, IsLeft, IsNextOfLeft, IsRestOfText, Left, lexeme_code, next_of}
+use Rattle.omega_text.specs.private.Left.{IsAllLeft, IsLeft, IsNextOfLeft, IsRestOfText, Left, lexeme_code, next_of}
 use Rattle.omega_text.specs.Lexeme.{Lexeme, lexeme_of}
 use Rattle.omega_text.specs.declared.refusal.text.TextFault.{TextFault}
 use Rattle.omega_text.specs.declared.token.Span.{Span}

@@ -12,8 +12,8 @@ use Rattle.omega_text.specs.declared.hoa.pending.Pending.{Pending}
 use Rattle.omega_text.specs.hoa.Forms.{spelling}
 use Rattle.omega_text.specs.hoa.scanning.Modes.{BeginsAs, first_mode, next_mode, run}
 use Rattle.omega_text.specs.hoa.Pieces.{is_mark}
-use Rattle.omega_text.specs.hoa.scanning.Passing.{IsEndedBy, IsSimple, IsSingle}
-use Rattle.omega_text.specs.hoa.scanning.Unfinished.{IsTokenIn, fresh}
+use Rattle.omega_text.specs.private.hoa.scanning.Passing.{IsEndedBy, IsSimple, IsSingle}
+use Rattle.omega_text.specs.private.hoa.scanning.Unfinished.{IsTokenIn, fresh}
 use Rattle.omega_text.proofs.hoa_texts.Passing.{ended_simple, ended_single, goes_on, no_word_byte, passes_byte, passes_part, passes_then, placed, placed_there, read_on, single_no_digit, single_no_hyphen, single_no_letter}
 use Rattle.omega_text.proofs.hoa_texts.Plain.{run_passes}
 use Rattle.omega_text.proofs.hoa_texts.Tests.{pass}

@@ -5,7 +5,8 @@ use Rattle.omega_text.specs.Bytes.{is_white}
 use Rattle.omega_text.specs.Lexeme.{lexeme_at}
 use Rattle.omega_text.specs.declared.hoa.kind.HoaKind.{HoaKind}
 use Rattle.omega_text.specs.declared.refusal.text.TextFault.{TextFault}
-use Rattle.omega_text.specs.hoa.Cut.{Ends, Follows, IsGap, IsGapTo}
+use Rattle.omega_text.specs.hoa.Cut.{Ends, Follows, IsGap}
+use Rattle.omega_text.specs.private.hoa.Gaps.{IsGapTo}
 use Rattle.omega_text.specs.hoa.Cut.IsGap.{blank, nothing}
 use Rattle.omega_text.specs.hoa.Fault.{HasFaultFrom, IsFaultOf}
 use Rattle.omega_text.specs.hoa.Forms.{IsBlank}

@@ -6,7 +6,7 @@ use Rattle.omega_text.specs.declared.hoa.mode.Mode.TheVariants.{Start, Word, Ali
 use Rattle.omega_text.specs.declared.hoa.placed.PlacedToken.{PlacedToken}
 use Rattle.omega_text.specs.hoa.Laws.{is_closed}
 use Rattle.omega_text.specs.hoa.scanning.Modes.{run}
-use Rattle.omega_text.specs.hoa.scanning.Unfinished.{IsTokenIn}
+use Rattle.omega_text.specs.private.hoa.scanning.Unfinished.{IsTokenIn}
 use Rattle.omega_text.proofs.hoa_texts.Laws.{closed_run}
 use Rattle.omega_text.proofs.hoa_texts.Read.{unit_read}
 use Rattle.omega_text.proofs.hoa_texts.Runs.{answer}

@@ -23,9 +23,9 @@ use Rattle.omega_text.specs.hoa.Format.{hoa_format}
 use Rattle.omega_text.specs.hoa.Laws.{is_closed}
 use Rattle.omega_text.specs.hoa.Pieces.{IsNoneMark, IsPlain, NoneMarks, SettlesFault, StopsBefore, is_mark, lexeme_in, lexemes_in, settled_lexemes}
 use Rattle.omega_text.specs.hoa.scanning.Modes.{first_mode, letter_kind, next_mode, quoted_mode, run, word_mode}
-use Rattle.omega_text.specs.hoa.scanning.Passing.{EndsWord, HasPassed, HasRoom, IsCourse, IsEndedBy, IsOnWayFor, IsSimple, IsSingle, IsStop, Passed, Passes, PassesAs, is_quoted}
-use Rattle.omega_text.specs.hoa.scanning.Reading.{Any, HasRead, IsAt, IsKept, IsOnWay, IsUnfinishedUnit, With}
-use Rattle.omega_text.specs.hoa.scanning.Unfinished.{IsPlaced, IsTokenIn, IsValueOf, fresh}
+use Rattle.omega_text.specs.private.hoa.scanning.Passing.{EndsWord, IsCourse, IsEndedBy, IsOnWayFor, IsSimple, IsSingle, IsStop, Passed, Passes, PassesAs, is_quoted}
+use Rattle.omega_text.specs.hoa.scanning.Reading.{HasPassed, HasRoom, Any, HasRead, IsAt, IsKept, IsOnWay, IsUnfinishedUnit, With, IsValueOf}
+use Rattle.omega_text.specs.private.hoa.scanning.Unfinished.{IsPlaced, IsTokenIn, fresh}
 use Rattle.omega_text.proofs.hoa_texts.Last.{last_unclosed}
 use Rattle.omega_text.proofs.hoa_texts.Pieces.{at_with, fault_stays, grown, judged, kept_settled, parts, split_more}
 use Rattle.omega_text.proofs.hoa_texts.Runs.{run_append}

@@ -21,8 +21,8 @@ use Rattle.omega_text.specs.hoa.Format.{hoa_format}
 use Rattle.omega_text.specs.hoa.Forms.{Spells}
 use Rattle.omega_text.specs.hoa.scanning.Modes.{IsStuck, IsWithin, next_mode, run, unit_of}
 use Rattle.omega_text.specs.hoa.Pieces.{FaultsBehind, IsSettled, SettlesFault, lexeme_in, lexemes_in, settled_lexemes}
-use Rattle.omega_text.specs.hoa.scanning.Reading.{Any, IsAt, IsKept, IsUnfinishedUnit, With}
-use Rattle.omega_text.specs.hoa.scanning.Unfinished.{Continues, IsFaultIn, IsGrown, IsPlaced, IsTokenIn, IsValueOf, ValueGrows, fresh}
+use Rattle.omega_text.specs.hoa.scanning.Reading.{Any, IsAt, IsKept, IsUnfinishedUnit, With, IsValueOf}
+use Rattle.omega_text.specs.private.hoa.scanning.Unfinished.{Continues, IsFaultIn, IsGrown, IsPlaced, IsTokenIn, ValueGrows, fresh}
 use Rattle.omega_text.specs.Forms.{IsDigits}
 use Rattle.omega_text.proofs.formats.Cutting.{cuts_more}
 use Rattle.omega_text.proofs.hoa_texts.Completion.{begun_goes_on}

@@ -11,7 +11,7 @@ use Rattle.omega_text.specs.Limits.{most_number}
 use Rattle.omega_text.specs.hoa.Forms.{Spells, spelling}
 use Rattle.omega_text.specs.hoa.scanning.Modes.{BeginsAs, IsFirstUnit, IsScanned, first_mode, next_mode, run}
 use Rattle.omega_text.specs.hoa.Pieces.{is_mark}
-use Rattle.omega_text.specs.hoa.scanning.Passing.{IsSimple, IsSingle, is_quoted}
+use Rattle.omega_text.specs.private.hoa.scanning.Passing.{IsSimple, IsSingle, is_quoted}
 use Rattle.omega_text.specs.declared.hoa.passing.Simple.TheVariants.{Ended}
 use Rattle.std.specs.Str.Parse.{digits_value}
 use Rattle.omega_text.proofs.pg_texts.Longest.{head, head-take}

@@ -1,6 +1,7 @@
 -- Tokens made of the front of bytes, and faults of it.
 use Rattle.std.proofs.Common.{◌≡◌, ℕ, ◌+◌, ◌-◌, List, length, take, drop, sym, ap, subst, arith, length-drop, length-take-le}
-use Rattle.omega_text.specs.pg.Cut.{BeginsWith, Follows, IsFirstForm, IsGap}
+use Rattle.omega_text.specs.pg.Cut.{BeginsWith, Follows, IsGap}
+use Rattle.omega_text.specs.private.pg.FirstForm.{IsFirstForm}
 use Rattle.omega_text.specs.declared.pg.kind.PgKind.{PgKind}
 use Rattle.omega_text.specs.pg.Forms.{IsLongest, Spells}
 use Rattle.omega_text.specs.Lexeme.{Lexeme, lexeme_at}

@@ -4,7 +4,7 @@ use Rattle.std.specs.Prelude.{is_some}
 use Rattle.omega_text.specs.Format.{TextFormat, IsLexical}
 use Rattle.omega_text.specs.Lexeme.{Lexeme}
 use Rattle.omega_text.specs.Reading.{TakesOrRefuses}
-use Rattle.omega_text.specs.reader.Taking.{IsReadTo, IsTokenFault}
+use Rattle.omega_text.specs.private.reader.Taking.{IsReadTo, IsTokenFault}
 use Rattle.omega_text.specs.declared.refusal.text.TextFault.{TextFault}
 use Rattle.omega_text.specs.declared.refusal.text.TextFault.TheVariants.{Lex, Number, Syntax, TooLong}
 use Rattle.omega_text.proofs.formats.Cutting.{cuts_more}

@@ -13,14 +13,6 @@ pub data IsGap : List ℕ → Type 0 where
   nothing : IsGap []
   blank : (text rest : List ℕ) → IsBlank text → IsGap rest → IsGap (text ++ rest)
 
--- a gap goes on from one place up to another
-pub record IsGapTo (source : List ℕ) (from to : ℕ) : Type 0 where
-  pub gap : List ℕ
-  pub split : drop from source ≡ gap ++ drop to source
-  pub passed : IsGap gap
-  pub place : to ≡ from + length gap
-  pub within : to ≤ length source
-
 -- from a place on, a gap follows and then this token, the longest unit there
 pub record Follows (source : List ℕ) (from : ℕ) (lexeme : Lexeme HoaKind) : Type 0 where
   pub gap : List ℕ

@@ -1,8 +1,4 @@
 -- How units are read byte by byte. Public contracts name `HasRead`, which ties a call of a tokenizer to those before
 -- it, and the room that it needs; what a call gives is said in the words of `Pieces.antt`.
-pub mod KeptMode
-pub mod Leads
 pub mod Modes
-pub mod Passing
 pub mod Reading
-pub mod Unfinished

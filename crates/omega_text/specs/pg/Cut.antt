@@ -19,11 +19,6 @@ pub record BeginsWith (bytes : List ℕ) (lexeme : Lexeme PgKind) : Type 0 where
   pub text : lexeme.text ≡ take (lexeme.span.end - lexeme.span.start) bytes
   pub spells : Spells lexeme.kind lexeme.value lexeme.text
 
--- the longest form that the bytes begin with is the token of this kind and value
-pub record IsFirstForm (bytes : List ℕ) (kind : PgKind) (value count : ℕ) : Type 0 where
-  pub longest : IsLongest bytes count
-  pub spells : Spells kind value (take count bytes)
-
 -- from a place on, a gap follows and then this token
 pub record Follows (source : List ℕ) (from : ℕ) (lexeme : Lexeme PgKind) : Type 0 where
   pub gap : IsGap source from lexeme.span.start

@@ -43,7 +43,7 @@ impl Model for KeptMode {
 
     ghost Value = { Mode };
 
-    ghost use Rattle.omega_text.specs.hoa.scanning.KeptMode.{mode_of, parts_of};
+    ghost use Rattle.omega_text.specs.private.hoa.scanning.KeptMode.{mode_of, parts_of};
 
     ghost view = { mode_of };
 

@@ -1,5 +1,5 @@
 ghost use Rattle.std.specs.Prelude.{◌≡◌};
-ghost use Rattle.omega_text.specs.hoa.scanning.Leads.{lead_of};
+ghost use Rattle.omega_text.specs.private.hoa.scanning.Leads.{lead_of};
 
 use super::kind::HoaKind::{
     self, And, CloseBrace, CloseBracket, CloseParenthesis, Not, OpenBrace, OpenBracket,

@@ -1,6 +1,6 @@
 ghost use Rattle.std.specs.Prelude.{◌≡◌};
 ghost use Rattle.std.specs.List.{prefix_len};
-ghost use Rattle.omega_text.specs.hoa.scanning.Passing.{is_quoted};
+ghost use Rattle.omega_text.specs.private.hoa.scanning.Passing.{is_quoted};
 
 /// How many bytes at the front are neither quotes nor backslashes.
 pub(super) fn quoted_count(bytes: &[u8]) -> usize

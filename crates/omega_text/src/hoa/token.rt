@@ -1,7 +1,8 @@
 ghost use Rattle.std.specs.Prelude.{◌≡◌, ◌+◌, ◌<◌, ◌≤◌, ◌^◌, drop, take, length, IfErr, IfNone, IfOk, IfSome};
 ghost use Rattle.omega_text.specs.Format.{IsLexical, IsPartBehind};
 ghost use Rattle.omega_text.specs.Lexeme.{lexeme_at, lexeme_of};
-ghost use Rattle.omega_text.specs.hoa.Cut.{Ends, Follows, IsGapTo};
+ghost use Rattle.omega_text.specs.hoa.Cut.{Ends, Follows};
+ghost use Rattle.omega_text.specs.private.hoa.Gaps.{IsGapTo};
 ghost use Rattle.omega_text.specs.hoa.Fault.{HasFaultFrom};
 
 use super::kind::HoaKind;

@@ -28,8 +28,7 @@ pub struct HoaTokenizer {
 }
 
 impl HoaTokenizer {
-    ghost use Rattle.omega_text.specs.hoa.scanning.Reading.{HasRead, IsReading};
-    ghost use Rattle.omega_text.specs.hoa.scanning.Passing.{HasPassed, HasRoom};
+    ghost use Rattle.omega_text.specs.hoa.scanning.Reading.{HasRead, IsReading, HasPassed, HasRoom};
 
     /// Before the first byte.
     pub fn new() -> HoaTokenizer

@@ -2,7 +2,8 @@ ghost use Rattle.std.specs.Prelude.{◌≡◌, ◌+◌, ◌^◌, ◌≤◌, ◌<
 ghost use Rattle.std.specs.List.{AllPass, prefix_len};
 ghost use Rattle.std.specs.Str.Parse.{digits_value};
 ghost use Rattle.omega_text.specs.Bytes.{is_digit, is_letter, is_white};
-ghost use Rattle.omega_text.specs.pg.Cut.{Follows, IsFirstForm, IsGap};
+ghost use Rattle.omega_text.specs.pg.Cut.{Follows, IsGap};
+ghost use Rattle.omega_text.specs.private.pg.FirstForm.{IsFirstForm};
 ghost use Rattle.omega_text.specs.pg.Fault.{HasFaultFrom, IsFaultOf};
 ghost use Rattle.omega_text.specs.Forms.{IsDigits};
 ghost use Rattle.omega_text.specs.pg.Forms.{IsNoToken};

@@ -1,7 +1,7 @@
 -- A node makes its text of those before it.
 use Rattle.std.proofs.Common.{[], ◌∷◌, ◌++◌, ap, ◌∙◌}
 use Rattle.omega_acc.specs.Writing.{atom_text, set_text}
-use Rattle.omega_acc.specs.layout.Texts.{acc_texts_behind, whole_text}
+use Rattle.omega_acc.specs.private.layout.Texts.{acc_texts_behind, whole_text}
 use Rattle.omega_acc.proofs.written.TextLemmas.{acc_texts-last}
 use Rattle.omega_acc.proofs.writing.put_formula.Goals as goal
 

@@ -1,6 +1,6 @@
 -- The nodes that are left make the rest of the text.
 use Rattle.std.proofs.Common.{◌≡◌, [], length}
-use Rattle.omega_acc.specs.layout.Texts.{acc_texts_behind, whole_text}
+use Rattle.omega_acc.specs.private.layout.Texts.{acc_texts_behind, whole_text}
 use Rattle.omega_acc.proofs.writing.put_formula.Given as goal
 
 abbrev pub invariant-loop-node : goal.invariant-loop-node

@@ -1,8 +1,8 @@
 -- A node makes its text of those before it.
 use Rattle.std.proofs.Common.{[], ◌-◌, ap, arith, sym, take, ◌∙◌}
 use Rattle.std.proofs.Math.Seq.{take-length}
-use Rattle.omega_acc.specs.layout.label.Label.{postfix}
-use Rattle.omega_acc.specs.layout.Texts.{texts_behind, whole_text}
+use Rattle.omega_acc.specs.private.layout.label.Label.{postfix}
+use Rattle.omega_acc.specs.private.layout.Texts.{texts_behind, whole_text}
 use Rattle.omega_acc.proofs.labels.LabelLemmas.{length-postfix}
 use Rattle.omega_acc.proofs.written.TextLemmas.{texts-step}
 use Rattle.omega_acc.proofs.writing.put_label.Goals as goal

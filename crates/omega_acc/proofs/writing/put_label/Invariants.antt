@@ -1,7 +1,7 @@
 -- The nodes that are left make the rest of the text.
 use Rattle.std.proofs.Common.{◌≡◌, ◌≤◌, [], length, take}
-use Rattle.omega_acc.specs.layout.label.Label.{postfix}
-use Rattle.omega_acc.specs.layout.Texts.{texts_behind, whole_text}
+use Rattle.omega_acc.specs.private.layout.label.Label.{postfix}
+use Rattle.omega_acc.specs.private.layout.Texts.{texts_behind, whole_text}
 use Rattle.omega_acc.proofs.writing.put_label.Given as goal
 
 abbrev pub invariant-loop-left : goal.invariant-loop-left

@@ -1,7 +1,7 @@
 -- The whole text is put behind.
 use Rattle.std.proofs.Common.{[], ◌++◌, ap, ◌∙◌}
 use Rattle.omega_acc.specs.Writing.{Text}
-use Rattle.omega_acc.specs.layout.Texts.{acc_texts_behind}
+use Rattle.omega_acc.specs.private.layout.Texts.{acc_texts_behind}
 use Rattle.omega_acc.proofs.written.TextLemmas.{top_of-formula}
 use Rattle.omega_acc.proofs.writing.write_acc.Goals as goal
 

@@ -1,7 +1,7 @@
 -- The whole text is put behind.
 use Rattle.std.proofs.Common.{[], ◌++◌, ap, ◌∙◌}
-use Rattle.omega_acc.specs.layout.label.Label.{postfix}
-use Rattle.omega_acc.specs.layout.Texts.{texts_behind, top_text}
+use Rattle.omega_acc.specs.private.layout.label.Label.{postfix}
+use Rattle.omega_acc.specs.private.layout.Texts.{texts_behind, top_text}
 use Rattle.omega_acc.proofs.written.TextLemmas.{texts_behind-label}
 use Rattle.omega_acc.proofs.writing.write_label.Goals as goal
 

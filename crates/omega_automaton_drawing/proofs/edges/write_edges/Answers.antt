@@ -4,7 +4,7 @@ use Rattle.omega_automaton.specs.Automaton.{edges_from}
 use Rattle.omega_automaton.specs.declared.state.State.{State}
 use Rattle.omega_automaton_drawing.specs.AutomatonDrawing.{body_edge}
 use Rattle.omega_dot.specs.Numbered.{numbered}
-use Rattle.omega_automaton_drawing.specs.layout.Marking.{role_at}
+use Rattle.omega_automaton_drawing.specs.private.layout.Marking.{role_at}
 use Rattle.omega_automaton_drawing.proofs.Bodies.{length_more, length_within, state_more}
 use Rattle.omega_automaton_drawing.proofs.edges.write_edges.Goals as goal
 

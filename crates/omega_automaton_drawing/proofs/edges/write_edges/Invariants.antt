@@ -4,7 +4,7 @@ use Rattle.std.specs.List.{flat_map}
 use Rattle.omega_automaton.specs.Automaton.{edges_from}
 use Rattle.omega_automaton_drawing.specs.AutomatonDrawing.{body_edge}
 use Rattle.omega_dot.specs.Numbered.{numbered}
-use Rattle.omega_automaton_drawing.specs.layout.Marking.{role_at}
+use Rattle.omega_automaton_drawing.specs.private.layout.Marking.{role_at}
 use Rattle.omega_automaton_drawing.proofs.edges.write_edges.Given as goal
 
 abbrev pub invariant-loop-state : goal.invariant-loop-state

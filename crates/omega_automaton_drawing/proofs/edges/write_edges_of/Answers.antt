@@ -2,7 +2,7 @@
 use Rattle.std.proofs.Common.{◌≡◌, ℕ, ◌<◌, ◌++◌, length, get_or, ap, ◌∙◌, arith}
 use Rattle.omega_automaton.specs.declared.edge.Edge.{Edge}
 use Rattle.omega_automaton_drawing.specs.AutomatonDrawing.{body_edge, edge_text}
-use Rattle.omega_automaton_drawing.specs.layout.Marking.{role_at}
+use Rattle.omega_automaton_drawing.specs.private.layout.Marking.{role_at}
 use Rattle.omega_automaton_drawing.proofs.Bodies.{edge_more}
 use Rattle.omega_automaton_drawing.proofs.edges.write_edges_of.Goals as goal
 

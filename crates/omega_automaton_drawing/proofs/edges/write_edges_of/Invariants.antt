@@ -3,7 +3,7 @@ use Rattle.std.proofs.Common.{◌≡◌, ◌+◌, ◌++◌, take}
 use Rattle.omega_automaton.specs.Automaton.{edges_from}
 use Rattle.omega_automaton_drawing.specs.AutomatonDrawing.{body_edge}
 use Rattle.omega_dot.specs.Numbered.{numbered}
-use Rattle.omega_automaton_drawing.specs.layout.Marking.{role_at}
+use Rattle.omega_automaton_drawing.specs.private.layout.Marking.{role_at}
 use Rattle.omega_automaton_drawing.proofs.edges.write_edges_of.Given as goal
 
 abbrev pub invariant-loop-at : goal.invariant-loop-at

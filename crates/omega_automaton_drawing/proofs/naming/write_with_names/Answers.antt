@@ -1,7 +1,7 @@
 -- `write_with_names`: a byte more is passed.
 use Rattle.std.proofs.Common.{List, ℕ, ◌+◌, ◌++◌, drop, ap, sym, ◌∙◌, arith}
 use Rattle.std.proofs.lemmas.List.{drop_more}
-use Rattle.omega_automaton_drawing.specs.layout.Naming.{with_names}
+use Rattle.omega_automaton_drawing.specs.private.layout.Naming.{with_names}
 use Rattle.omega_automaton_drawing.proofs.naming.write_with_names.Goals as goal
 
 pub loop-byte-preserved : goal.loop-byte-preserved

@@ -2,7 +2,7 @@
 use Rattle.std.proofs.Common.{◌≡◌, ◌++◌, ◌≤◌, None, drop}
 use Rattle.std.specs.Prelude.{IfSome}
 use Rattle.omega_automaton.specs.Limits.{most_propositions}
-use Rattle.omega_automaton_drawing.specs.layout.Naming.{with_names}
+use Rattle.omega_automaton_drawing.specs.private.layout.Naming.{with_names}
 use Rattle.omega_automaton_drawing.proofs.naming.write_with_names.Given as goal
 
 abbrev pub invariant-loop-byte : goal.invariant-loop-byte

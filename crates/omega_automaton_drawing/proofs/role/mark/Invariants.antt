@@ -1,6 +1,6 @@
 -- `mark`: the numbers before this one have the role.
 use Rattle.std.proofs.Common.{take}
-use Rattle.omega_automaton_drawing.specs.layout.Marking.{AreMarked}
+use Rattle.omega_automaton_drawing.specs.private.layout.Marking.{AreMarked}
 use Rattle.omega_automaton_drawing.proofs.role.mark.Given as goal
 
 abbrev pub invariant-loop-number : goal.invariant-loop-number

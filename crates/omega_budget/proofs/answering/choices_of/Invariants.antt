@@ -1,6 +1,6 @@
 -- The choices of the places so far.
 use Rattle.std.proofs.Common.{◌≡◌, take}
-use Rattle.omega_budget.specs.Reordering.{choices_by_place}
+use Rattle.omega_budget.specs.private.steps.Reordering.{choices_by_place}
 use Rattle.omega_budget.proofs.answering.choices_of.Given as goal
 
 abbrev pub invariant-loop-place : goal.invariant-loop-place

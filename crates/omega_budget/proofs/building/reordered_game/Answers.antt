@@ -2,7 +2,7 @@
 use Rattle.std.proofs.Common.{◌≡◌, ◌∙◌, ◌++◌, ◌∷◌, [], IfErr, IfOk, List, ap, arith, length, subst, sym}
 use Rattle.omega_game.specs.declared.node_spec.NodeSpec.{NodeSpec}
 use Rattle.omega_game.specs.Building.{IsBuildRefusal, IsGameOf}
-use Rattle.omega_budget.specs.steps.Building.{spec_of, specs_below}
+use Rattle.omega_budget.specs.private.steps.Building.{spec_of, specs_below}
 use Rattle.omega_budget.proofs.Nodes.{built_reordered, memory_reordered, some_specs, specs_more}
 use Rattle.omega_budget.proofs.building.reordered_game.Goals as goal
 

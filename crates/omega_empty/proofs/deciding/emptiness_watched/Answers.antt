@@ -6,7 +6,7 @@ use Rattle.omega_empty.proofs.walking.Refused.{on_ok, passed_on, ungiven_refused
 use Rattle.omega_empty.specs.Refusing.{IsGameRefusal}
 use Rattle.omega_text.specs.declared.refusal.Refusal.TheVariants.{Memory}
 use Rattle.omega_empty.specs.Watching.{LiftsAutomaton}
-use Rattle.omega_empty.specs.layout.Solving.{LiftsGame}
+use Rattle.omega_empty.specs.private.layout.Solving.{LiftsGame}
 use Rattle.omega_empty.proofs.walking.Watching.{automaton_lifted, automaton_refused}
 use Rattle.omega_budget.proofs.Watched.{none_watched, spares, watched_alike, watched_as, watched_behind}
 use Rattle.omega_empty.proofs.deciding.emptiness_watched.Goals as goal

@@ -1,6 +1,6 @@
 use Rattle.std.proofs.Common.{◌≡◌, ◌↔◌, ◌+◌, ◌++◌, ◌<◌, true, length, map}
-use Rattle.omega_empty.specs.layout.Nodes.{begun}
-use Rattle.omega_empty.specs.layout.Ranges.{usable_in}
+use Rattle.omega_empty.specs.private.layout.Nodes.{begun}
+use Rattle.omega_empty.specs.private.layout.Ranges.{usable_in}
 use Rattle.omega_empty.proofs.nodes.add_linked.Given as goal
 
 abbrev pub invariant-loop-number : goal.invariant-loop-number

@@ -3,7 +3,7 @@ use Rattle.std.proofs.Common.{◌+◌, ◌*◌, ap, ◌∙◌}
 use Rattle.std.proofs.lemmas.Bool.{both_ways}
 use Rattle.omega_automaton.specs.Automaton.{edges_of}
 use Rattle.omega_empty.specs.EmptinessGame.{span}
-use Rattle.omega_empty.specs.layout.Ranges.{IsRangeOf}
+use Rattle.omega_empty.specs.private.layout.Ranges.{IsRangeOf}
 use Rattle.omega_empty.proofs.making.Rows.{linked_state, range_read, unlinked_state}
 use Rattle.omega_empty.proofs.nodes.add_state.Goals as goal
 

@@ -1,6 +1,6 @@
 -- a start of one state stands where its identifier does
 use Rattle.std.proofs.Common.{◌≡◌, ℕ, ◌++◌, [], ◌∷◌, List, length, sym, ap, ◌∙◌, append-nil, arith}
-use Rattle.omega_empty.specs.layout.Starting.{place_list, places_of_start}
+use Rattle.omega_empty.specs.private.layout.Starting.{place_list, places_of_start}
 use Rattle.omega_empty.proofs.finding.Starts.{one_start}
 use Rattle.omega_empty.proofs.searching.add_start.Goals as goal
 

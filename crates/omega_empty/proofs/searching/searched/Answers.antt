@@ -5,7 +5,7 @@ use Rattle.omega_game.specs.Counterexample.{IsCounterexample}
 use Rattle.omega_game.specs.Winning.{IsStrategy, Wins}
 use Rattle.omega_game.specs.declared.lasso.Lasso.{Lasso}
 use Rattle.omega_game.specs.declared.player.Player.TheVariants.{One}
-use Rattle.omega_empty.specs.layout.Starting.{start_places}
+use Rattle.omega_empty.specs.private.layout.Starting.{start_places}
 use Rattle.omega_empty.proofs.finding.Passed.{passes}
 use Rattle.omega_empty.proofs.finding.Starts.{starts_inside}
 use Rattle.omega_empty.proofs.finding.Verdicts.{none_accepts, none_strategy}

@@ -1,6 +1,6 @@
 -- `start_places`: the place of a start more
 use Rattle.std.proofs.Common.{◌≡◌, ℕ, ◌<◌, List, ◌++◌, length, get_or, ap, ◌∙◌, arith}
-use Rattle.omega_empty.specs.layout.Starting.{places_of_start}
+use Rattle.omega_empty.specs.private.layout.Starting.{places_of_start}
 use Rattle.omega_empty.proofs.finding.Lists.{list_more}
 use Rattle.omega_empty.proofs.searching.start_places.Goals as goal
 

@@ -3,7 +3,7 @@
 use Rattle.std.proofs.Common.{◌≡◌, ◌≤◌, ◌*◌, ◌^◌, ℕ, map, MatchOption, ap, ap₂, sym, subst, ◌∙◌}
 use Rattle.std.proofs.lemmas.List.{length-map}
 use Rattle.omega_game.specs.Bound.{bound_of, product}
-use Rattle.omega_game.specs.priorities.Factors.{factor_of}
+use Rattle.omega_game.specs.private.priorities.Factors.{factor_of}
 use Rattle.omega_game.specs.Game.{priorities}
 use Rattle.omega_game.proofs.priorities.Factors.{product_by_counts}
 use Rattle.omega_game.proofs.bounds.bound.Goals as goal

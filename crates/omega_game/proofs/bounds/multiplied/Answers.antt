@@ -3,7 +3,7 @@ use Rattle.std.proofs.Common.{◌≡◌, ◌*◌, ◌^◌, ◌+◌, map, drop, g
 use Rattle.std.proofs.lemmas.Bool.{cases_lt}
 use Rattle.omega_game.specs.declared.priority_counts.PriorityCount.{PriorityCount}
 use Rattle.omega_game.specs.Bound.{product}
-use Rattle.omega_game.specs.priorities.Factors.{factor_of}
+use Rattle.omega_game.specs.private.priorities.Factors.{factor_of}
 use Rattle.omega_game.proofs.priorities.Factors.{factor_lost, factor_won, factor_positive}
 use Rattle.omega_game.proofs.priorities.Products.{product_more, product_reached}
 use Rattle.omega_game.proofs.bounds.multiplied.Goals as goal

@@ -2,7 +2,7 @@
 -- where that is a `u128`.
 use Rattle.std.proofs.Common.{◌≡◌, ◌*◌, ◌<◌, ◌^◌, map, drop}
 use Rattle.omega_game.specs.Bound.{product}
-use Rattle.omega_game.specs.priorities.Factors.{factor_of}
+use Rattle.omega_game.specs.private.priorities.Factors.{factor_of}
 use Rattle.omega_game.proofs.bounds.multiplied.Given as goal
 
 abbrev pub invariant-loop-count : goal.invariant-loop-count

@@ -1,7 +1,7 @@
 -- `shows_wins`: where an order shows that no losing place that is reached recurs,
 -- the choices win from each of the places.
 use Rattle.std.proofs.Common.{List, Bool, sym, subst, arith}
-use Rattle.omega_game.specs.checking.Reaching.{AreReached}
+use Rattle.omega_game.specs.private.checking.Reaching.{AreReached}
 use Rattle.omega_game.proofs.walks.Marking.{reached_closed}
 use Rattle.omega_game.proofs.walks.Recurrence.{choices_of_strategy, priorities_low, wins_if_none}
 use Rattle.omega_game.proofs.checking.shows_wins.Goals as goal

@@ -3,8 +3,8 @@
 use Rattle.std.proofs.Common.{List, Bool, Option, sym, ◌∙◌, subst, arith}
 use Rattle.std.specs.Prelude.{IfSome}
 use Rattle.omega_game.specs.declared.checking.decision.Decision.{Decision}
-use Rattle.omega_game.specs.checking.Decision.{IsRightDecision}
-use Rattle.omega_game.specs.checking.Reaching.{AreReached}
+use Rattle.omega_game.specs.private.checking.Decision.{IsRightDecision}
+use Rattle.omega_game.specs.private.checking.Reaching.{AreReached}
 use Rattle.omega_game.proofs.walks.Marking.{reached_closed}
 use Rattle.omega_game.proofs.walks.Recurrence.{choices_of_strategy, priorities_low, wins_if_none, none_if_wins}
 use Rattle.omega_game.proofs.walks.Deciding.{none_where_won, won_where_none}

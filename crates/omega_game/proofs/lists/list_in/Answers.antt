@@ -1,7 +1,7 @@
 -- `list_in`: the list at an index of those that lie one behind the other.
 use Rattle.std.proofs.Common.{◌≡◌, ◌+◌, ◌≤◌, length, get_or, rules, arith, refl}
 use Rattle.std.proofs.lemmas.List.{get_or_default}
-use Rattle.omega_game.specs.layout.Lists.{list_at}
+use Rattle.omega_game.specs.private.layout.Lists.{list_at}
 use Rattle.omega_game.proofs.layout.JoinedLists.{start_within}
 use Rattle.omega_game.proofs.lists.list_in.Given.{Over}
 use Rattle.omega_game.proofs.lists.list_in.Goals as goal

@@ -1,6 +1,6 @@
 -- `name_at`: the name at a place, without its quotes.
 use Rattle.std.proofs.Common.{[], arith, ap, sym, ◌∙◌}
-use Rattle.omega_game.specs.layout.Columns.{name_in_column}
+use Rattle.omega_game.specs.private.layout.Columns.{name_in_column}
 use Rattle.std.proofs.lemmas.List.{get_or_past}
 use Rattle.omega_game.proofs.names.name_at.Goals as goal
 

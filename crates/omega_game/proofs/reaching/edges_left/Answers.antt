@@ -1,7 +1,7 @@
 -- `edges_left`: the places to which the choices leave an edge from a place possible: the one chosen,
 -- or each listed successor where none is chosen or the choices end before the place.
 use Rattle.std.proofs.Common.{◌≡◌, [], rules}
-use Rattle.omega_game.specs.checking.Reaching.{left_at}
+use Rattle.omega_game.specs.private.checking.Reaching.{left_at}
 use Rattle.omega_game.proofs.walks.Marking.{left_inside, nothing_chosen}
 use Rattle.omega_game.proofs.reaching.edges_left.Goals as goal
 

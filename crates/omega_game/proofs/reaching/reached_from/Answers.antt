@@ -1,6 +1,6 @@
 -- `reached_from`: marks the places that are reached from the given ones through priorities at most `most`.
 use Rattle.std.proofs.Common.{◌≡◌, ℕ, List, false, replicate, subst, arith}
-use Rattle.omega_game.specs.checking.Reaching.{AreEntered}
+use Rattle.omega_game.specs.private.checking.Reaching.{AreEntered}
 use Rattle.omega_game.proofs.walks.Marking.{IsSearch, search_begins, search_goes_on, search_ends, top_below, empty_of_none}
 use Rattle.omega_game.proofs.reaching.reached_from.Goals as goal
 

@@ -1,7 +1,7 @@
 -- `resolve`: replaces each identifier by its place, and says whether each has one.
 use Rattle.std.proofs.Common.{ℕ, List, arith}
 use Rattle.omega_game.proofs.building.Resolutions.{resolved_more, defined_more}
-use Rattle.omega_game.specs.layout.Columns.{identifiers_of}
+use Rattle.omega_game.specs.private.layout.Columns.{identifiers_of}
 use Rattle.omega_game.proofs.resolving.resolve.Goals as goal
 
 pub loop-target-preserved : goal.loop-target-preserved

@@ -1,8 +1,8 @@
 -- What holds in the loop of `resolve`: replaces each identifier by its place, and says whether each has one.
 use Rattle.std.proofs.Common.{◌≡◌, ◌++◌, map, take, drop}
 use Rattle.std.specs.List.{list_all}
-use Rattle.omega_game.specs.layout.Columns.{identifiers_of}
-use Rattle.omega_game.specs.layout.Resolving.{is_defined, resolved_in}
+use Rattle.omega_game.specs.private.layout.Columns.{identifiers_of}
+use Rattle.omega_game.specs.private.layout.Resolving.{is_defined, resolved_in}
 use Rattle.omega_game.proofs.resolving.resolve.Given as goal
 
 abbrev pub invariant-loop-target : goal.invariant-loop-target

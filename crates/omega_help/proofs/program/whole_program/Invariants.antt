@@ -2,7 +2,7 @@
 use Rattle.std.proofs.Common.{◌≡◌, drop, map}
 use Rattle.clap.specs.Words.{app_of}
 use Rattle.omega_help.specs.Program.{program}
-use Rattle.omega_help.specs.building.Building.{shape_for, with_subcommands}
+use Rattle.omega_help.specs.private.building.Building.{shape_for, with_subcommands}
 use Rattle.omega_help.proofs.program.whole_program.Given as goal
 
 abbrev pub invariant-loop-subcommand : goal.invariant-loop-subcommand

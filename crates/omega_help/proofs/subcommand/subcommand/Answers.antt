@@ -2,7 +2,7 @@
 use Rattle.std.proofs.Common.{◌≡◌, ◌+◌, ◌∙◌, List, ap, drop, map, rules, sym}
 use Rattle.std.proofs.lemmas.List.{at_drop_more}
 use Rattle.clap.specs.Words.{App, app_of, new_app, with_rule}
-use Rattle.omega_help.specs.building.Building.{rule_for, with_rules}
+use Rattle.omega_help.specs.private.building.Building.{rule_for, with_rules}
 use Rattle.omega_help.specs.declared.options.OptionHelp.{OptionHelp}
 use Rattle.omega_help.proofs.Adding.{rules_added}
 use Rattle.omega_help.proofs.subcommand.subcommand.Goals as goal

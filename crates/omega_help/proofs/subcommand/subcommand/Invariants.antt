@@ -2,7 +2,7 @@
 use Rattle.std.proofs.Common.{◌≡◌, drop, map}
 use Rattle.clap.specs.Words.{app_of}
 use Rattle.omega_help.specs.Program.{with_options}
-use Rattle.omega_help.specs.building.Building.{rule_for, with_rules}
+use Rattle.omega_help.specs.private.building.Building.{rule_for, with_rules}
 use Rattle.omega_help.proofs.subcommand.subcommand.Given as goal
 
 abbrev pub invariant-loop-option : goal.invariant-loop-option

@@ -3,7 +3,7 @@ use Rattle.std.proofs.Common.{◌≤◌, length, sym, subst, arith}
 use Rattle.omega_text.specs.Cases.{or_memory}
 use Rattle.omega_text.specs.Limits.{most_text}
 use Rattle.omega_hoa.specs.Alone.{IsAutomatonRefusal}
-use Rattle.omega_hoa.specs.outlines.Outline.{HasOutline}
+use Rattle.omega_hoa.specs.private.outlines.Outline.{HasOutline}
 use Rattle.omega_hoa.proofs.Ones.{aborted_refused, empty_refused, fault_refused, open_refused, stray_refused}
 use Rattle.omega_hoa.proofs.Results.{error_then}
 use Rattle.omega_hoa.proofs.alone.read_one.Goals as goal

@@ -2,7 +2,7 @@
 use Rattle.std.proofs.Common.{[], ◌++◌, append-nil, sym, subst, inr}
 use Rattle.omega_text.specs.hoa.Pieces.{lexemes_in}
 use Rattle.omega_hoa.specs.Feeding.{IsDivided}
-use Rattle.omega_hoa.specs.dividing.Next.{IsRefusedNow}
+use Rattle.omega_hoa.specs.private.dividing.Next.{IsRefusedNow}
 use Rattle.omega_hoa.proofs.Results.{error_then, more_says, then_more}
 use Rattle.omega_hoa.proofs.Settling.{both_divided, fault_next, first_next, refused_behind, second_next}
 use Rattle.omega_hoa.proofs.division.take_all.Goals as goal

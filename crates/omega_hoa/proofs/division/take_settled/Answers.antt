@@ -1,6 +1,6 @@
 -- The next token, if there is one, inside a segment or outside.
 use Rattle.std.proofs.Common.{Some}
-use Rattle.omega_hoa.specs.dividing.Next.{IsTakenAs}
+use Rattle.omega_hoa.specs.private.dividing.Next.{IsTakenAs}
 use Rattle.omega_hoa.proofs.Results.{nothing_more, ok_at}
 use Rattle.omega_hoa.proofs.Settling.{no_more}
 use Rattle.omega_hoa.proofs.division.take_settled.Goals as goal

@@ -1,6 +1,6 @@
 -- The tokens so far have this outline, up to where the next is looked for.
 use Rattle.std.proofs.Common.{◌-◌, ◌≤◌, length}
-use Rattle.omega_hoa.specs.outlines.Outline.{HasOutlineTo}
+use Rattle.omega_hoa.specs.private.outlines.Outline.{HasOutlineTo}
 use Rattle.omega_hoa.proofs.outline.outline_of.Given as goal
 
 abbrev pub invariant-loop-token : goal.invariant-loop-token

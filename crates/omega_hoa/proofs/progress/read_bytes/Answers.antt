@@ -1,7 +1,7 @@
 -- The bytes are read one behind the other, those inside a segment at once.
 use Rattle.std.proofs.Common.{◌≡◌, ◌++◌, ◌+◌, length, arith, sym, subst}
 use Rattle.omega_hoa.specs.Feeding.{Appends, IsRefusedThen}
-use Rattle.omega_hoa.specs.dividing.Next.{IsProgress}
+use Rattle.omega_hoa.specs.private.dividing.Next.{IsProgress}
 use Rattle.omega_hoa.proofs.Results.{error_then, extends_then, more_says, then_more}
 use Rattle.omega_hoa.proofs.Settling.{refused_later}
 use Rattle.omega_hoa.proofs.progress.read_bytes.Goals as goal

@@ -1,6 +1,6 @@
 -- The bytes so far were read.
 use Rattle.std.proofs.Common.{◌-◌, ◌≤◌, length}
-use Rattle.omega_hoa.specs.dividing.Next.{Extends, IsReadAs}
+use Rattle.omega_hoa.specs.private.dividing.Next.{Extends, IsReadAs}
 use Rattle.omega_hoa.proofs.progress.read_bytes.Given as goal
 
 abbrev pub invariant-loop-place : goal.invariant-loop-place

@@ -1,6 +1,6 @@
 -- One field more.
 use Rattle.std.proofs.Common.{[], ◌∷◌, ◌++◌, sym, ap, ◌∙◌, subst, arith}
-use Rattle.omega_measure.specs.layout.Field.{ArePacked, last_field}
+use Rattle.omega_measure.specs.private.layout.Field.{ArePacked, last_field}
 use Rattle.omega_measure.proofs.Packing.{last_field-push, packed_more}
 use Rattle.omega_measure.proofs.fields.fields_of.Goals as goal
 

@@ -1,6 +1,6 @@
 -- So far the fields are packed, and the last is known.
 use Rattle.std.proofs.Common.{◌≡◌, ◌<◌, ◌≤◌, take}
-use Rattle.omega_measure.specs.layout.Field.{ArePacked, last_field}
+use Rattle.omega_measure.specs.private.layout.Field.{ArePacked, last_field}
 use Rattle.omega_measure.proofs.fields.fields_of.Given as goal
 
 abbrev pub invariant-loop-limit : goal.invariant-loop-limit

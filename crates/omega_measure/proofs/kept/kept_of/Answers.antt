@@ -1,6 +1,6 @@
 -- One count more, of the number that is sought by then.
 use Rattle.std.proofs.Common.{◌≡◌, get_or, sym, ap, ◌∙◌}
-use Rattle.omega_measure.specs.layout.Falling.{count_from}
+use Rattle.omega_measure.specs.private.layout.Falling.{count_from}
 use Rattle.omega_measure.proofs.Shapes.{count_more}
 use Rattle.omega_measure.proofs.kept.kept_of.Goals as goal
 use Rattle.omega_measure.proofs.kept.kept_of.Goals.{then-priority-sought, else-priority-sought}

@@ -6,7 +6,7 @@ use Rattle.omega_acc.specs.Depth.{IsMemory}
 use Rattle.omega_raw.proofs.PartLemmas.{IsPart, IsReadTo, read_all, read_failed, read_more, read_none}
 use Rattle.omega_raw.proofs.SpellingLemmas.{error_found, shorter}
 use Rattle.omega_raw.specs.Grammar.{each}
-use Rattle.omega_raw.specs.steps.Reading.{EndsList, Given}
+use Rattle.omega_raw.specs.private.steps.Reading.{EndsList, Given}
 use Rattle.omega_raw.proofs.part.read_growing.Goals as goal
 
 pub loop-alloc-init : goal.loop-alloc-init

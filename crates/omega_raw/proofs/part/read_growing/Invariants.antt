@@ -1,7 +1,7 @@
 -- Parts were read up to where the next is looked for.
 use Rattle.std.proofs.Common.{length}
 use Rattle.omega_raw.proofs.PartLemmas.{IsReadTo}
-use Rattle.omega_raw.specs.steps.Reading.{EndsList}
+use Rattle.omega_raw.specs.private.steps.Reading.{EndsList}
 use Rattle.omega_raw.proofs.part.read_growing.Given as goal
 
 abbrev pub invariant-loop-alloc : goal.invariant-loop-alloc

@@ -3,7 +3,7 @@ use Rattle.std.proofs.Common.{◌≡◌, rules, true, [], refl, sym, subst}
 use Rattle.omega_acc.specs.Depth.{IsMemory}
 use Rattle.omega_raw.proofs.PartLemmas.{IsPart, IsReadTo, read_all, read_failed, read_more, read_none}
 use Rattle.omega_raw.proofs.SpellingLemmas.{error_found, shorter}
-use Rattle.omega_raw.specs.steps.Reading.{EndsList}
+use Rattle.omega_raw.specs.private.steps.Reading.{EndsList}
 use Rattle.omega_raw.proofs.part.read_raw_edges.Goals as goal
 
 pub loop-alloc-init : goal.loop-alloc-init

@@ -1,6 +1,6 @@
 -- The lifts so far, at most as many as are allowed.
 use Rattle.std.proofs.Common.{◌-◌, ◌≤◌}
-use Rattle.omega_solve.specs.solving.Repeating.{LiftsAgain}
+use Rattle.omega_solve.specs.private.solving.Repeating.{LiftsAgain}
 use Rattle.omega_solve.proofs.repeating.lift_again.Given as goal
 
 abbrev pub invariant-loop-made : goal.invariant-loop-made

@@ -5,7 +5,7 @@ use Rattle.std.proofs.lemmas.Option.{slice_get-get_or}
 use Rattle.omega_game.specs.Game.{priority_at}
 use Rattle.std.specs.Ordering.{ordering_index}
 use Rattle.std.proofs.lemmas.Bool.{eqb-true, eqb-false}
-use Rattle.omega_solve.specs.solving.Successor.{order_from}
+use Rattle.omega_solve.specs.private.solving.Successor.{order_from}
 use Rattle.omega_solve.proofs.lifting.Due.{order_total, priority_in}
 use Rattle.omega_solve.proofs.lifting.Order.{same_from_index}
 use Rattle.omega_solve.proofs.lifting.Edges.{edge_at, edge_index}

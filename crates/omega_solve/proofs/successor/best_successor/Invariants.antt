@@ -1,6 +1,6 @@
 -- The first best of the successors looked at so far.
 use Rattle.omega_game.specs.Game.{priority_at}
-use Rattle.omega_solve.specs.solving.Successor.{IsFirstBest, order_from}
+use Rattle.omega_solve.specs.private.solving.Successor.{IsFirstBest, order_from}
 use Rattle.omega_solve.proofs.successor.best_successor.Given as goal
 
 abbrev pub invariant-loop-index : goal.invariant-loop-index

@@ -1,5 +1,5 @@
 -- The predecessors so far are woken.
-use Rattle.omega_solve.specs.solving.Wake.{Wakes}
+use Rattle.omega_solve.specs.private.solving.Wake.{Wakes}
 use Rattle.omega_solve.proofs.wake.wake_predecessors.Given as goal
 
 abbrev pub invariant-loop-predecessor : goal.invariant-loop-predecessor

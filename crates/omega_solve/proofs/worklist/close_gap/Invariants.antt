@@ -1,6 +1,6 @@
 -- The places behind the gap came one later.
 use Rattle.std.proofs.Common.{◌≡◌, ℕ, ◌+◌, ◌<◌, ◌≤◌, length}
-use Rattle.omega_solve.specs.schedules.Worklist.{queued}
+use Rattle.omega_solve.specs.private.schedules.Worklist.{queued}
 use Rattle.omega_solve.proofs.worklist.close_gap.Given as goal
 
 abbrev pub invariant-loop-gap : goal.invariant-loop-gap

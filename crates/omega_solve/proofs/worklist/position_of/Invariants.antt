@@ -1,6 +1,6 @@
 -- The place does not stand in the queue so far.
 use Rattle.std.proofs.Common.{◌≢◌, ℕ, ◌-◌, ◌<◌}
-use Rattle.omega_solve.specs.schedules.Worklist.{queued}
+use Rattle.omega_solve.specs.private.schedules.Worklist.{queued}
 use Rattle.omega_solve.proofs.worklist.position_of.Given as goal
 
 abbrev pub invariant-loop-at : goal.invariant-loop-at

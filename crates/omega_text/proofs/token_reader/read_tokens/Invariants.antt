@@ -1,6 +1,6 @@
 -- The text was read up to where the next token is looked for.
 use Rattle.std.proofs.Common.{◌≤◌, ◌-◌, length}
-use Rattle.omega_text.specs.reader.Taking.{IsReadTo}
+use Rattle.omega_text.specs.private.reader.Taking.{IsReadTo}
 use Rattle.omega_text.proofs.token_reader.read_tokens.Given as goal
 
 abbrev pub invariant-loop-reader : goal.invariant-loop-reader

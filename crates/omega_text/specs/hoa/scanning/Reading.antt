@@ -11,8 +11,15 @@ use Rattle.omega_text.specs.declared.refusal.text.TextFault.{TextFault}
 use Rattle.omega_text.specs.hoa.Cut.{IsGap}
 use Rattle.omega_text.specs.hoa.Format.{hoa_format}
 use Rattle.omega_text.specs.hoa.scanning.Modes.{run}
-use Rattle.omega_text.specs.hoa.Pieces.{SettlesFault}
-use Rattle.omega_text.specs.hoa.scanning.Unfinished.{IsValueOf}
+use Rattle.omega_text.specs.hoa.Pieces.{SettlesFault, NoneMarks}
+use Rattle.omega_text.specs.Limits.{most_number}
+use Rattle.omega_text.specs.declared.hoa.kind.HoaKind.TheVariants.{Int}
+use Rattle.omega_text.specs.hoa.Forms.{Spells}
+
+-- the value of digits, or a number above the greatest where they are no number
+pub record IsValueOf (value : ℕ) (text : List ℕ) : Type 0 where
+  pub number : value ≤ most_number → Spells Int value text
+  pub none : most_number < value → (number : ℕ) → Spells Int number text → ⊥
 
 -- a unit that is not whole yet, read so far: nothing of it, or digits with their value, or others
 abbrev pub IsUnfinishedUnit : Mode → ℕ → List ℕ → Type 0
@@ -60,3 +67,13 @@ IsReading tokenizer = (seen : List ℕ) × (lexemes : List (Lexeme HoaKind)) × 
 -- a unit is being read at a place, and places can be counted further
 abbrev pub IsOnWay : Pending → ℕ → Type 0
 IsOnWay pending place = (seen : List ℕ) × (lexemes : List (Lexeme HoaKind)) × (place ≡ length seen) × IsAt Any seen lexemes pending × (place < 2 ^ 64 - 1)
+
+-- bytes more were read, and the tokens that they settled are no marks
+pub record HasPassed (seen : List ℕ) (lexemes : List (Lexeme HoaKind)) (bytes : List ℕ) (tokenizer : HoaTokenizer) : Type 0 where
+  pub passed : List (Lexeme HoaKind)
+  pub read : HasRead (seen ++ bytes) (lexemes ++ passed) tokenizer
+  pub plain : NoneMarks passed
+
+-- a tokenizer has read some bytes, and places can be counted further by so many
+abbrev pub HasRoom : ℕ → HoaTokenizer → Type 0
+HasRoom count tokenizer = (seen : List ℕ) × (lexemes : List (Lexeme HoaKind)) × HasRead seen lexemes tokenizer × (length seen + count < 2 ^ 64)

@@ -1,6 +1,6 @@
 -- What waits and what is written stay the text.
 use Rattle.std.proofs.Common.{◌≡◌, [], ◌++◌, length}
-use Rattle.omega_acc.specs.layout.Texts.{before_text}
+use Rattle.omega_acc.specs.private.layout.Texts.{before_text}
 use Rattle.omega_acc.proofs.backward.Backward.append_to.Given as goal
 
 abbrev pub invariant-loop-sign : goal.invariant-loop-sign

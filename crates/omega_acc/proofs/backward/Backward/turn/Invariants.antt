@@ -1,7 +1,7 @@
 -- What waits and what is written stay the text.
 use Rattle.std.proofs.Common.{◌≡◌, List, ◌++◌, length}
 use Rattle.omega_acc.specs.Writing.{Text}
-use Rattle.omega_acc.specs.layout.Texts.{before_text}
+use Rattle.omega_acc.specs.private.layout.Texts.{before_text}
 use Rattle.omega_acc.proofs.backward.Backward.turn.Given as goal
 
 abbrev pub invariant-loop-sign : goal.invariant-loop-sign

@@ -1,6 +1,6 @@
 -- The depths so far and the nodes that are left make the depth.
 use Rattle.std.proofs.Common.{◌≡◌, [], drop}
-use Rattle.omega_acc.specs.layout.formula.Plain.{depths_behind}
+use Rattle.omega_acc.specs.private.layout.formula.Plain.{depths_behind}
 use Rattle.omega_acc.proofs.formula.plain.depth_of.Given as goal
 
 abbrev pub invariant-loop-node : goal.invariant-loop-node

@@ -1,7 +1,7 @@
 -- The nodes so far and those that are left make the nodes.
 use Rattle.std.proofs.Common.{◌≡◌, Some, drop}
-use Rattle.omega_acc.specs.layout.formula.Plain.{behind_nodes, plain_nodes}
-use Rattle.omega_acc.specs.layout.formula.Raw.{atom_names, raw_acc_postfix}
+use Rattle.omega_acc.specs.private.layout.formula.Plain.{behind_nodes, plain_nodes}
+use Rattle.omega_acc.specs.private.layout.formula.Raw.{atom_names, raw_acc_postfix}
 use Rattle.omega_acc.proofs.formula.plain.nodes_of.Given as goal
 
 abbrev pub invariant-loop-node : goal.invariant-loop-node

@@ -3,9 +3,9 @@ use Rattle.std.proofs.Common.{true, false, [], ◌∷◌, ap, append-nil, subst,
 use Rattle.omega_acc.specs.formula.Reading.{ReadsNoAcc}
 use Rattle.omega_acc.specs.formula.Raw.{atom, constant}
 use Rattle.omega_acc.specs.Symbols.{IsUnread, seen_as}
-use Rattle.omega_acc.specs.layout.formula.Building.{Wants}
-use Rattle.omega_acc.specs.layout.formula.States.{set_symbols}
-use Rattle.omega_acc.specs.layout.Passing.{Passed}
+use Rattle.omega_acc.specs.private.layout.formula.Building.{Wants}
+use Rattle.omega_acc.specs.private.layout.formula.States.{set_symbols}
+use Rattle.omega_acc.specs.private.layout.Passing.{Passed}
 use Rattle.omega_acc.proofs.formulas.ReadingLemmas.{has_leaf, wants_opened}
 use Rattle.omega_acc.proofs.formulas.Unread.{BeginNone, begins_others, none_named, none_wanted}
 use Rattle.omega_acc.proofs.expressions.PassingLemmas.{error_then, nothing_passed, unread_where}

@@ -1,6 +1,6 @@
 -- A part is still wanted, the tokens become fewer, and the text stays.
 use Rattle.std.proofs.Common.{◌≡◌, List, length, ◌≤◌}
-use Rattle.omega_acc.specs.layout.formula.Building.{WantsIn}
+use Rattle.omega_acc.specs.private.layout.formula.Building.{WantsIn}
 use Rattle.omega_text.specs.Lexeme.{Lexeme}
 use Rattle.omega_text.specs.declared.hoa.kind.HoaKind.{HoaKind}
 use Rattle.omega_acc.proofs.formula.reading.operand.Given as goal

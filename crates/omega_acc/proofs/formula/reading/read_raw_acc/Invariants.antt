@@ -1,7 +1,7 @@
 -- A part is read.
 use Rattle.std.proofs.Common.{◌≡◌, length}
 use Rattle.omega_acc.specs.Symbols.{conjunctive}
-use Rattle.omega_acc.specs.layout.formula.Building.{HasIn}
+use Rattle.omega_acc.specs.private.layout.formula.Building.{HasIn}
 use Rattle.omega_acc.proofs.formula.reading.read_raw_acc.Given as goal
 
 abbrev pub invariant-loop-unfinished : goal.invariant-loop-unfinished

@@ -1,7 +1,7 @@
 -- A set is passed, or no formula goes on.
 use Rattle.std.proofs.Common.{subst, sym}
 use Rattle.omega_acc.specs.Symbols.{IsUnread}
-use Rattle.omega_acc.specs.layout.formula.States.{IsStuck, named}
+use Rattle.omega_acc.specs.private.layout.formula.States.{IsStuck, named}
 use Rattle.omega_acc.proofs.formulas.Unread.{IsStuck-named}
 use Rattle.omega_acc.proofs.formulas.AtomLemmas.{IsStuck-unclosed, IsStuck-unset, PassesSet-of}
 use Rattle.omega_acc.proofs.expressions.PassingLemmas.{error_then, unread_where}

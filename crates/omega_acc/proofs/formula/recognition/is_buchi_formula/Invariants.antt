@@ -1,7 +1,7 @@
 -- The nodes are the formula exactly if the rest is the formula of the sets up to this one.
 use Rattle.std.proofs.Common.{◌≡◌, ◌<◌, ◌↔◌, suc}
 use Rattle.omega_acc.specs.formula.Kind.{buchi_formula}
-use Rattle.omega_acc.specs.layout.formula.Acceptance.{acc_postfix}
+use Rattle.omega_acc.specs.private.layout.formula.Acceptance.{acc_postfix}
 use Rattle.omega_acc.proofs.formula.recognition.is_buchi_formula.Given as goal
 
 abbrev pub invariant-loop-set : goal.invariant-loop-set

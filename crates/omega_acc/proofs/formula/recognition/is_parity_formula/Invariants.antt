@@ -1,7 +1,7 @@
 -- The nodes are the formula exactly if the rest is the formula of the sets that are left.
 use Rattle.std.proofs.Common.{◌≡◌, ◌<◌, ◌↔◌, suc}
 use Rattle.omega_acc.specs.formula.Kind.{formula_of, parity_formula, sets_left}
-use Rattle.omega_acc.specs.layout.formula.Acceptance.{acc_postfix}
+use Rattle.omega_acc.specs.private.layout.formula.Acceptance.{acc_postfix}
 use Rattle.omega_acc.proofs.formula.recognition.is_parity_formula.Given as goal
 
 abbrev pub invariant-loop-behind : goal.invariant-loop-behind

@@ -1,7 +1,7 @@
 -- A label has a node for each atom and operator.
 use Rattle.std.proofs.Common.{ap, sym, ◌∙◌, length}
 use Rattle.omega_acc.specs.label.Label.{label_size}
-use Rattle.omega_acc.specs.layout.label.Label.{tree_of}
+use Rattle.omega_acc.specs.private.layout.label.Label.{tree_of}
 use Rattle.omega_acc.proofs.labels.LabelLemmas.{length-postfix}
 use Rattle.omega_acc.proofs.label.Label.size.Goals as goal
 

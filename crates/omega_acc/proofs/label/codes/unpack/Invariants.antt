@@ -1,6 +1,6 @@
 -- The bytes so far are unpacked.
 use Rattle.std.proofs.Common.{◌≡◌, length, map, take}
-use Rattle.omega_acc.specs.layout.label.Codes.{node_of}
+use Rattle.omega_acc.specs.private.layout.label.Codes.{node_of}
 use Rattle.omega_acc.proofs.label.codes.unpack.Given as goal
 
 abbrev pub invariant-loop-at : goal.invariant-loop-at

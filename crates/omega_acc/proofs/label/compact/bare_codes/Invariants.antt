@@ -1,7 +1,7 @@
 -- The bytes so far that stand for no parentheses are kept.
 use Rattle.std.proofs.Common.{◌≡◌, ◌≤◌, filter, length, map, take}
-use Rattle.omega_acc.specs.layout.label.Bare.{is_bare}
-use Rattle.omega_acc.specs.layout.label.Codes.{node_of}
+use Rattle.omega_acc.specs.private.layout.label.Bare.{is_bare}
+use Rattle.omega_acc.specs.private.layout.label.Codes.{node_of}
 use Rattle.omega_acc.proofs.label.compact.bare_codes.Given as goal
 
 abbrev pub invariant-loop-code : goal.invariant-loop-code

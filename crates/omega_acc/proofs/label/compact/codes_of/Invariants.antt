@@ -1,6 +1,6 @@
 -- The nodes so far have their bytes.
 use Rattle.std.proofs.Common.{◌≡◌, length, map, take}
-use Rattle.omega_acc.specs.layout.label.Codes.{node_of}
+use Rattle.omega_acc.specs.private.layout.label.Codes.{node_of}
 use Rattle.omega_acc.proofs.label.compact.codes_of.Given as goal
 
 abbrev pub invariant-loop-at : goal.invariant-loop-at

@@ -2,8 +2,8 @@
 use Rattle.std.proofs.Common.{◌+◌, append-nil, drop, length, ◌++◌, ◌<◌, ◌≤◌, [], take, ap, refl, subst, sym, ◌∙◌, arith, IsSome}
 use Rattle.std.proofs.lemmas.Bool.{false≢true}
 use Rattle.omega_acc.specs.label.Expanding.{entries_of, place_among, replaced, stands_for}
-use Rattle.omega_acc.specs.layout.label.Emitting.{AllStand, IsBodyAt, emitted, nodes_of}
-use Rattle.omega_acc.specs.layout.label.Raw.{alias_names}
+use Rattle.omega_acc.specs.private.layout.label.Emitting.{AllStand, IsBodyAt, emitted, nodes_of}
+use Rattle.omega_acc.specs.private.layout.label.Raw.{alias_names}
 use Rattle.omega_acc.proofs.labels.EmitLemmas.{emitted-alias, emitted-group, emitted-label, emitted-push, stand-at, stand-label, stand-moved}
 use Rattle.omega_acc.proofs.labels.EntryLemmas.{stands_for-at, stands_for-past}
 use Rattle.omega_acc.proofs.labels.ReplacedAtLemmas.{replaced-moved, replaced-new, replaced-none}

@@ -1,7 +1,7 @@
 -- What is out and what the nodes that are left emit are the whole; the aliases that are left stand for something.
 use Rattle.std.proofs.Common.{◌≡◌, ◌++◌, [], drop, take}
 use Rattle.omega_acc.specs.label.Expanding.{entries_of, replaced}
-use Rattle.omega_acc.specs.layout.label.Emitting.{AllStand, IsReplacedAt, emitted, nodes_of}
+use Rattle.omega_acc.specs.private.layout.label.Emitting.{AllStand, IsReplacedAt, emitted, nodes_of}
 use Rattle.omega_acc.proofs.label.expansion.+emit.Given as goal
 
 abbrev pub decreases-emit : goal.decreases-emit

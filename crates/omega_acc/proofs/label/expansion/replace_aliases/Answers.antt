@@ -2,7 +2,7 @@
 use Rattle.std.proofs.Common.{◌++◌, [], Some, take, ap, subst, sym, ◌∙◌, IsSome}
 use Rattle.std.proofs.lemmas.Result.{IfOk-weaker}
 use Rattle.omega_acc.specs.label.Expanding.{IsExpansion, entries_of, expansion, replaced}
-use Rattle.omega_acc.specs.layout.label.Emitting.{nodes_of}
+use Rattle.omega_acc.specs.private.layout.label.Emitting.{nodes_of}
 use Rattle.omega_acc.proofs.labels.EntryLemmas.{shallow-entries, shallow-replaced, take-entries_of}
 use Rattle.omega_acc.proofs.labels.ExpansionLemmas.{IsLabel-sound, sound-some, tree-sound}
 use Rattle.omega_acc.proofs.label.expansion.replace_aliases.Goals as goal

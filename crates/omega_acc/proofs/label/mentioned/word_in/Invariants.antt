@@ -1,6 +1,6 @@
 -- The proposition is not among those so far.
 use Rattle.std.proofs.Common.{◌≡◌, drop}
-use Rattle.omega_acc.specs.layout.label.Words.{word_among}
+use Rattle.omega_acc.specs.private.layout.label.Words.{word_among}
 use Rattle.omega_acc.proofs.label.mentioned.word_in.Given as goal
 
 abbrev pub invariant-loop-place : goal.invariant-loop-place

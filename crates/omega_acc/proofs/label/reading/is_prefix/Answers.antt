@@ -2,7 +2,7 @@
 use Rattle.std.proofs.Common.{true, false, [], ◌∷◌, ◌++◌, ap, append-nil, subst, sym, ◌∙◌}
 use Rattle.omega_acc.specs.label.Raw.{alias, constant, proposition}
 use Rattle.omega_acc.specs.Symbols.{seen_as}
-use Rattle.omega_acc.specs.layout.label.Building.{Wants}
+use Rattle.omega_acc.specs.private.layout.label.Building.{Wants}
 use Rattle.omega_acc.proofs.labels.ReadingLemmas.{BeginNone, IsAtom, begins_others, called, has_atom, none_wanted, numbered, truth, wants_denied, wants_opened}
 use Rattle.omega_acc.specs.declared.label.LabelNode.TheVariants.{Alias}
 use Rattle.omega_acc.proofs.label.reading.is_prefix.Goals as goal

@@ -1,7 +1,7 @@
 -- A part is read.
 use Rattle.std.proofs.Common.{◌≡◌, length}
 use Rattle.omega_acc.specs.Symbols.{conjunctive}
-use Rattle.omega_acc.specs.layout.label.Building.{HasIn}
+use Rattle.omega_acc.specs.private.layout.label.Building.{HasIn}
 use Rattle.omega_acc.proofs.label.reading.read_raw_label.Given as goal
 
 abbrev pub invariant-loop-unfinished : goal.invariant-loop-unfinished

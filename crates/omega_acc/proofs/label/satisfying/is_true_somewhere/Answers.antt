@@ -2,7 +2,7 @@
 use Rattle.std.proofs.Common.{◌≡◌, ◌/◌, ◌-◌, ◌^◌, ap, below_more, refl, sym, ◌∙◌, arith, length}
 use Rattle.std.proofs.lemmas.Bool.{false≢true}
 use Rattle.omega_acc.specs.label.Satisfiable.{mentioned}
-use Rattle.omega_acc.specs.layout.label.Words.{peak, word_among, word_of}
+use Rattle.omega_acc.specs.private.layout.label.Words.{peak, word_among, word_of}
 use Rattle.omega_acc.proofs.labels.Valuations.{block-lt, number_of, number_of-lt, some-block}
 use Rattle.omega_acc.proofs.labels.WordLemmas.{held_in, lane-on, on, on-word_of, peak-label, word-is}
 use Rattle.omega_acc.proofs.label.satisfying.is_true_somewhere.Goals as goal

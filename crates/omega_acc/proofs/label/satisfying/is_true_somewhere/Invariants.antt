@@ -1,6 +1,6 @@
 -- The label is true under no valuation of the blocks so far.
 use Rattle.std.proofs.Common.{◌≡◌, ◌<◌, ℕ}
-use Rattle.omega_acc.specs.layout.label.Words.{word_among, word_of}
+use Rattle.omega_acc.specs.private.layout.label.Words.{word_among, word_of}
 use Rattle.omega_acc.proofs.label.satisfying.is_true_somewhere.Given as goal
 
 abbrev pub invariant-loop-block : goal.invariant-loop-block

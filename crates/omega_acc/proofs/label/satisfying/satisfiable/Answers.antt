@@ -1,7 +1,7 @@
 -- The propositions of the nodes are the label's; one that finds no room is one too many.
 use Rattle.std.proofs.Common.{[], ap, refl, ◌∙◌}
 use Rattle.omega_acc.specs.label.Satisfiable.{each_once}
-use Rattle.omega_acc.specs.layout.label.Words.{propositions_of}
+use Rattle.omega_acc.specs.private.layout.label.Words.{propositions_of}
 use Rattle.omega_acc.proofs.labels.Valuations.{over-mentioned}
 use Rattle.omega_acc.proofs.labels.WordLemmas.{propositions_of-label}
 use Rattle.omega_acc.proofs.label.satisfying.satisfiable.Goals as goal

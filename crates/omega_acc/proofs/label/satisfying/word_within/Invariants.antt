@@ -1,6 +1,6 @@
 -- The words so far and the nodes that are left make the word; they never stack up past the room.
 use Rattle.std.proofs.Common.{◌≡◌, ◌≤◌, [], drop, length}
-use Rattle.omega_acc.specs.layout.label.Words.{peak, word_among, words_behind}
+use Rattle.omega_acc.specs.private.layout.label.Words.{peak, word_among, words_behind}
 use Rattle.omega_acc.proofs.label.satisfying.word_within.Given as goal
 
 abbrev pub invariant-loop-node : goal.invariant-loop-node

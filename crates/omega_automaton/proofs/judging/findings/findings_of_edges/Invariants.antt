@@ -4,7 +4,7 @@ use Rattle.std.specs.List.{list_any}
 use Rattle.omega_acc.specs.label.Expanding.{expansion}
 use Rattle.omega_raw.specs.declared.raw_edge.RawEdge.{RawEdge}
 use Rattle.omega_automaton.specs.Faults.{passes, size_under}
-use Rattle.omega_automaton.specs.layout.Findings.{AreFound}
+use Rattle.omega_automaton.specs.private.layout.Findings.{AreFound}
 use Rattle.omega_automaton.proofs.judging.findings.findings_of_edges.Given as goal
 
 abbrev pub invariant-loop-at : goal.invariant-loop-at

@@ -5,7 +5,7 @@ use Rattle.omega_acc.specs.label.Expanding.{expansion}
 use Rattle.omega_acc.specs.label.Raw.{RawLabelTree}
 use Rattle.omega_raw.specs.declared.raw_edge.RawEdge.{RawEdge}
 use Rattle.omega_automaton.specs.Faults.{passes, size_under}
-use Rattle.omega_automaton.specs.layout.Findings.{AreFound}
+use Rattle.omega_automaton.specs.private.layout.Findings.{AreFound}
 use Rattle.omega_automaton.proofs.FindingLemmas.{found-joined}
 use Rattle.omega_automaton.proofs.judging.findings.findings_of_state.Goals as goal
 

@@ -6,7 +6,7 @@ use Rattle.std.proofs.lemmas.List.Folds.{map_fixed}
 use Rattle.omega_acc.specs.label.Expanding.{expansion}
 use Rattle.omega_automaton.specs.Faults.{passes}
 use Rattle.omega_automaton.specs.Meaning.{IsEdgeOf}
-use Rattle.omega_automaton.specs.layout.Findings.{is_faulty}
+use Rattle.omega_automaton.specs.private.layout.Findings.{is_faulty}
 use Rattle.omega_automaton.proofs.SoundLemmas.{none-turn}
 use Rattle.omega_automaton.proofs.Zipped.{zipped_push}
 use Rattle.omega_automaton.proofs.making.states.full_edges_of.Goals as goal

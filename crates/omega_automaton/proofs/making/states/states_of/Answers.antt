@@ -6,7 +6,7 @@ use Rattle.std.proofs.lemmas.List.Folds.{map_fixed}
 use Rattle.omega_acc.specs.label.Expanding.{expansion}
 use Rattle.omega_automaton.specs.Faults.{is_labelled}
 use Rattle.omega_automaton.specs.Meaning.{IsStateOf}
-use Rattle.omega_automaton.specs.layout.Findings.{is_faulty}
+use Rattle.omega_automaton.specs.private.layout.Findings.{is_faulty}
 use Rattle.omega_automaton.proofs.SoundLemmas.{none-turn}
 use Rattle.omega_automaton.proofs.Zipped.{zipped_push}
 use Rattle.omega_automaton.proofs.making.states.states_of.Goals as goal

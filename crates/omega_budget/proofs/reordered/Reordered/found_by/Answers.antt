@@ -3,7 +3,8 @@ use Rattle.std.proofs.Common.{◌≡◌, ◌∙◌, IfSome, List, None, get_or, 
 use Rattle.omega_game.specs.Game.{Node}
 use Rattle.omega_game.specs.Winning.{IsStrategy}
 use Rattle.omega_lift.specs.Answer.{won_in}
-use Rattle.omega_budget.specs.Reordering.{IsReordering, choices_by_place, measures_by_place}
+use Rattle.omega_budget.specs.Reordering.{IsReordering, measures_by_place}
+use Rattle.omega_budget.specs.private.steps.Reordering.{choices_by_place}
 use Rattle.omega_budget.proofs.Exactness.{choices_below, choices_by_place_here, choices_here, exact_here, won_by_place_here}
 use Rattle.omega_budget.proofs.reordered.Reordered.found_by.Goals as goal
 

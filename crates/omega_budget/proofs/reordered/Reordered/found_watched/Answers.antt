@@ -3,7 +3,7 @@ use Rattle.std.proofs.Common.{◌∙◌, IfOk, List, ap, refl, subst}
 use Rattle.omega_game.specs.Game.{Node}
 use Rattle.omega_solve.specs.declared.outcome.Outcome.TheVariants.{Done, Spent}
 use Rattle.omega_budget.specs.Reordering.{state_by_place}
-use Rattle.omega_budget.specs.steps.Lifting.{HasLifted}
+use Rattle.omega_budget.specs.private.steps.Lifting.{HasLifted}
 use Rattle.omega_budget.specs.Watching.{most_of}
 use Rattle.omega_budget.proofs.Within.{answer_within, lifted_by_place, not_spent, told_by_place, told_done, used_up}
 use Rattle.omega_budget.proofs.reordered.Reordered.found_watched.Goals as goal

@@ -4,7 +4,7 @@ use Rattle.std.proofs.lemmas.Bool.{OnFalse_at}
 use Rattle.std.proofs.lemmas.List.Sorted.{length_permutation}
 use Rattle.omega_game.specs.declared.node_spec.NodeSpec.{NodeSpec}
 use Rattle.omega_game.specs.declared.player.Player.TheVariants.{Zero}
-use Rattle.omega_game.specs.layout.Collected.{ids_of}
+use Rattle.omega_game.specs.private.layout.Collected.{ids_of}
 use Rattle.omega_game.proofs.building.Duplicates.{fault_of-permutation, some_duplicate}
 use Rattle.omega_game.proofs.building.Rearranged.{faultless-rearranged, game_of-rearranged, refused-rearranged}
 use Rattle.omega_game.proofs.building.Refusals.{duplicate_refused}

@@ -1,7 +1,7 @@
 -- `GameBuilder::has_rising_ids`: whether each identifier is greater than the one before.
 use Rattle.std.proofs.Common.{◌≡◌, ℕ, ◌<◌, ◌≤◌, ◌+◌, length, List, get_or, ap, sym, subst, ◌∙◌}
 use Rattle.omega_game.proofs.building.Collecting.{ids-specs_of}
-use Rattle.omega_game.specs.layout.Collected.{ids_of}
+use Rattle.omega_game.specs.private.layout.Collected.{ids_of}
 use Rattle.std.specs.Bool.{OnFalse}
 use Rattle.std.specs.List.Sorted.{IsStrictlyIncreasing}
 use Rattle.omega_game.proofs.builder.GameBuilder.has_rising_ids.Goals as goal

@@ -1,6 +1,6 @@
 -- `GameBuilder::new`: no specification, which takes no memory.
 use Rattle.std.proofs.Common.{refl}
-use Rattle.omega_game.specs.layout.Columns.{specs_of}
+use Rattle.omega_game.specs.private.layout.Columns.{specs_of}
 use Rattle.omega_game.proofs.building.Collecting.{AreCollected-none}
 use Rattle.omega_game.proofs.builder.GameBuilder.new.Goals as goal
 

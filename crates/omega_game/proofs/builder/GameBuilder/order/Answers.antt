@@ -1,7 +1,7 @@
 -- `GameBuilder::order`: the indices of the specifications, in rising order of identifiers.
 use Rattle.std.proofs.Common.{◌≡◌, ℕ, length, map, List, get_or, ap, sym, subst, ◌∙◌}
 use Rattle.omega_game.proofs.building.Collecting.{ids-specs_of, length-specs_of}
-use Rattle.omega_game.specs.layout.Collected.{ids_of}
+use Rattle.omega_game.specs.private.layout.Collected.{ids_of}
 use Rattle.std.specs.List.{range_with_len}
 use Rattle.std.specs.List.Sorted.{IsPermutation, IsNonDecreasing}
 use Rattle.omega_game.proofs.builder.GameBuilder.order.Goals as goal

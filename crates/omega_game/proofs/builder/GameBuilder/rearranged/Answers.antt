@@ -1,7 +1,7 @@
 -- `GameBuilder::rearranged`: the specifications in rising order of identifiers.
 use Rattle.std.proofs.Common.{ℕ, length, map, List, get_or, ap, sym, subst, ◌∙◌}
 use Rattle.std.proofs.lemmas.Result.{IfOk-weaker}
-use Rattle.omega_game.specs.layout.Collected.{ids_of}
+use Rattle.omega_game.specs.private.layout.Collected.{ids_of}
 use Rattle.std.specs.List.{range_with_len}
 use Rattle.std.specs.List.Sorted.{IsPermutation, IsNonDecreasing}
 use Rattle.omega_game.proofs.builder.GameBuilder.rearranged.Goals as goal

@@ -1,8 +1,8 @@
 -- `GameBuilder::rearranged_by`: the specifications at these indices, which are all of them.
 use Rattle.std.proofs.Common.{◌≡◌, ℕ, ◌<◌, length, map, List, get_or, arith, ap, sym, subst, refl, ◌∙◌, All}
 use Rattle.omega_game.proofs.building.Collecting.{ids-specs_of, length-specs_of, ArePicked, specs_of-rearranged, AreCollected-rearranged, order_within}
-use Rattle.omega_game.specs.layout.Collected.{ids_of}
-use Rattle.omega_game.specs.layout.Columns.{collected, Columns, specs_of}
+use Rattle.omega_game.specs.private.layout.Collected.{ids_of}
+use Rattle.omega_game.specs.private.layout.Columns.{collected, Columns, specs_of}
 use Rattle.omega_game.specs.declared.player.Player.TheVariants.{Zero}
 use Rattle.omega_game.specs.declared.node_spec.NodeSpec.{NodeSpec}
 use Rattle.std.specs.List.{range_with_len}

@@ -3,9 +3,9 @@ use Rattle.std.proofs.Common.{◌≡◌, ◌<◌, length, List, arith, ap, sym, 
 use Rattle.std.specs.List.Sorted.{IsStrictlyIncreasing}
 use Rattle.omega_game.specs.declared.node_spec.NodeSpec.{NodeSpec}
 use Rattle.omega_game.specs.Building.{IsGameOf}
-use Rattle.omega_game.specs.layout.Collected.{AreCollected, ids_of}
+use Rattle.omega_game.specs.private.layout.Collected.{AreCollected, ids_of}
 use Rattle.omega_game.specs.Game.{Node, IsGame, IsWithinLimits}
-use Rattle.omega_game.specs.layout.Columns.{AreEven, Columns, collected, columns_of, nodes_of, specs_of}
+use Rattle.omega_game.specs.private.layout.Columns.{AreEven, Columns, collected, columns_of, nodes_of, specs_of}
 use Rattle.omega_game.proofs.building.Collecting.{ids-specs_of, length-specs_of}
 use Rattle.omega_game.proofs.building.Resolved.{AreEven-resolved, AreResolved, IsGameOf-columns, game_of_columns, limits_of_columns}
 use Rattle.omega_game.proofs.building.Refusals.{AreResolved-from, KnowsFault, columns_same, few_listed, flag_is, ids_known, knows_fault, sum_by-places}

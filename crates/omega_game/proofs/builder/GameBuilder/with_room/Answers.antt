@@ -1,6 +1,6 @@
 -- `GameBuilder::with_room`: no specification, and room for so many.
 use Rattle.std.proofs.Common.{refl}
-use Rattle.omega_game.specs.layout.Columns.{specs_of}
+use Rattle.omega_game.specs.private.layout.Columns.{specs_of}
 use Rattle.omega_game.proofs.building.Collecting.{AreCollected-none}
 use Rattle.omega_game.proofs.builder.GameBuilder.with_room.Goals as goal
 

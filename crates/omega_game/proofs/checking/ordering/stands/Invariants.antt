@@ -1,7 +1,7 @@
 -- What holds in the loop of `stands`: whether a place stands in the order at a position of its priority,
 -- with each of its edges in order.
 use Rattle.std.proofs.Common.{ℕ, ◌<◌, get_or}
-use Rattle.omega_game.specs.checking.Ordering.{IsInOrder}
+use Rattle.omega_game.specs.private.checking.Ordering.{IsInOrder}
 use Rattle.omega_game.proofs.checking.ordering.stands.Given as goal
 
 abbrev pub invariant-loop-next : goal.invariant-loop-next

@@ -3,8 +3,8 @@
 use Rattle.std.proofs.Common.{ℕ, ◌<◌, IsTrue}
 use Rattle.omega_game.specs.Game.{priority_at}
 use Rattle.omega_game.specs.Player.{loses}
-use Rattle.omega_game.specs.checking.Reaching.{mark_at}
-use Rattle.omega_game.specs.checking.Recurring.{Recurs}
+use Rattle.omega_game.specs.private.checking.Reaching.{mark_at}
+use Rattle.omega_game.specs.private.checking.Recurring.{Recurs}
 use Rattle.omega_game.proofs.checking.recurring.decide_plainly.Given as goal
 
 abbrev pub invariant-loop-place : goal.invariant-loop-place

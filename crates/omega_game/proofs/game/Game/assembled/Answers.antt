@@ -1,7 +1,7 @@
 -- `Game::assembled`: the game of these columns, with its predecessors and its priorities counted.
 use Rattle.std.proofs.Common.{length, arith, ap, refl, ◌∙◌}
 use Rattle.omega_game.specs.Bound.{priority_counts}
-use Rattle.omega_game.specs.layout.Columns.{columns_of}
+use Rattle.omega_game.specs.private.layout.Columns.{columns_of}
 use Rattle.omega_game.proofs.layout.Columns.{edge_count-nodes_of, length-nodes_of}
 use Rattle.omega_game.proofs.layout.StoredPredecessors.{predecessors_are_counted, targets_within}
 use Rattle.omega_game.proofs.game.Game.assembled.Goals as goal

@@ -1,6 +1,6 @@
 -- `Game::id`: the identifier of the node at a place.
 use Rattle.std.proofs.Common.{length, get_or, arith, ap, ◌∙◌}
-use Rattle.omega_game.specs.layout.Columns.{identifiers_of}
+use Rattle.omega_game.specs.private.layout.Columns.{identifiers_of}
 use Rattle.omega_game.proofs.layout.Columns.{place_within, identifier_is}
 use Rattle.omega_game.proofs.game.Game.id.Goals as goal
 

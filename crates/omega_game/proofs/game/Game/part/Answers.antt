@@ -6,7 +6,7 @@ use Rattle.std.specs.List.{range_with_len}
 use Rattle.omega_text.specs.declared.refusal.Refusal.TheVariants.{Memory}
 use Rattle.omega_game.specs.declared.node_spec.NodeSpec.{NodeSpec}
 use Rattle.omega_game.specs.Building.{specified, IsGameOf, IsBuildRefusal, game_fault_of}
-use Rattle.omega_game.specs.checking.Reaching.{mark_at, AreReached}
+use Rattle.omega_game.specs.private.checking.Reaching.{mark_at, AreReached}
 use Rattle.omega_game.specs.Part.{Reaches, IsPart}
 use Rattle.omega_game.specs.Game.{Node, IsGame, IsWithinLimits, node_at}
 use Rattle.omega_game.proofs.parts.PartGames.{kept_specs, some_kept, kept_faultless, part_from_specs, memory_alone}

@@ -2,7 +2,7 @@
 use Rattle.std.proofs.Common.{◌≡◌, map, filter}
 use Rattle.std.specs.List.{range_with_len}
 use Rattle.omega_game.specs.Building.{specified}
-use Rattle.omega_game.specs.checking.Reaching.{mark_at}
+use Rattle.omega_game.specs.private.checking.Reaching.{mark_at}
 use Rattle.omega_game.specs.Game.{node_at}
 use Rattle.omega_game.proofs.game.Game.part.Given as goal
 

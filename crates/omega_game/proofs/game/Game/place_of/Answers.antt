@@ -3,7 +3,7 @@ use Rattle.std.proofs.Common.{◌≡◌, ◌==◌, length, arith, ap, sym, ◌�
 use Rattle.omega_game.proofs.layout.Columns.{length_is, length-listed, identifiers_are}
 use Rattle.std.proofs.lemmas.Bool.{cases_lt}
 use Rattle.std.specs.List.{position}
-use Rattle.omega_game.specs.layout.Columns.{identifiers_of}
+use Rattle.omega_game.specs.private.layout.Columns.{identifiers_of}
 use Rattle.omega_game.proofs.game.Game.place_of.Goals as goal
 
 pub place_among-requires : goal.place_among-requires

@@ -2,9 +2,9 @@
 use Rattle.std.proofs.Common.{◌≡◌, length, map, arith, ap, sym, ◌∙◌}
 use Rattle.omega_game.proofs.building.Resolutions.{lists_of-map, flat-lists_of, list_all-flat_map}
 use Rattle.std.specs.List.{list_all}
-use Rattle.omega_game.specs.layout.Columns.{identifiers_of}
-use Rattle.omega_game.specs.layout.Lists.{lists_of}
-use Rattle.omega_game.specs.layout.Resolving.{is_defined, resolved_in}
+use Rattle.omega_game.specs.private.layout.Columns.{identifiers_of}
+use Rattle.omega_game.specs.private.layout.Lists.{lists_of}
+use Rattle.omega_game.specs.private.layout.Resolving.{is_defined, resolved_in}
 use Rattle.std.proofs.lemmas.List.{with_items_is, length-map}
 use Rattle.std.specs.Vec.{with_items}
 use Rattle.omega_game.proofs.lists.Lists+u32.resolve.Goals as goal

@@ -1,6 +1,6 @@
 -- `Lists::new`: no list, which takes no memory.
 use Rattle.std.proofs.Common.{refl}
-use Rattle.omega_game.specs.layout.Lists.{lists_of}
+use Rattle.omega_game.specs.private.layout.Lists.{lists_of}
 use Rattle.omega_game.proofs.lists.Lists.new.Goals as goal
 
 pub returns : goal.returns

@@ -1,6 +1,6 @@
 -- `way_back`: the places before the one at an index on the way on which it was met.
 use Rattle.std.proofs.Common.{◌≡◌, ◌<◌, Some, [], List, ℕ, sym, subst, arith}
-use Rattle.omega_game.specs.refuting.Ways.{IsWay, root, origin_at}
+use Rattle.omega_game.specs.private.refuting.Ways.{IsWay, root, origin_at}
 use Rattle.omega_game.proofs.walks.Ways.{way_back_on}
 use Rattle.omega_game.proofs.refuting.ways.way_back.Goals as goal
 

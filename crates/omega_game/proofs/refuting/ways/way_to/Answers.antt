@@ -1,7 +1,7 @@
 -- `way_to`: the places before the target on a shortest way to it from one of the places through
 -- priorities at most `most`.
 use Rattle.std.proofs.Common.{◌≡◌, ◌<◌, ℕ, List, Option, Contains, length, slice_index, sym, subst}
-use Rattle.omega_game.specs.refuting.Ways.{IsWay, LeadsTo}
+use Rattle.omega_game.specs.private.refuting.Ways.{IsWay, LeadsTo}
 use Rattle.omega_game.proofs.walks.Ways.{way_leads}
 use Rattle.omega_game.proofs.refuting.ways.way_to.Goals as goal
 

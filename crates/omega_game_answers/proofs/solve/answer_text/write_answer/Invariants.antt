@@ -2,7 +2,7 @@
 use Rattle.std.proofs.Common.{◌≡◌, ◌++◌, drop}
 use Rattle.std.specs.List.{flat_map}
 use Rattle.omega_game_answers.specs.solve.AnswerText.{answer_text, won_line}
-use Rattle.omega_game_answers.specs.steps.Places.{places_from}
+use Rattle.omega_game_answers.specs.private.steps.Places.{places_from}
 use Rattle.omega_game_answers.proofs.solve.answer_text.write_answer.Given as goal
 
 abbrev pub invariant-loop-place : goal.invariant-loop-place

@@ -3,7 +3,7 @@ use Rattle.std.proofs.Common.{◌≡◌, ◌-◌, ◌∙◌, ◌++◌, None, ℕ
 use Rattle.omega_hoa.specs.Feeding.{IsRefusedThen, IsTaken}
 use Rattle.omega_hoa.specs.Kept.{Kept}
 use Rattle.omega_hoa.specs.Stream.{IsStreamFault}
-use Rattle.omega_hoa.specs.dividing.Next.{IsProgress}
+use Rattle.omega_hoa.specs.private.dividing.Next.{IsProgress}
 use Rattle.omega_hoa.proofs.Feeds.{begins_within, fed_of, fits_of, kept_after, known_after, known_of, known_some, long_of, progress_before, refused_after, taken_of, too_long, with_piece}
 use Rattle.omega_hoa.proofs.Results.{more_says, nothing_more}
 use Rattle.omega_hoa.proofs.stream.Stream.feed_sound.Goals as goal

@@ -1,6 +1,6 @@
 -- Rows of zeros are the measures of a new table.
 use Rattle.std.proofs.Common.{◌*◌, ◌+◌, replicate, ap, ◌∙◌}
-use Rattle.omega_measure.specs.layout.Field.{last_field}
+use Rattle.omega_measure.specs.private.layout.Field.{last_field}
 use Rattle.omega_measure.specs.Table.{zero_content}
 use Rattle.omega_measure.proofs.PackedCalls.{ArePackedRows-zero, packed_content-zero}
 use Rattle.omega_measure.proofs.packed.PackedTableMeasureTable.prepare.Goals as goal

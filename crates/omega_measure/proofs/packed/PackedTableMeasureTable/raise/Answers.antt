@@ -1,7 +1,7 @@
 -- The row that is written is the allowance.
 use Rattle.std.proofs.Common.{length, subst, ap, arith}
 use Rattle.std.proofs.lemmas.List.{with_items_is}
-use Rattle.omega_measure.specs.layout.Packed.{packed_content}
+use Rattle.omega_measure.specs.private.layout.Packed.{packed_content}
 use Rattle.omega_measure.specs.Table.{Raises}
 use Rattle.omega_measure.proofs.PackedCalls.{ArePackedRows-raised, Raises-packed, in_packed, packed_fits}
 use Rattle.omega_measure.proofs.packed.PackedTableMeasureTable.raise.Goals as goal

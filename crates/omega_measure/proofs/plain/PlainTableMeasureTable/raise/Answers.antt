@@ -1,7 +1,7 @@
 -- The row that is written is the allowance.
 use Rattle.std.proofs.Common.{length, subst, ap, arith}
 use Rattle.std.proofs.lemmas.List.{with_items_is}
-use Rattle.omega_measure.specs.layout.Plain.{content_of}
+use Rattle.omega_measure.specs.private.layout.Plain.{content_of}
 use Rattle.omega_measure.specs.Table.{Raises}
 use Rattle.omega_measure.proofs.Contents.{AreRows-raised, Raises-raised}
 use Rattle.omega_measure.proofs.PlainCalls.{below_top, in_table}

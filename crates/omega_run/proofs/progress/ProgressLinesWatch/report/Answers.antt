@@ -1,7 +1,7 @@
 -- `report`: the parts of the line, told one behind another, are the line.
 use Rattle.std.proofs.Common.{◌≡◌, ◌++◌, ℕ, List, codes, decimal, rules, subst}
 use Rattle.omega_game.specs.Player.{player_number}
-use Rattle.omega_run.specs.Progress.{TellsOn}
+use Rattle.omega_run.specs.private.steps.Telling.{TellsOn}
 use Rattle.omega_run.proofs.ProgressLines.{on_and_on}
 use Rattle.omega_run.proofs.progress.ProgressLinesWatch.report.Goals as goal
 

@@ -2,7 +2,7 @@
 use Rattle.std.proofs.Common.{List, ℕ, subst}
 use Rattle.std.specs.Option.{MatchOption}
 use Rattle.omega_solve.specs.Schedule.{IsIdle, IsPending, Pending}
-use Rattle.omega_solve.specs.schedules.Nested.{IsEmpty, IsSomeRank}
+use Rattle.omega_solve.specs.private.schedules.Nested.{IsEmpty, IsSomeRank}
 use Rattle.omega_solve.proofs.schedules.Nesting.{found_pending}
 use Rattle.omega_solve.proofs.nested.NestedSchedule.look.Goals as goal
 

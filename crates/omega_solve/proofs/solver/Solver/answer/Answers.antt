@@ -3,7 +3,7 @@ use Rattle.std.proofs.Common.{◌≡◌, ◌∙◌, List, Bool, Option, ℕ, ap,
 use Rattle.omega_lift.specs.Laws.{ChoicesAreAStrategy, ChoicesWin, RegionsStayBelowTop}
 use Rattle.omega_solve.specs.Headline.{IsExact}
 use Rattle.omega_solve.specs.Solver.{SolverState}
-use Rattle.omega_solve.specs.solving.Progress.{IsSolver}
+use Rattle.omega_solve.specs.private.solving.Progress.{IsSolver}
 use Rattle.omega_solve.proofs.answers.Exactness.{answer_exact}
 use Rattle.omega_solve.proofs.lifting.Finishing.{finished_idle}
 use Rattle.omega_solve.proofs.solver.Solver.answer.Goals as goal

@@ -1,7 +1,7 @@
 -- The takes are bounded, and none is left out once the solver is done.
 use Rattle.std.proofs.Common.{ap, arith, subst}
 use Rattle.omega_solve.specs.Solver.{SolverState}
-use Rattle.omega_solve.specs.solving.Progress.{IsSolver}
+use Rattle.omega_solve.specs.private.solving.Progress.{IsSolver}
 use Rattle.omega_solve.proofs.lifting.Finishing.{takes_bounded, takes_each}
 use Rattle.omega_solve.proofs.solver.Solver.attempts.Goals as goal
 

@@ -1,11 +1,11 @@
 -- A lift is one towards the successor given, and keeps what a solver keeps.
 use Rattle.std.proofs.Common.{◌+◌, ◌≤◌, ◌∙◌, ap, arith, subst, sym}
 use Rattle.omega_solve.specs.Solver.{SolverState, solver_state}
-use Rattle.omega_solve.specs.solving.Progress.{IsLifted}
+use Rattle.omega_solve.specs.private.solving.Progress.{IsLifted}
 use Rattle.omega_solve.specs.Limits.{most_lifts}
 use Rattle.omega_solve.specs.Schedule.{IsPending, Pending}
-use Rattle.omega_solve.specs.solving.Repeating.{LiftsAgain}
-use Rattle.omega_solve.specs.solving.Successor.{IsDueTowards}
+use Rattle.omega_solve.specs.private.solving.Repeating.{LiftsAgain}
+use Rattle.omega_solve.specs.private.solving.Successor.{IsDueTowards}
 use Rattle.omega_solve.proofs.lifting.Due.{table_entries}
 use Rattle.omega_solve.proofs.lifting.Finishing.{takes_fit, takes_leave}
 use Rattle.omega_solve.proofs.lifting.Lifting.{due_exceeds, solving_lifted, some_lifted, table_raised}

@@ -1,7 +1,7 @@
 -- The queue has the place that was added.
 use Rattle.std.proofs.Common.{◌≡◌, ◌+◌, ◌<◌, ◌∙◌, ℕ, arith, ap, length, subst, sym, slice_set}
 use Rattle.omega_solve.specs.Schedule.{Pending, with_added}
-use Rattle.omega_solve.specs.schedules.Worklist.{IsWorklist, slot_of}
+use Rattle.omega_solve.specs.private.schedules.Worklist.{IsWorklist, slot_of}
 use Rattle.omega_solve.proofs.schedules.Flags.{not_pending, waits_room}
 use Rattle.omega_solve.proofs.schedules.Queueing.{slot_inside, worklist_added}
 use Rattle.omega_solve.proofs.worklist.WorklistSchedule.add.Goals as goal

@@ -1,7 +1,7 @@
 -- The queue has the place that was taken no more.
 use Rattle.std.proofs.Common.{◌≡◌, ◌-◌, ◌∙◌, ℕ, ap, length, subst, sym}
 use Rattle.omega_solve.specs.Schedule.{IsPending, Pending, with_taken}
-use Rattle.omega_solve.specs.schedules.Worklist.{IsWorklist, slot_of}
+use Rattle.omega_solve.specs.private.schedules.Worklist.{IsWorklist, slot_of}
 use Rattle.omega_solve.proofs.schedules.Queueing.{worklist_taken}
 use Rattle.omega_solve.proofs.worklist.WorklistSchedule.take.Goals as goal
 

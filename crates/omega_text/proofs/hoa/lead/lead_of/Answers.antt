@@ -4,7 +4,7 @@ use Rattle.std.proofs.lemmas.List.FromFn.{get_or-map-range_with_len}
 use Rattle.std.specs.List.{range_with_len}
 use Rattle.omega_text.specs.declared.hoa.lead.Lead.TheVariants.{White}
 use Rattle.omega_text.specs.declared.hoa.lead.TheConstants.{LEADS}
-use Rattle.omega_text.specs.hoa.scanning.Leads.{lead_of}
+use Rattle.omega_text.specs.private.hoa.scanning.Leads.{lead_of}
 use Rattle.omega_text.proofs.hoa.lead.lead_of.Goals as goal
 
 table_is : LEADS ≡ map lead_of (range_with_len 0 256)

@@ -2,8 +2,8 @@
 use Rattle.std.proofs.Common.{◌+◌, length, sym, ap, subst, arith, length-drop}
 use Rattle.std.proofs.lemmas.List.Sums.{prefix_len-le-length}
 use Rattle.omega_text.specs.Bytes.{is_word_byte}
-use Rattle.omega_text.specs.hoa.scanning.Passing.{IsSimple}
-use Rattle.omega_text.specs.hoa.scanning.Unfinished.{fresh}
+use Rattle.omega_text.specs.private.hoa.scanning.Passing.{IsSimple}
+use Rattle.omega_text.specs.private.hoa.scanning.Unfinished.{fresh}
 use Rattle.omega_text.proofs.hoa_texts.AtOnce.{alias_simple}
 use Rattle.omega_text.proofs.hoa_texts.Passing.{passes_none}
 use Rattle.omega_text.proofs.hoa.passing.pass_alias.Goals as goal

@@ -1,6 +1,6 @@
 -- The unit goes on or ends with the byte.
 use Rattle.std.proofs.Common.{◌∷◌, [], refl, sym, subst, arith}
-use Rattle.omega_text.specs.hoa.scanning.Passing.{IsCourse, PassesAs}
+use Rattle.omega_text.specs.private.hoa.scanning.Passing.{IsCourse, PassesAs}
 use Rattle.omega_text.proofs.hoa_texts.Passing.{ends_with, goes_on}
 use Rattle.omega_text.proofs.hoa_texts.Pieces.{mode_within}
 use Rattle.omega_text.proofs.hoa.passing.pass_byte.Goals as goal

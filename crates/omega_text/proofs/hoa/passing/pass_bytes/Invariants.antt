@@ -1,6 +1,6 @@
 -- So far neither a mark nor a fault was settled.
 use Rattle.std.proofs.Common.{◌-◌, length}
-use Rattle.omega_text.specs.hoa.scanning.Passing.{Passes}
+use Rattle.omega_text.specs.private.hoa.scanning.Passing.{Passes}
 use Rattle.omega_text.proofs.hoa.passing.pass_bytes.Given as goal
 
 abbrev pub invariant-loop-place : goal.invariant-loop-place

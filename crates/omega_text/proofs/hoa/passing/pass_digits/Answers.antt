@@ -1,7 +1,7 @@
 -- The digits that were counted, and the byte behind them.
 use Rattle.std.proofs.Common.{sym, subst, arith}
-use Rattle.omega_text.specs.hoa.scanning.Passing.{IsSimple}
-use Rattle.omega_text.specs.hoa.scanning.Unfinished.{fresh}
+use Rattle.omega_text.specs.private.hoa.scanning.Passing.{IsSimple}
+use Rattle.omega_text.specs.private.hoa.scanning.Unfinished.{fresh}
 use Rattle.omega_text.proofs.hoa_texts.Passing.{digit_simple, passes_none}
 use Rattle.omega_text.proofs.hoa_texts.Plain.{few_digits_simple}
 use Rattle.omega_text.proofs.hoa.passing.pass_digits.Goals as goal

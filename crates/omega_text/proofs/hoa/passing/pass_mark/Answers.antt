@@ -1,7 +1,7 @@
 -- A mark, or no byte.
 use Rattle.std.proofs.Common.{◌-◌, length, refl, sym, ap, subst, arith}
-use Rattle.omega_text.specs.hoa.scanning.Passing.{IsSimple}
-use Rattle.omega_text.specs.hoa.scanning.Unfinished.{fresh}
+use Rattle.omega_text.specs.private.hoa.scanning.Passing.{IsSimple}
+use Rattle.omega_text.specs.private.hoa.scanning.Unfinished.{fresh}
 use Rattle.omega_text.proofs.hoa_texts.AtOnce.{mark_simple}
 use Rattle.omega_text.proofs.hoa_texts.Passing.{passes_none}
 use Rattle.omega_text.proofs.hoa.passing.pass_mark.Goals as goal

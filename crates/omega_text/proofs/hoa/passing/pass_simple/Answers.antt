@@ -1,7 +1,7 @@
 -- One unit more, and the one that is not ended.
 use Rattle.std.proofs.Common.{◌≡◌, ◌+◌, ◌-◌, subst, arith}
-use Rattle.omega_text.specs.hoa.scanning.Passing.{IsSimple, Passes}
-use Rattle.omega_text.specs.hoa.scanning.Unfinished.{fresh}
+use Rattle.omega_text.specs.private.hoa.scanning.Passing.{IsSimple, Passes}
+use Rattle.omega_text.specs.private.hoa.scanning.Unfinished.{fresh}
 use Rattle.omega_text.proofs.hoa_texts.Passing.{passes_then}
 use Rattle.omega_text.proofs.hoa.passing.pass_simple.Goals as goal
 

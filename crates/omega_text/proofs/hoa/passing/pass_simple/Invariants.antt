@@ -1,7 +1,7 @@
 -- So far all units are simple.
 use Rattle.std.proofs.Common.{◌+◌, ◌-◌, length}
-use Rattle.omega_text.specs.hoa.scanning.Passing.{Passes}
-use Rattle.omega_text.specs.hoa.scanning.Unfinished.{fresh}
+use Rattle.omega_text.specs.private.hoa.scanning.Passing.{Passes}
+use Rattle.omega_text.specs.private.hoa.scanning.Unfinished.{fresh}
 use Rattle.omega_text.proofs.hoa.passing.pass_simple.Given as goal
 
 abbrev pub invariant-loop-place : goal.invariant-loop-place

@@ -1,7 +1,7 @@
 -- The bytes that were counted, and the quote behind them.
 use Rattle.std.proofs.Common.{◌+◌, length, refl, ap, arith, length-drop}
 use Rattle.std.proofs.lemmas.List.Sums.{prefix_len-le-length}
-use Rattle.omega_text.specs.hoa.scanning.Passing.{is_quoted}
+use Rattle.omega_text.specs.private.hoa.scanning.Passing.{is_quoted}
 use Rattle.omega_text.proofs.hoa_texts.Passing.{string_passes, string_simple}
 use Rattle.omega_text.proofs.hoa.passing.pass_string.Goals as goal
 

@@ -1,6 +1,6 @@
 -- So far the bytes are a gap.
 use Rattle.std.proofs.Common.{◌-◌, length}
-use Rattle.omega_text.specs.hoa.Cut.{IsGapTo}
+use Rattle.omega_text.specs.private.hoa.Gaps.{IsGapTo}
 use Rattle.omega_text.proofs.hoa.token.plain_hoa_token.Given as goal
 
 abbrev pub invariant-loop-start : goal.invariant-loop-start

@@ -4,7 +4,7 @@ use Rattle.omega_text.specs.Cut.{IsCut}
 use Rattle.omega_text.specs.hoa.Format.{hoa_format}
 use Rattle.omega_text.specs.hoa.Laws.{is_closed}
 use Rattle.omega_text.specs.hoa.Pieces.{FaultsBehind, IsCutUpToFault}
-use Rattle.omega_text.specs.hoa.scanning.Unfinished.{IsTokenIn}
+use Rattle.omega_text.specs.private.hoa.scanning.Unfinished.{IsTokenIn}
 use Rattle.omega_text.proofs.hoa_texts.Last.{last_unclosed}
 use Rattle.omega_text.proofs.hoa_texts.Pieces.{ends_in_fault, ends_in_gap, ends_in_token, settled_as}
 use Rattle.omega_text.proofs.hoa.tokenizer.end_of_text.Goals as goal

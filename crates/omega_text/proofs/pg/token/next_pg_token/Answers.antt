@@ -1,7 +1,8 @@
 -- Behind the gap stands the token.
 use Rattle.std.proofs.Common.{take, sym, subst}
 use Rattle.omega_text.specs.Lexeme.{lexeme_at}
-use Rattle.omega_text.specs.pg.Cut.{Follows, IsFirstForm}
+use Rattle.omega_text.specs.pg.Cut.{Follows}
+use Rattle.omega_text.specs.private.pg.FirstForm.{IsFirstForm}
 use Rattle.omega_text.proofs.pg_texts.Tokens.{form_follows}
 use Rattle.omega_text.proofs.pg.token.next_pg_token.Goals as goal
 

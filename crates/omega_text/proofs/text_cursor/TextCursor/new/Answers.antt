@@ -1,7 +1,7 @@
 -- The tokens that are left at the start are the cut.
 use Rattle.std.proofs.Common.{None, Some, refl, ◌∙◌, sym, subst}
 use Rattle.omega_text.specs.Cut.{IsCut}
-use Rattle.omega_text.specs.Left.{Left}
+use Rattle.omega_text.specs.private.Left.{Left}
 use Rattle.omega_text.specs.Lexeme.{lexeme_of}
 use Rattle.omega_text.proofs.formats.Lefts.{cut_is_rest, left_is, place_none, place_some}
 use Rattle.omega_text.proofs.text_cursor.TextCursor.new.Goals as goal

@@ -1,7 +1,7 @@
 -- Behind the first of the tokens that are left the others are left.
 use Rattle.std.proofs.Common.{Some, drop, ap, refl, ◌∙◌, sym}
 use Rattle.std.proofs.Math.Logic.{∥∥₁_map}
-use Rattle.omega_text.specs.Left.{Left}
+use Rattle.omega_text.specs.private.Left.{Left}
 use Rattle.omega_text.specs.Lexeme.{lexeme_of}
 use Rattle.omega_text.proofs.formats.Lefts.{left_known, parts_behind, parts_none, parts_within, place_some}
 use Rattle.omega_text.proofs.text_cursor.TextCursor.skip.Goals as goal

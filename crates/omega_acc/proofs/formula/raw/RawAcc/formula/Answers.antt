@@ -4,7 +4,7 @@ use Rattle.omega_acc.specs.formula.Meaning.{IsMeant, IsUnmeant}
 use Rattle.omega_acc.specs.Depth.{counted}
 use Rattle.omega_acc.specs.Limits.{most_depth}
 use Rattle.omega_acc.specs.formula.Raw.{raw_acc_depth}
-use Rattle.omega_acc.specs.layout.formula.Plain.{depths_behind, top_depth}
+use Rattle.omega_acc.specs.private.layout.formula.Plain.{depths_behind, top_depth}
 use Rattle.omega_acc.proofs.expressions.PassingLemmas.{error_then}
 use Rattle.omega_acc.proofs.formulas.PlainLemmas.{IsAcc-plain, IsMeant-plain, atom-unmeant, too-deep}
 use Rattle.omega_acc.proofs.formula.raw.RawAcc.formula.Goals as goal

@@ -3,7 +3,7 @@ use Rattle.std.proofs.Common.{◌≤◌, ap, arith, subst, sym}
 use Rattle.omega_acc.specs.Depth.{counted}
 use Rattle.omega_acc.specs.Limits.{most_depth}
 use Rattle.omega_acc.specs.formula.Raw.{raw_acc_depth}
-use Rattle.omega_acc.specs.layout.formula.Joining.{joined_by}
+use Rattle.omega_acc.specs.private.layout.formula.Joining.{joined_by}
 use Rattle.omega_acc.proofs.formulas.RawLemmas.{AreOfAcc-appended, AreOfAcc-seen, IsRawAcc-of, joined_deep, raw_acc_tree-is}
 use Rattle.omega_acc.proofs.formula.raw.RawAcc.joined.Goals as goal
 

@@ -1,7 +1,7 @@
 -- The sets of the nodes are those of the tree.
 use Rattle.std.proofs.Common.{ap, ◌∙◌}
 use Rattle.std.specs.List.{list_all}
-use Rattle.omega_acc.specs.layout.formula.Plain.{set_below}
+use Rattle.omega_acc.specs.private.layout.formula.Plain.{set_below}
 use Rattle.omega_acc.proofs.expressions.BelowLemmas.{sets-postfix}
 use Rattle.omega_acc.proofs.formula.raw.RawAcc.sets_below.Goals as goal
 

@@ -1,7 +1,7 @@
 -- `&` joins the part.
 use Rattle.std.proofs.Common.{◌+◌, ap, min, subst, sym, ◌∙◌}
 use Rattle.omega_acc.specs.Symbols.{unary}
-use Rattle.omega_acc.specs.layout.formula.Building.{Has}
+use Rattle.omega_acc.specs.private.layout.formula.Building.{Has}
 use Rattle.omega_acc.proofs.formulas.ReadingLemmas.{has_conjoined, has_loose, has_others}
 use Rattle.omega_acc.proofs.expressions.PendingLemmas.{IsLoose, popped}
 use Rattle.omega_acc.proofs.formula.unfinished.UnfinishedAcc.bind_tightly.Goals as goal

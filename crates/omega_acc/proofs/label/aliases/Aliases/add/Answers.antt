@@ -2,9 +2,9 @@
 use Rattle.std.proofs.Common.{◌≡◌, length, ap, subst, sym, ◌∙◌, arith, option_map}
 use Rattle.std.proofs.lemmas.List.{length-map}
 use Rattle.omega_acc.specs.label.Expanding.{expansion, place_among}
-use Rattle.omega_acc.specs.layout.label.Aliases.{defined_of, definitions_held}
-use Rattle.omega_acc.specs.layout.label.Emitting.{IsKept}
-use Rattle.omega_acc.specs.layout.label.Extents.{extent_of}
+use Rattle.omega_acc.specs.private.layout.label.Aliases.{defined_of, definitions_held}
+use Rattle.omega_acc.specs.private.layout.label.Emitting.{IsKept}
+use Rattle.omega_acc.specs.private.layout.label.Extents.{extent_of}
 use Rattle.omega_acc.proofs.labels.AliasLemmas.{place-absent}
 use Rattle.omega_acc.proofs.labels.PutLemmas.{Keeps-push, Keeps-put}
 use Rattle.omega_acc.proofs.label.aliases.Aliases.add.Goals as goal

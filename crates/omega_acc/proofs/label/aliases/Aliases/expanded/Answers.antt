@@ -1,7 +1,7 @@
 -- What has an extent means something, and the nodes of that are kept.
 use Rattle.std.proofs.Common.{◌++◌, [], IsSome, ap, subst, sym, ◌∙◌, take}
 use Rattle.omega_acc.specs.label.Expanding.{entries_of, expansion, replaced}
-use Rattle.omega_acc.specs.layout.label.Emitting.{nodes_of}
+use Rattle.omega_acc.specs.private.layout.label.Emitting.{nodes_of}
 use Rattle.omega_acc.proofs.labels.EntryLemmas.{take-entries_of}
 use Rattle.omega_acc.proofs.labels.KeptLemmas.{kept-of, measured-some}
 use Rattle.omega_acc.proofs.label.aliases.Aliases.expanded.Goals as goal

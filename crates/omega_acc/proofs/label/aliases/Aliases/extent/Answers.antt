@@ -2,8 +2,8 @@
 use Rattle.std.proofs.Common.{◌≡◌, [], None, get_or, length, map, option_map, ap, arith, sym, ◌∙◌}
 use Rattle.std.proofs.lemmas.List.{length-map}
 use Rattle.omega_acc.specs.label.Expanding.{entries_of, place_among}
-use Rattle.omega_acc.specs.layout.label.Aliases.{defined_of, definitions_held}
-use Rattle.omega_acc.specs.layout.label.Extents.{extent_named, extent_of}
+use Rattle.omega_acc.specs.private.layout.label.Aliases.{defined_of, definitions_held}
+use Rattle.omega_acc.specs.private.layout.label.Extents.{extent_named, extent_of}
 use Rattle.omega_acc.proofs.labels.AliasLemmas.{get_or-made}
 use Rattle.omega_acc.proofs.labels.EntryLemmas.{extent-at, stands_for-none}
 use Rattle.omega_acc.proofs.label.aliases.Aliases.extent.Goals as goal

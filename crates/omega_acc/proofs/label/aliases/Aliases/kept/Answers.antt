@@ -1,8 +1,8 @@
 -- What is kept at a place are the nodes of what the definition there means.
 use Rattle.std.proofs.Common.{[], length, ap, subst, sym, ◌∙◌, arith, ◌≡◌}
 use Rattle.std.proofs.lemmas.List.{length-map}
-use Rattle.omega_acc.specs.layout.label.Aliases.{defined_of, definitions_held}
-use Rattle.omega_acc.specs.layout.label.Emitting.{IsKeptAt}
+use Rattle.omega_acc.specs.private.layout.label.Aliases.{defined_of, definitions_held}
+use Rattle.omega_acc.specs.private.layout.label.Emitting.{IsKeptAt}
 use Rattle.omega_acc.proofs.labels.KeptLemmas.{kept-at}
 use Rattle.omega_acc.proofs.label.aliases.Aliases.kept.Goals as goal
 

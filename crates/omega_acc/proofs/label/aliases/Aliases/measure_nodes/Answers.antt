@@ -2,7 +2,7 @@
 use Rattle.std.proofs.Common.{[], ap, sym, ◌∙◌, arith}
 use Rattle.std.proofs.lemmas.List.{at_drop_all}
 use Rattle.omega_acc.specs.label.Expanding.{entries_of}
-use Rattle.omega_acc.specs.layout.label.Extents.{extent_named, extents_behind, top_extent}
+use Rattle.omega_acc.specs.private.layout.label.Extents.{extent_named, extents_behind, top_extent}
 use Rattle.omega_acc.proofs.labels.ExtentLemmas.{extents_behind-label}
 use Rattle.omega_acc.proofs.label.aliases.Aliases.measure_nodes.Goals as goal
 

@@ -1,8 +1,8 @@
 -- The extents so far and the nodes that are left make the extent.
 use Rattle.std.proofs.Common.{◌≡◌, [], drop}
 use Rattle.omega_acc.specs.label.Expanding.{entries_of}
-use Rattle.omega_acc.specs.layout.label.Extents.{extent_named, extents_behind}
-use Rattle.omega_acc.specs.layout.label.Raw.{alias_names, raw_postfix}
+use Rattle.omega_acc.specs.private.layout.label.Extents.{extent_named, extents_behind}
+use Rattle.omega_acc.specs.private.layout.label.Raw.{alias_names, raw_postfix}
 use Rattle.omega_acc.proofs.label.aliases.Aliases.measure_nodes.Given as goal
 
 abbrev pub invariant-loop-node : goal.invariant-loop-node

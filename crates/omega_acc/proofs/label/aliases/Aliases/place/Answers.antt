@@ -2,7 +2,7 @@
 use Rattle.std.proofs.Common.{length, ap, sym, ◌∙◌}
 use Rattle.std.proofs.lemmas.List.{length-map}
 use Rattle.omega_acc.specs.label.Expanding.{place_among}
-use Rattle.omega_acc.specs.layout.label.Aliases.{defined_of}
+use Rattle.omega_acc.specs.private.layout.label.Aliases.{defined_of}
 use Rattle.omega_acc.proofs.labels.AliasLemmas.{place-found, place-missing}
 use Rattle.omega_acc.proofs.label.aliases.Aliases.place.Goals as goal
 

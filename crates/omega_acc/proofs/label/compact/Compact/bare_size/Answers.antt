@@ -1,8 +1,8 @@
 -- In place no byte stands for an alias, and those that stand for no parentheses are counted.
 use Rattle.std.proofs.Common.{◌≡◌, ap, count_by, sym, take, ◌∙◌}
 use Rattle.std.specs.List.{list_any}
-use Rattle.omega_acc.specs.layout.label.Bare.{is_alias, is_bare}
-use Rattle.omega_acc.specs.layout.label.Compact.{notation_in}
+use Rattle.omega_acc.specs.private.layout.label.Bare.{is_alias, is_bare}
+use Rattle.omega_acc.specs.private.layout.label.Compact.{notation_in}
 use Rattle.omega_acc.specs.declared.label.compact.Held.TheVariants.{Short}
 use Rattle.omega_acc.proofs.labels.CodeLemmas.{no_alias-codes}
 use Rattle.omega_acc.proofs.label.compact.Compact.bare_size.Goals as goal

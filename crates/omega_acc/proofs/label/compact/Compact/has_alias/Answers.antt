@@ -1,8 +1,8 @@
 -- In place no byte stands for an alias.
 use Rattle.std.proofs.Common.{ap, sym, take, ◌∙◌}
 use Rattle.std.specs.List.{list_any}
-use Rattle.omega_acc.specs.layout.label.Bare.{is_alias}
-use Rattle.omega_acc.specs.layout.label.Compact.{notation_in}
+use Rattle.omega_acc.specs.private.layout.label.Bare.{is_alias}
+use Rattle.omega_acc.specs.private.layout.label.Compact.{notation_in}
 use Rattle.omega_acc.proofs.labels.CodeLemmas.{no_alias-codes}
 use Rattle.omega_acc.proofs.label.compact.Compact.has_alias.Goals as goal
 

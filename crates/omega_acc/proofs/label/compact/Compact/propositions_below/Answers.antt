@@ -1,8 +1,8 @@
 -- In place the bytes stand for the nodes.
 use Rattle.std.proofs.Common.{ap, sym, take, ◌∙◌}
 use Rattle.std.specs.List.{list_all}
-use Rattle.omega_acc.specs.layout.label.Compact.{notation_in}
-use Rattle.omega_acc.specs.layout.label.Propositions.{proposition_below}
+use Rattle.omega_acc.specs.private.layout.label.Compact.{notation_in}
+use Rattle.omega_acc.specs.private.layout.label.Propositions.{proposition_below}
 use Rattle.omega_acc.proofs.labels.CodeLemmas.{list_all-codes}
 use Rattle.omega_acc.proofs.label.compact.Compact.propositions_below.Goals as goal
 

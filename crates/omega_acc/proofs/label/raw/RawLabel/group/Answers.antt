@@ -2,7 +2,7 @@
 use Rattle.std.proofs.Common.{◌≤◌, ap, arith, refl, subst, sym, ◌∙◌}
 use Rattle.omega_acc.specs.Limits.{most_depth}
 use Rattle.omega_acc.specs.label.Raw.{raw_depth, group}
-use Rattle.omega_acc.specs.layout.label.Raw.{IsRawLabel, raw_tree_of}
+use Rattle.omega_acc.specs.private.layout.label.Raw.{IsRawLabel, raw_tree_of}
 use Rattle.omega_acc.proofs.labels.RawLemmas.{AreOf-group, AreOf-seen, IsRawLabel-of, raw_tree-is}
 use Rattle.omega_acc.specs.declared.label.notation.Notation.{Notation}
 use Rattle.omega_acc.proofs.label.raw.RawLabel.group.Goals as goal

@@ -1,7 +1,7 @@
 -- The propositions of the nodes are those of the tree.
 use Rattle.std.proofs.Common.{ap, ◌∙◌}
 use Rattle.std.specs.List.{list_all}
-use Rattle.omega_acc.specs.layout.label.Propositions.{proposition_below}
+use Rattle.omega_acc.specs.private.layout.label.Propositions.{proposition_below}
 use Rattle.omega_acc.proofs.expressions.BelowLemmas.{propositions-postfix}
 use Rattle.omega_acc.proofs.labels.RawLemmas.{AreOf-seen}
 use Rattle.omega_acc.proofs.label.raw.RawLabel.propositions_below.Goals as goal

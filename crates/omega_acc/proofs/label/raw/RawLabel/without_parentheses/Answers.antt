@@ -1,7 +1,7 @@
 -- The nodes that are left are those of the label without parentheses.
 use Rattle.std.proofs.Common.{ap, ◌∙◌}
-use Rattle.omega_acc.specs.layout.label.Bare.{bare}
-use Rattle.omega_acc.specs.layout.label.Label.{tree_of, tree_of-postfix}
+use Rattle.omega_acc.specs.private.layout.label.Bare.{bare}
+use Rattle.omega_acc.specs.private.layout.label.Label.{tree_of, tree_of-postfix}
 use Rattle.omega_acc.proofs.labels.BareLemmas.{IsLabel-bare, nodes-bare}
 use Rattle.omega_acc.proofs.labels.RawLemmas.{AreOf-seen}
 use Rattle.omega_acc.specs.declared.label.notation.Notation.{Notation}

@@ -2,7 +2,7 @@
 use Rattle.std.proofs.Common.{◌∷◌, ap, arith, length, subst, sym, ◌∙◌}
 use Rattle.omega_acc.specs.Symbols.{conjunctive}
 use Rattle.omega_acc.specs.declared.pending.Pending.TheVariants.{And}
-use Rattle.omega_acc.specs.layout.label.Building.{Has}
+use Rattle.omega_acc.specs.private.layout.label.Building.{Has}
 use Rattle.omega_acc.proofs.expressions.PendingLemmas.{IsLoose, loose_others, popped}
 use Rattle.omega_acc.proofs.labels.ReadingLemmas.{has_conjoined, has_loose, has_negated}
 use Rattle.omega_acc.proofs.label.unfinished.Unfinished.bind_tightly.Goals as goal

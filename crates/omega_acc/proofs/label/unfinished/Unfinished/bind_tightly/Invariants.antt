@@ -1,7 +1,7 @@
 -- The part stays one behind which each `!` is put.
 use Rattle.std.proofs.Common.{List, length}
 use Rattle.omega_acc.specs.Symbols.{unary}
-use Rattle.omega_acc.specs.layout.label.Building.{HasIn}
+use Rattle.omega_acc.specs.private.layout.label.Building.{HasIn}
 use Rattle.omega_text.specs.Lexeme.{Lexeme}
 use Rattle.omega_text.specs.declared.hoa.kind.HoaKind.{HoaKind}
 use Rattle.omega_acc.proofs.label.unfinished.Unfinished.bind_tightly.Given as goal

@@ -1,7 +1,7 @@
 -- `Reader` as a reader of tokens: what it takes begins a game text, what it refuses does not,
 -- and where it ends is a text.
 use Rattle.omega_text.specs.Lexeme.{lexeme_of}
-use Rattle.omega_pg.specs.game.reader.Reader.{game_reader_state}
+use Rattle.omega_pg.specs.private.game.reader.Reader.{game_reader_state}
 use Rattle.omega_pg.specs.declared.game.reader.Reader.{Reader}
 use Rattle.omega_pg.proofs.games.Grammar.{judged_end, taken_reached_all}
 use Rattle.omega_pg.proofs.game.reader.ReaderTokenReaderPgKind.TheImpl.Goals as goal

@@ -1,6 +1,6 @@
 -- `Reader::take_semicolon`: the header or a line ends, and is kept.
 use Rattle.std.proofs.Common.{ap}
-use Rattle.omega_pg.specs.solution.reader.Automaton.{after_semicolon}
+use Rattle.omega_pg.specs.private.solution.reader.Automaton.{after_semicolon}
 use Rattle.omega_pg.proofs.solutions.Steps.{header_ends, line_ends}
 use Rattle.omega_pg.proofs.solution.reader.Reader.take_semicolon.Goals as goal
 

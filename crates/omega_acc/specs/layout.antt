@@ -1,6 +1,0 @@
-pub mod Joins
-pub mod Passing
-pub mod Pending
-pub mod Texts
-pub mod formula
-pub mod label

@@ -1,0 +1,7 @@
+pub mod Joins
+pub mod Passing
+pub mod Pending
+pub mod Texts
+pub mod formula
+pub mod label
+pub mod Depth

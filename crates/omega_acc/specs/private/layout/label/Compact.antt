@@ -1,0 +1,16 @@
+-- Where a label's notation stands, and which it is.
+use Rattle.std.specs.Prelude.{◌≤◌, [], map, take}
+use Rattle.omega_acc.specs.private.layout.label.Codes.{node_of}
+use Rattle.omega_acc.specs.declared.label.notation.Notation.{Notation}
+use Rattle.omega_acc.specs.declared.label.compact.Held.{Held}
+use Rattle.omega_acc.specs.declared.label.compact.Held.TheVariants.{Long, Short}
+
+-- the notation, wherever it stands
+abbrev pub notation_in : Held → Notation
+notation_in (Short count depth codes) = record { nodes = map node_of (take count codes); names = []; depth = depth }
+notation_in (Long notation) = notation.value
+
+-- there is room in place for so many nodes
+abbrev pub fits_in_place : Held → Type 0
+fits_in_place (Short count depth codes) = count ≤ 21
+fits_in_place (Long notation) = Unit {0}

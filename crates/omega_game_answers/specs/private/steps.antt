@@ -1,0 +1,8 @@
+-- What stands between a text and its answer: cited by private contracts alone.
+pub mod SolveGameRefusal
+pub mod PartRefusal
+pub mod Places
+pub mod Solved
+pub mod Verdict
+pub mod Winners
+pub mod Lifts

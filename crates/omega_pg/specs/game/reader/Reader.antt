@@ -1,7 +1,0 @@
--- A reader as the state of the automaton.
-use Rattle.omega_pg.specs.game.reader.Automaton.{GameReaderState}
-use Rattle.omega_pg.specs.declared.game.reader.Reader.{Reader}
-
--- the state that a reader keeps
-abbrev pub game_reader_state : Reader → GameReaderState
-game_reader_state reader = record { stage = reader.stage; header = reader.header; specs = reader.builder; header_too_small = reader.header_too_small }

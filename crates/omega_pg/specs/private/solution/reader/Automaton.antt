@@ -1,0 +1,74 @@
+-- The grammar of solution texts as an automaton over symbols, which keeps what it has read.
+use Rattle.std.specs.Prelude.{ℕ, Option, Some, None, List, [], ◌∷◌, ◌++◌, option_map}
+use Rattle.omega_game.specs.declared.player.Player.{Player}
+use Rattle.omega_pg.specs.private.game.reader.Automaton.{player_of}
+use Rattle.omega_pg.specs.solution.Grammar.{SolutionLine}
+use Rattle.omega_pg.specs.private.reader.Run.{run_by}
+use Rattle.omega_pg.specs.Symbols.{PgSymbol, comma, name, number, parity, paritysol, semicolon}
+use Rattle.omega_pg.specs.declared.solution.stage.Stage.{Stage}
+use Rattle.omega_pg.specs.declared.solution.stage.Stage.TheVariants.{Chosen, Ended, Identifier, Number, Start, Winner, Word}
+
+-- what was read so far: where it stands, the header's number and the lines
+pub record SolutionReaderState : Type 0 where
+  pub stage : Stage
+  pub greatest : ℕ
+  pub lines : List SolutionLine
+
+-- nothing was read
+abbrev pub initial : SolutionReaderState
+initial = record { stage = Start; greatest = 0; lines = [] }
+
+-- the state at another stage
+abbrev pub to_stage : Stage → SolutionReaderState → SolutionReaderState
+to_stage stage state = record state { stage = stage }
+
+-- the state with one line more
+abbrev pub with_line : ℕ → Player → Option ℕ → SolutionReaderState → SolutionReaderState
+with_line id winner successor state = record {
+  stage = Ended;
+  greatest = state.greatest;
+  lines = state.lines ++ record { identifier = id; winner = winner; successor = successor } ∷ [];
+}
+
+-- where a number leads
+abbrev pub stage_after_number : Stage → ℕ → Option Stage
+stage_after_number Start n = None
+stage_after_number Word n = Some (Number n)
+stage_after_number (Number greatest) n = None
+stage_after_number Ended n = Some (Identifier n)
+stage_after_number (Identifier id) n = option_map (λ winner. Winner id winner) (player_of n)
+stage_after_number (Winner id winner) n = Some (Chosen id winner n)
+stage_after_number (Chosen id winner successor) n = None
+
+-- where the word `paritysol` leads
+abbrev pub stage_after_word : Stage → Option Stage
+stage_after_word Start = Some Word
+stage_after_word _ = None
+
+-- what a number makes of the state
+abbrev pub after_number : Stage → SolutionReaderState → ℕ → Option SolutionReaderState
+after_number stage state n = option_map (λ next. to_stage next state) (stage_after_number stage n)
+
+-- what the word `paritysol` makes of the state
+abbrev pub after_word : Stage → SolutionReaderState → Option SolutionReaderState
+after_word stage state = option_map (λ next. to_stage next state) (stage_after_word stage)
+
+-- what a semicolon makes of the state
+abbrev pub after_semicolon : Stage → SolutionReaderState → Option SolutionReaderState
+after_semicolon (Number greatest) state = Some (record { stage = Ended; greatest = greatest; lines = state.lines })
+after_semicolon (Winner id winner) state = Some (with_line id winner None state)
+after_semicolon (Chosen id winner successor) state = Some (with_line id winner (Some successor) state)
+after_semicolon _ state = None
+
+-- what a symbol makes of the state, or none where no text goes on so
+abbrev pub step : SolutionReaderState → PgSymbol → Option SolutionReaderState
+step state (number n) = after_number state.stage state n
+step state parity = None
+step state paritysol = after_word state.stage state
+step state semicolon = after_semicolon state.stage state
+step state comma = None
+step state (name bytes) = None
+
+-- what symbols make of the state
+abbrev pub run : SolutionReaderState → List PgSymbol → Option SolutionReaderState
+run = run_by step

@@ -1,2 +1,0 @@
--- What only readers keep and promise, whatever they read.
-pub mod Run

@@ -1,0 +1,62 @@
+-- That rows begin by the kinds by which they are known: the laws of `Part`, which its impls take from `specs` alone.
+use Rattle.std.specs.Prelude.{◌≡◌, ℕ, true, false, List, [], ◌∷◌, Option, Some, None, refl}
+use Rattle.omega_acc.specs.declared.formula.name.Parameter.{Parameter}
+use Rattle.omega_acc.specs.declared.formula.name.Parameter.TheVariants as parameter
+use Rattle.omega_raw.specs.Grammar.{IsConj, IsRawEdge, IsRawItem, IsRawState, conj_row, edge_row, item_row, label_row, optional_row, parameter_row, sig_row, state_row, value_row}
+use Rattle.omega_raw.specs.private.steps.Parts.{EndsEdge, EndsItem, EndsState, is_edge, is_header, is_parameter, is_value}
+use Rattle.omega_raw.specs.private.steps.Reading.{IsAny}
+use Rattle.omega_raw.specs.Symbols.{AutomatonSymbol}
+use Rattle.omega_raw.specs.private.steps.First.{FirstIs}
+use Rattle.omega_raw.specs.declared.header_value.HeaderValue.{HeaderValue}
+use Rattle.omega_raw.specs.declared.raw_edge.RawEdge.{RawEdge}
+use Rattle.omega_raw.specs.declared.raw_item.RawItem.{RawItem}
+use Rattle.omega_raw.specs.declared.raw_state.RawState.{RawState}
+use Rattle.omega_acc.specs.label.Raw.{RawLabelTree}
+use Rattle.omega_text.specs.declared.hoa.kind.HoaKind.{HoaKind}
+use Rattle.omega_text.specs.declared.hoa.kind.HoaKind.TheVariants as kind
+use Rattle.omega_raw.specs.declared.header_value.HeaderValue.TheVariants as value
+
+pub parameter_begun : (it : Parameter) (others : List AutomatonSymbol) → IsAny it → FirstIs (λ kind. is_parameter kind ≡ true) (parameter_row it others)
+parameter_begun (parameter.Boolean true) others valid = refl
+parameter_begun (parameter.Boolean false) others valid = refl
+parameter_begun (parameter.Number n) others valid = refl
+parameter_begun (parameter.Word bytes) others valid = refl
+
+pub value_begun : (it : HeaderValue) (others : List AutomatonSymbol) → IsAny it → FirstIs (λ kind. is_value kind ≡ true) (value_row it others)
+value_begun (value.Boolean true) others valid = refl
+value_begun (value.Boolean false) others valid = refl
+value_begun (value.Number n) others valid = refl
+value_begun (value.Text bytes) others valid = refl
+value_begun (value.Word bytes) others valid = refl
+
+edge_begins : (label : Option RawLabelTree) (targets : List ℕ) (others : List AutomatonSymbol) → IsConj targets
+    → FirstIs (λ kind. is_edge kind ≡ true) (optional_row label_row label (conj_row targets others))
+edge_begins (Some tree) targets others valid = refl
+edge_begins None [] others valid = elim valid [ ]
+edge_begins None (first ∷ more) others valid = refl
+
+pub edge_begun : (it : RawEdge) (others : List AutomatonSymbol) → IsRawEdge it → FirstIs (λ kind. is_edge kind ≡ true) (edge_row it others)
+edge_begun it others valid = edge_begins it.label it.targets (optional_row sig_row it.marks others) valid
+
+pub edge_follows : (kind : HoaKind) → is_edge kind ≡ true → EndsEdge kind
+edge_follows kind.OpenBracket is = tt
+edge_follows kind.Int is = tt
+edge_follows kind.HeaderName is = tt
+edge_follows kind.End is = tt
+edge_follows other is = cc
+
+pub state_begun : (it : RawState) (others : List AutomatonSymbol) → IsRawState it → FirstIs (λ kind. is_header kind ≡ true) (state_row it others)
+state_begun it others valid = refl
+
+pub state_follows : (kind : HoaKind) → is_header kind ≡ true → EndsState kind
+state_follows kind.HeaderName is = tt
+state_follows kind.End is = tt
+state_follows other is = cc
+
+pub item_begun : (it : RawItem) (others : List AutomatonSymbol) → IsRawItem it → FirstIs (λ kind. is_header kind ≡ true) (item_row it others)
+item_begun it others valid = refl
+
+pub item_follows : (kind : HoaKind) → is_header kind ≡ true → EndsItem kind
+item_follows kind.HeaderName is = tt
+item_follows kind.Body is = tt
+item_follows other is = cc

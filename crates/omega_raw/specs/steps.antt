@@ -1,5 +1,0 @@
--- What each step of reading reads. Only contracts inside this crate look into it.
-pub mod Beginnings
-pub mod Contents
-pub mod Parts
-pub mod Reading

@@ -1,0 +1,3 @@
+-- What stands between a command and its answer: cited by private contracts alone.
+pub mod Kinds
+pub mod Telling

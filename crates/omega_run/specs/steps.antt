@@ -1,2 +1,0 @@
--- What stands between a command and its answer: cited by private contracts alone.
-pub mod Kinds

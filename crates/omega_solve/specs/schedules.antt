@@ -1,4 +1,0 @@
--- What only the three schedules cite.
-pub mod Sweep
-pub mod Worklist
-pub mod Nested

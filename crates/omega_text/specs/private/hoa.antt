@@ -1,0 +1,2 @@
+pub mod scanning
+pub mod Gaps

@@ -1,0 +1,4 @@
+pub mod KeptMode
+pub mod Leads
+pub mod Passing
+pub mod Unfinished
