@@ -1,5 +1,5 @@
 -- What the marks of a set of edges say of the atoms of a formula, on every closed walk in the set.
-use Rattle.std.specs.Prelude.{◌≡◌, ℕ, Bool, true, false, not, ◌&&◌, ◌||◌, ◌==◌, IsTrue, if◌then◌else◌, List, Contains, ◌∷◌, [], Option, None, Some}
+use Rattle.std.specs.Prelude.{◌≡◌, ℕ, Bool, true, false, not, ◌&&◌, ◌||◌, ◌==◌, IsTrue, if◌then◌else◌, List, Contains, Option, None, Some}
 use Rattle.omega_acc.specs.formula.Acceptance.{AccTree, conjunction, constant, disjunction, fin, holds, inf, occurs}
 use Rattle.omega_walk.specs.Walks.{Edges, Graph}
 
@@ -9,7 +9,7 @@ meets negated set marks = if negated then not (holds set marks) else holds set m
 
 -- a list of edges lists a set of edges whole
 abbrev pub Lists : Edges → List ℕ → Type 0
-Lists edges numbers = (number : ℕ) → IsTrue (edges number) → Contains numbers (number ∷ [])
+Lists edges numbers = (number : ℕ) → IsTrue (edges number) → Contains numbers number
 
 -- what is known of atoms: whether the edges of every closed walk meet them, or not known
 abbrev pub Known : Type 0

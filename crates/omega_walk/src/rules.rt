@@ -1,6 +1,6 @@
 //! The rules of the search, each a law that stands by itself. All hold of every formula, since a formula is positive in
 //! its atoms: to make an atom true never makes it false.
-ghost use Rattle.omega_walk.specs.Rules.{AllEdgesShowInf, ConnectedEdgesAccept, DisjunctionsSplit, FinIsTriedBothWays, FinTakesEdges, KnownAtomsFall, WalksAreKept, WalksNeedInf, WalksStayInComponents};
+ghost use Rattle.omega_walk.specs.Rules.{AllEdgesShowInf, ConnectedEdgesAccept, DisjunctionsSplit, FinIsTriedBothWays, FinTakesEdges, KnownAtomsFall, PassingWalksAccept, WalksAreKept, WalksHaveEdges, WalksNeedInf, WalksStayInComponents};
 
 /// A closed walk in fewer edges is one in more.
 pub fn walks_are_kept()
@@ -16,6 +16,17 @@ pub fn walks_stay_in_components()
 /// An atom whose set of marks each edge meets, or none does, has one value on all closed walks.
 pub fn known_atoms_fall()
     ensures { KnownAtomsFall }
+{}
+
+/// A closed walk has an edge of its set: where there is none, no walk accepts.
+pub fn walks_have_edges()
+    ensures { WalksHaveEdges }
+{}
+
+/// Where a formula holds with `Inf` asked of some edges and `Fin` of all edges of a set, each closed walk in the set
+/// that passes those accepts.
+pub fn passing_walks_accept()
+    ensures { PassingWalksAccept }
 {}
 
 /// Where a formula holds with `Inf` asked of some edges of a connected set and `Fin` of all its edges, a closed walk
