@@ -32,6 +32,8 @@ module _ (graph : Graph) (edges : Edges) where
   tour_accepts [] all formula connected inside longer lists holds = absurd (omega arith)
   tour_accepts (first ∷ others) all formula connected inside longer lists holds =
       let round : Tour graph edges connected first others first =
-          tour graph edges connected first others first inside (All-head (λ number. IsTrue (edges number)) first others inside) in
-      (round.walk, passing_accepts (first ∷ others) all round.walk formula lists
-        (record { knot = (graph first).from; leads = round.leads; longer = round.longer }) round.passes holds)
+      tour graph edges connected first others first inside (All-head (λ number. IsTrue (edges number)) first others inside) in (
+        round.walk,
+        passing_accepts (first ∷ others) all round.walk formula lists
+            (record { knot = (graph first).from; leads = round.leads; longer = round.longer }) round.passes holds,
+      )

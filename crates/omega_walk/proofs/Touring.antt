@@ -1,5 +1,5 @@
 -- Tours: a walk through each of some edges of a connected set, back to the first.
-use Rattle.std.proofs.Common.{◌≡◌, ℕ, ◌<◌, Bool, IsTrue, ◌⊎◌, inl, inr, List, [], ◌∷◌, ◌++◌, length, All, Contains, refl, subst, arith}
+use Rattle.std.proofs.Common.{ℕ, ◌<◌, IsTrue, inl, inr, List, [], ◌∷◌, ◌++◌, length, All, Contains, refl, subst, arith}
 use Rattle.std.proofs.lemmas.List.Elements.{All-head, All-tail, Contains-append_right}
 use Rattle.omega_walk.specs.Rules.{IsConnected}
 use Rattle.omega_walk.specs.Walks.{Edges, Graph, IsWalk}

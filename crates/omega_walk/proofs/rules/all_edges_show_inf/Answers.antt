@@ -1,5 +1,5 @@
 -- the formula holds of the walk, whose marks are among those of all edges, and asks nothing of `Fin`
-use Rattle.std.proofs.Common.{ℕ, [], sym, ◌∙◌}
+use Rattle.std.proofs.Common.{[], sym, ◌∙◌}
 use Rattle.std.proofs.lemmas.Bool.{false≢true}
 use Rattle.omega_walk.specs.Walks.{marks_on}
 use Rattle.omega_walk.proofs.Passing.{occurs_more}

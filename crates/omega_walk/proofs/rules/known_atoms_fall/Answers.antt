@@ -1,5 +1,4 @@
 -- what is known of all edges is known of those of the walk
-use Rattle.std.proofs.Common.{ℕ}
 use Rattle.omega_walk.specs.Walks.{marks_on}
 use Rattle.omega_walk.proofs.Passing.{all_alike}
 use Rattle.omega_walk.proofs.Simplifying.{keeps_value}

@@ -1,5 +1,4 @@
 -- each edge of the walk is in the greater set
-use Rattle.std.proofs.Common.{ℕ}
 use Rattle.omega_walk.proofs.Walking.{on_edges, walk_in}
 use Rattle.omega_walk.proofs.rules.walks_are_kept.Goals as goal
 

@@ -1,5 +1,5 @@
 -- the first edge of the walk
-use Rattle.std.proofs.Common.{ℕ, ◌<◌, Bool, IsTrue, List, [], ◌∷◌, length, arith}
+use Rattle.std.proofs.Common.{ℕ, ◌<◌, IsTrue, List, [], ◌∷◌, length, arith}
 use Rattle.omega_walk.specs.Walks.{Edges, Graph, IsWalk}
 use Rattle.omega_walk.proofs.rules.walks_have_edges.Goals as goal
 

@@ -1,5 +1,5 @@
 -- the edges of the walk are among all
-use Rattle.std.proofs.Common.{ℕ, [], ◌∙◌}
+use Rattle.std.proofs.Common.{[], ◌∙◌}
 use Rattle.std.proofs.lemmas.Bool.{false≢true}
 use Rattle.omega_walk.specs.Walks.{marks_on}
 use Rattle.omega_walk.proofs.Passing.{occurs_more}
