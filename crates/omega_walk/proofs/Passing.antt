@@ -3,10 +3,10 @@ use Rattle.std.proofs.Common.{◌≡◌, ℕ, ◌<◌, Bool, true, false, not, �
 use Rattle.std.proofs.lemmas.Bool.{cases_Bool, false≢true, or_cases, or_left, or_right}
 use Rattle.omega_acc.specs.formula.Acceptance.{occurs}
 use Rattle.omega_walk.specs.Marks.{meets}
-use Rattle.omega_walk.specs.Walks.{Graph, marks_on}
+use Rattle.omega_walk.specs.Walks.{MarkedGraph, marks_on}
 use Rattle.omega_walk.proofs.Walking.{first_or_later, has_first, has_later}
 
-module _ (graph : Graph) (negated : Bool) (set : ℕ) where
+module _ (graph : MarkedGraph) (negated : Bool) (set : ℕ) where
   -- what an edge meets occurs
   pub met_on : (walk : List ℕ) (number : ℕ) → Contains walk number → meets negated set (graph number).marks ≡ true
       → occurs (marks_on graph walk) negated set ≡ true

@@ -2,14 +2,14 @@
 use Rattle.std.proofs.Common.{ℕ, ◌<◌, IsTrue, inl, inr, List, [], ◌∷◌, ◌++◌, length, All, Contains, refl, subst, arith}
 use Rattle.std.proofs.lemmas.List.Elements.{All-head, All-tail, Contains-append_right}
 use Rattle.omega_walk.specs.Rules.{IsConnected}
-use Rattle.omega_walk.specs.Walks.{Edges, Graph, IsWalk}
+use Rattle.omega_walk.specs.Walks.{EdgeSet, MarkedGraph, IsEdgeWalk}
 use Rattle.omega_walk.proofs.Walking.{first_or_later, has_first, has_later, joined}
 
-module _ (graph : Graph) (edges : Edges) (connected : IsConnected graph edges) where
+module _ (graph : MarkedGraph) (edges : EdgeSet) (connected : IsConnected graph edges) where
   -- a walk from an edge through others to the state that the last one leaves
   pub record Tour (number : ℕ) (numbers : List ℕ) (last : ℕ) : Type 0 where
     pub walk : List ℕ
-    pub leads : IsWalk graph edges (graph number).from walk (graph last).from
+    pub leads : IsEdgeWalk graph edges (graph number).from walk (graph last).from
     pub longer : 0 < length walk
     pub passes : (passed : ℕ) → Contains (number ∷ numbers) passed → Contains walk passed
 

@@ -1,22 +1,22 @@
 -- What the marks of a set of edges say of the atoms of a formula, on every closed walk in the set.
 use Rattle.std.specs.Prelude.{◌≡◌, ℕ, Bool, true, false, not, ◌&&◌, ◌||◌, ◌==◌, IsTrue, if◌then◌else◌, List, Contains, Option, None, Some}
 use Rattle.omega_acc.specs.formula.Acceptance.{AccTree, conjunction, constant, disjunction, fin, holds, inf, occurs}
-use Rattle.omega_walk.specs.Walks.{Edges, Graph}
+use Rattle.omega_walk.specs.Walks.{EdgeSet, MarkedGraph}
 
 -- whether marks hold a set, or with `!` lack it
 abbrev pub meets : Bool → ℕ → List ℕ → Bool
 meets negated set marks = if negated then not (holds set marks) else holds set marks
 
 -- a list of edges lists a set of edges whole
-abbrev pub Lists : Edges → List ℕ → Type 0
-Lists edges numbers = (number : ℕ) → IsTrue (edges number) → Contains numbers number
+abbrev pub ListsAll : EdgeSet → List ℕ → Type 0
+ListsAll edges numbers = (number : ℕ) → IsTrue (edges number) → Contains numbers number
 
 -- what is known of atoms: whether the edges of every closed walk meet them, or not known
 abbrev pub Known : Type 0
 Known = Bool → ℕ → Option Bool
 
 -- it is right of a set of edges: what is known to be met is met by each edge, and what is known not to be, by none
-abbrev pub IsKnown : Graph → Edges → Known → Type 0
+abbrev pub IsKnown : MarkedGraph → EdgeSet → Known → Type 0
 IsKnown graph edges known =
     (negated : Bool) (set : ℕ) (value : Bool) → known negated set ≡ Some value
     → (number : ℕ) → IsTrue (edges number) → meets negated set (graph number).marks ≡ value

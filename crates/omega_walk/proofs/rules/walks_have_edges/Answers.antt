@@ -1,9 +1,9 @@
 -- the first edge of the walk
 use Rattle.std.proofs.Common.{ℕ, ◌<◌, IsTrue, List, [], ◌∷◌, length, arith}
-use Rattle.omega_walk.specs.Walks.{Edges, Graph, IsWalk}
+use Rattle.omega_walk.specs.Walks.{EdgeSet, MarkedGraph, IsEdgeWalk}
 use Rattle.omega_walk.proofs.rules.walks_have_edges.Goals as goal
 
-first_edge : (graph : Graph) (edges : Edges) (from : ℕ) (walk : List ℕ) (to : ℕ) → 0 < length walk → IsWalk graph edges from walk to
+first_edge : (graph : MarkedGraph) (edges : EdgeSet) (from : ℕ) (walk : List ℕ) (to : ℕ) → 0 < length walk → IsEdgeWalk graph edges from walk to
     → (number : ℕ) × IsTrue (edges number)
 first_edge graph edges from [] to longer leads = absurd (omega arith)
 first_edge graph edges from (number ∷ walk) to longer leads = (number, leads.0)
