@@ -1,9 +1,9 @@
 -- What was read and settled before, with one byte more.
 use Rattle.std.proofs.Common.{[], ◌++◌, ◌∷◌, None, Some, sym, subst, ◌∙◌, arith, append-nil, length-append}
 use Rattle.omega_text.specs.hoa.Pieces.{IsSettled, SettlesFault, settled_lexemes}
-use Rattle.omega_text.specs.hoa.scanning.Reading.{IsKept}
+use Rattle.omega_text.specs.private.hoa.scanning.Reading.{IsKept}
 use Rattle.omega_text.proofs.hoa_texts.Pieces.{fault_stays, kept_settled, settled_as}
-use Rattle.omega_text.proofs.hoa.tokenizer.HoaTokenizer.step.Goals as goal
+use Rattle.omega_text.proofs.hoa.tokenizer.HoaTokenizerByteTokenizer.step.Goals as goal
 
 pub returns-in-Some-clause-reads : goal.returns-in-Some-clause-reads
 returns-in-Some-clause-reads c = λ seen lexemes read.

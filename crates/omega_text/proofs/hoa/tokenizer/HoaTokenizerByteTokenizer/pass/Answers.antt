@@ -1,8 +1,8 @@
 -- What was read and settled before, with the bytes that were passed.
 use Rattle.std.proofs.Common.{◌+◌, ◌-◌, refl, subst}
-use Rattle.omega_text.specs.hoa.scanning.Reading.{IsKept}
+use Rattle.omega_text.specs.private.hoa.scanning.Reading.{IsKept}
 use Rattle.omega_text.proofs.hoa_texts.Passing.{fault_stops, has_passed, has_passed_none, way_read}
-use Rattle.omega_text.proofs.hoa.tokenizer.HoaTokenizer.pass.Goals as goal
+use Rattle.omega_text.proofs.hoa.tokenizer.HoaTokenizerByteTokenizer.pass.Goals as goal
 
 pub pass_bytes-after-requires-clause-way : goal.pass_bytes-after-requires-clause-way
 pass_bytes-after-requires-clause-way c = way_read c.args.self.now _ c.in-None.is c.requires.room

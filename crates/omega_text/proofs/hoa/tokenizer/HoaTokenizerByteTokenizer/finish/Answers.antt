@@ -1,9 +1,9 @@
 -- What a fault leaves.
 use Rattle.std.proofs.Common.{None, Some, sym, subst, append-nil}
 use Rattle.omega_text.specs.hoa.Pieces.{FaultsBehind, IsCutUpToFault}
-use Rattle.omega_text.specs.hoa.scanning.Reading.{IsKept}
+use Rattle.omega_text.specs.private.hoa.scanning.Reading.{IsKept}
 use Rattle.omega_text.proofs.hoa_texts.Pieces.{ends_in_settled_fault, settled_as}
-use Rattle.omega_text.proofs.hoa.tokenizer.HoaTokenizer.finish.Goals as goal
+use Rattle.omega_text.proofs.hoa.tokenizer.HoaTokenizerByteTokenizer.finish.Goals as goal
 
 pub returns-in-Some-clause-finishes : goal.returns-in-Some-clause-finishes
 returns-in-Some-clause-finishes c = λ seen lexemes read.

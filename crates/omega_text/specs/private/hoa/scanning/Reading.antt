@@ -10,8 +10,8 @@ use Rattle.omega_text.specs.declared.hoa.tokenizer.HoaTokenizer.{HoaTokenizer}
 use Rattle.omega_text.specs.declared.refusal.text.TextFault.{TextFault}
 use Rattle.omega_text.specs.hoa.Cut.{IsGap}
 use Rattle.omega_text.specs.hoa.Format.{hoa_format}
-use Rattle.omega_text.specs.hoa.scanning.Modes.{run}
-use Rattle.omega_text.specs.hoa.Pieces.{SettlesFault, NoneMarks}
+use Rattle.omega_text.specs.private.hoa.scanning.Modes.{run}
+use Rattle.omega_text.specs.hoa.Pieces.{SettlesFault}
 use Rattle.omega_text.specs.Limits.{most_number}
 use Rattle.omega_text.specs.declared.hoa.kind.HoaKind.TheVariants.{Int}
 use Rattle.omega_text.specs.hoa.Forms.{Spells}
@@ -60,20 +60,6 @@ pub record HasRead (seen : List ℕ) (lexemes : List (Lexeme HoaKind)) (tokenize
   pub place : tokenizer.place ≡ length seen
   pub kept : IsKept tokenizer.fault seen lexemes tokenizer.pending
 
--- a tokenizer has read fewer bytes than places can count
-abbrev pub IsReading : HoaTokenizer → Type 0
-IsReading tokenizer = (seen : List ℕ) × (lexemes : List (Lexeme HoaKind)) × HasRead seen lexemes tokenizer × (length seen < 2 ^ 64 - 1)
-
 -- a unit is being read at a place, and places can be counted further
 abbrev pub IsOnWay : Pending → ℕ → Type 0
 IsOnWay pending place = (seen : List ℕ) × (lexemes : List (Lexeme HoaKind)) × (place ≡ length seen) × IsAt Any seen lexemes pending × (place < 2 ^ 64 - 1)
-
--- bytes more were read, and the tokens that they settled are no marks
-pub record HasPassed (seen : List ℕ) (lexemes : List (Lexeme HoaKind)) (bytes : List ℕ) (tokenizer : HoaTokenizer) : Type 0 where
-  pub passed : List (Lexeme HoaKind)
-  pub read : HasRead (seen ++ bytes) (lexemes ++ passed) tokenizer
-  pub plain : NoneMarks passed
-
--- a tokenizer has read some bytes, and places can be counted further by so many
-abbrev pub HasRoom : ℕ → HoaTokenizer → Type 0
-HasRoom count tokenizer = (seen : List ℕ) × (lexemes : List (Lexeme HoaKind)) × HasRead seen lexemes tokenizer × (length seen + count < 2 ^ 64)
