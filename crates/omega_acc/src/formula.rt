@@ -13,6 +13,7 @@ pub(crate) mod raw;
 pub(crate) mod reading;
 pub(crate) mod recognition;
 pub(crate) mod shape;
+pub(crate) mod shapes;
 pub(crate) mod unfinished;
 
 use crate::depth::deeper;

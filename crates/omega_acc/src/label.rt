@@ -14,6 +14,7 @@ pub(crate) mod raw;
 pub(crate) mod reading;
 pub(crate) mod satisfying;
 pub(crate) mod shape;
+pub(crate) mod shapes;
 pub(crate) mod unfinished;
 pub(crate) mod words;
 

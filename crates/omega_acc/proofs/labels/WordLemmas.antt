@@ -29,7 +29,7 @@ words_behind-postfix words (disjunction left right) stack rest =
 pub words_behind-label : (words : ℕ → ℕ) (tree : LabelTree) → words_behind words [] (postfix tree) ≡ word_of words tree ∷ []
 words_behind-label words tree = ap (words_behind words []) (sym (append-nil (postfix tree))) ∙ words_behind-postfix words tree [] []
 
-depth-positive : (tree : LabelTree) → 1 ≤ label_depth tree
+pub depth-positive : (tree : LabelTree) → 1 ≤ label_depth tree
 depth-positive (constant value) = omega arith
 depth-positive (proposition number) = omega arith
 depth-positive (negation part) = omega arith
