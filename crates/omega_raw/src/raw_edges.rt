@@ -1,4 +1,4 @@
-ghost use Rattle.std.specs.Prelude.{◌≡◌, ◌<◌, [], ◌∷◌, ◌++◌, Some, IfOk, IfSome, OnErr, OnOk, length, map, slice_get};
+ghost use Rattle.std.specs.Prelude.{◌≡◌, ◌<◌, [], ◌∷◌, ◌++◌, IfOk, IfSome, OnErr, OnOk, length, map, slice_index_or};
 ghost use Rattle.omega_raw.specs.private.layout.Edges.{edges_in, lengthened};
 
 use crate::raw_edge::RawEdge;
@@ -105,7 +105,7 @@ impl RawEdges {
     /// The edge at a place, from 0 on.
     pub fn edge(&self, at: usize) -> RawEdgeRef<'_>
         requires { at < length self.now }
-        ensures { Some result ≡ slice_get self.now at }
+        ensures { result ≡ slice_index_or self.now at result }
     {
         match &self.held {
             Held::Short(edges) => short_edge(&edges[at]),
