@@ -1,4 +1,4 @@
-ghost use Rattle.std.specs.Prelude.{◌≡◌, ◌<◌, length, map, slice_index_or};
+ghost use Rattle.std.specs.Prelude.{◌≡◌, ◌<◌, Some, length, map, slice_get};
 ghost use Rattle.omega_automaton.specs.private.layout.Edges.{expanded};
 
 use crate::edge::Edge;
@@ -72,7 +72,7 @@ impl Edges {
     /// The edge at a place, from 0 on.
     pub fn edge(&self, at: usize) -> EdgeRef<'_>
         requires { at < length self.now }
-        ensures { result ≡ slice_index_or self.now at result }
+        ensures { Some result ≡ slice_get self.now at }
     {
         match &self.held {
             Held::Short(edges) => short_edge(&edges.as_slice()[at]),

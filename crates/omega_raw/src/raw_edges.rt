@@ -1,4 +1,4 @@
-ghost use Rattle.std.specs.Prelude.{◌≡◌, ◌<◌, [], ◌∷◌, ◌++◌, IfOk, IfSome, OnErr, OnOk, length, map, slice_index_or};
+ghost use Rattle.std.specs.Prelude.{◌≡◌, ◌<◌, [], ◌∷◌, ◌++◌, Some, IfOk, IfSome, OnErr, OnOk, length, map, slice_get};
 ghost use Rattle.omega_raw.specs.private.layout.Edges.{edges_in, lengthened};
 
 use crate::raw_edge::RawEdge;
@@ -62,7 +62,8 @@ impl RawEdges {
         }
     }
 
-    /// Adds an edge at the end. The first that is not short makes all before it lie as they are.
+    /// Adds an edge at the end. The first that is not short makes all before it lie as they are. An error where a
+    /// request for memory is refused: the edges are as before then.
     pub fn push(&mut self, alloc: Global, edge: RawEdge) -> Result<(), AllocError>
         ensures ok { OnOk result (self.new ≡ self.old ++ edge ∷ []) }
         ensures err { OnErr result (self.new ≡ self.old) }
@@ -104,7 +105,7 @@ impl RawEdges {
     /// The edge at a place, from 0 on.
     pub fn edge(&self, at: usize) -> RawEdgeRef<'_>
         requires { at < length self.now }
-        ensures { result ≡ slice_index_or self.now at result }
+        ensures { Some result ≡ slice_get self.now at }
     {
         match &self.held {
             Held::Short(edges) => short_edge(&edges[at]),
