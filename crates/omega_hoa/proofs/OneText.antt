@@ -12,7 +12,7 @@ use Rattle.omega_text.specs.declared.refusal.Refusal.TheVariants.{Automaton as A
 use Rattle.omega_text.specs.declared.refusal.automaton.AutomatonFault.{AutomatonFault}
 use Rattle.omega_text.specs.declared.refusal.automaton.AutomatonFault.TheVariants.{AcceptanceAtom, Alias, Expansion, ImplicitCount, MissingAcceptance, MixedLabels, Proposition, RepeatedHeader, SetRange, StateRange, StateTwice, TooDeep, UnknownHeader, Version}
 use Rattle.omega_text.specs.declared.refusal.text.TextFault.{TextFault}
-use Rattle.omega_text.specs.declared.refusal.text.TextFault.TheVariants.{Lex, Number, Syntax, TooLong}
+use Rattle.omega_text.specs.declared.refusal.text.TextFault.TheVariants.{Lex, Syntax, TooLong}
 use Rattle.omega_automaton.specs.Automaton.{Description}
 use Rattle.omega_hoa.specs.Alone.{AreRefused, HasNoSegmentAt, IsAutomatonRefusal, IsAutomatonText, IsSegmentRefused}
 use Rattle.omega_hoa.specs.Laws.{AreAlike, AreOfSegment}

@@ -1,5 +1,5 @@
 -- What the tokens of a segment are is one.
-use Rattle.std.proofs.Common.{◌≡◌, ◌⊎◌, Some, None, List, [], refl, sym, ap, subst, ◌∙◌, inl, inr}
+use Rattle.std.proofs.Common.{◌≡◌, ◌⊎◌, Some, None, List, [], sym, ap, subst, ◌∙◌, inl, inr}
 use Rattle.omega_text.specs.Lexeme.{Lexeme}
 use Rattle.omega_text.specs.declared.hoa.kind.HoaKind.{HoaKind}
 use Rattle.omega_text.specs.declared.hoa.kind.HoaKind.TheVariants.{End}

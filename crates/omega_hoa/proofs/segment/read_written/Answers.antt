@@ -1,5 +1,5 @@
 -- The tokens that are read are those of the bytes, and a fault of syntax stands at one of them.
-use Rattle.std.proofs.Common.{◌≡◌, ◌+◌, map, subst, sym, arith}
+use Rattle.std.proofs.Common.{◌≡◌, ◌+◌, map, subst, arith}
 use Rattle.omega_text.specs.declared.hoa.kind.HoaKind.TheVariants.{End}
 use Rattle.omega_hoa.specs.Segment.{IsStartOf}
 use Rattle.omega_hoa.specs.private.Places.{counted_from}

@@ -1,5 +1,5 @@
 -- The tokens that are taken are those of the bytes.
-use Rattle.std.proofs.Common.{◌≡◌, ◌∙◌, [], sym, subst}
+use Rattle.std.proofs.Common.{◌≡◌, ◌∙◌, sym, subst}
 use Rattle.omega_text.specs.Lexeme.{lexeme_of}
 use Rattle.omega_hoa.specs.Segment.{IsStartOf}
 use Rattle.omega_hoa.proofs.Places.{all_passed, next_start, one_passed}
