@@ -22,8 +22,8 @@ use Rattle.omega_hoa.specs.Segment.{IsNoRaw, IsRawOf, IsSyntaxWithin}
 use Rattle.omega_hoa.specs.Stream.{IsSegment, IsStreamFault, IsStreamRefusal, IsStreamText}
 use Rattle.omega_hoa.specs.declared.item.Item.{Item}
 
--- two refusals 3 of the tokens of one whole segment, which are those of no automaton: each stands at the start of one of
--- the tokens, and at which is shown by tests alone
+-- two refusals 3 of the tokens of one whole segment, which are those of no automaton: each stands at the start of one
+-- of the tokens, and at which is shown by tests alone
 pub record AreOfSegment (segment : List (Lexeme HoaKind)) (one other : Refusal) : Type 0 where
   pub whole : IsSegment End segment
   pub unread : IsNoRaw segment
