@@ -48,6 +48,18 @@ impl Groups {
         Ok(())
     }
 
+    /// Adds a group behind the others unless it is empty.
+    pub(crate) fn add(&mut self, group: &[u32]) -> Result<(), AllocError>
+        ensures some { OnOk result (0 < length group.now → self.new ≡ self.old ++ group.now ∷ []) }
+        ensures none { OnOk result (length group.now ≡ 0 → self.new ≡ self.old) }
+    {
+        if group.is_empty() {
+            return Ok(());
+        }
+        self.push(group)?;
+        Ok(())
+    }
+
     /// How many groups there are.
     pub fn len(&self) -> usize
         ensures { result ≡ length self.now }

@@ -2,11 +2,21 @@
 #![tactic(auto)]
 
 mod edge;
+mod ends;
 mod graph;
 mod grouping;
 mod groups;
+mod judging;
+mod kept;
+mod links;
+mod met;
+mod numbering;
+mod numbers;
+mod plain;
 mod reaching;
 mod room;
+mod searching;
+mod suggesting;
 mod walking;
 
 pub use edge::Edge;

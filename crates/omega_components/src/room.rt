@@ -1,7 +1,9 @@
-ghost use Rattle.std.specs.Prelude.{◌≡◌, IfOk, IsOkUnless};
+ghost use Rattle.std.specs.Prelude.{◌≡◌, ◌<◌, All, IfOk, IsOkUnless};
+ghost use Rattle.omega_components.specs.private.Numbering.{IsNumbering};
 
+use crate::numbering::{Numbering, number_all};
 use omega_text::Refusal;
-use std::alloc::Global;
+use std::alloc::{AllocError, Global};
 use std::marker::Model;
 
 /// Room for searches in a graph of so many states, made once for many calls. Contracts see how many states it is for,
@@ -30,10 +32,12 @@ impl Room {
         Ok(Room { numbers })
     }
 
-    /// For how many states it is.
-    pub fn len(&self) -> usize
-        ensures { result ≡ self.now }
+    /// The numbers of the states of a list, in the order in which they first come.
+    pub(crate) fn number(&mut self, alloc: Global, listed: &[u32]) -> Result<Numbering, AllocError>
+        requires { All (λ state. state < self.old) listed.now }
+        ensures room { self.new ≡ self.old }
+        ensures numbering { IfOk result (λ numbering. IsNumbering listed.now numbering.numbers.items numbering.states.items) }
     {
-        self.numbers.len()
+        number_all(alloc, &mut self.numbers, listed)
     }
 }

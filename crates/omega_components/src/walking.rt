@@ -4,6 +4,7 @@ ghost use Rattle.omega_components.specs.Graph.{AreEdges, AreStates, listed, mark
 ghost use Rattle.omega_components.specs.Reaching.{IsReached, IsWalkFrom};
 
 use crate::graph::Graph;
+use crate::reaching::search_edges;
 use omega_text::Refusal;
 use std::alloc::Global;
 
@@ -24,6 +25,12 @@ pub fn path(
     ensures none { IfOk result (λ found. IfNone found ((marks : ℕ → List ℕ) → ¬ IsReached (marked graph.now marks) (listed edges.now) sources.now target)) }
     ensures memory { IsOkUnless result Refusal.Memory }
 {
-    let _ = (alloc, graph.len(), edges.len(), sources.len(), target);
-    Err(Refusal::Memory)
+    let search = search_edges(alloc, graph, edges, sources)?;
+    match search.index_of(target) {
+        None => Ok(None),
+        Some(index) => {
+            let walk = search.walk_to(alloc, edges, index)?;
+            Ok(Some(walk))
+        }
+    }
 }
