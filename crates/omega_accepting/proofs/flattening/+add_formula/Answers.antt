@@ -1,7 +1,7 @@
 -- an operator on the formulas of its parts
 use Rattle.std.proofs.Common.{◌≡◌, rules, sym, ◌∙◌}
 use Rattle.omega_acc.specs.formula.Acceptance.{conjunction, disjunction}
-use Rattle.omega_accepting.specs.Shape.{acc_tree_of_shape}
+use Rattle.omega_acc.specs.formula.Shape.{acc_tree_of_shape}
 use Rattle.omega_accepting.specs.private.Formulas.{tree_at}
 use Rattle.omega_accepting.proofs.Placing.{IfOk-after, made_of}
 use Rattle.omega_accepting.proofs.flattening.+add_formula.Goals as goal
