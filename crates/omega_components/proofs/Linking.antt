@@ -1,5 +1,5 @@
 -- The last index below a bound at which a list has a state.
-use Rattle.std.proofs.Common.{◌≡◌, ℕ, zero, suc, ◌+◌, ◌<◌, ◌≤◌, ◌⊎◌, inl, inr, Bool, true, false, cond, eqb, List, length, get_or, refl, sym, ◌∙◌, ap, subst, arith, add-one, eq-eqb}
+use Rattle.std.proofs.Common.{◌≡◌, ℕ, zero, suc, ◌+◌, ◌<◌, ◌≤◌, ◌⊎◌, inl, inr, true, false, cond, eqb, List, get_or, refl, sym, ◌∙◌, ap, subst, arith, add-one, eq-eqb}
 use Rattle.std.proofs.lemmas.Bool.{cases_eq, cases_Bool, cond-true, cond-false, eqb-true, eqb-false, ne_eqb}
 use Rattle.omega_components.specs.private.Links.{last_before}
 

@@ -1,5 +1,5 @@
 -- Lists of the indices at which a list has a state, each linked to the one before it.
-use Rattle.std.specs.Prelude.{◌≡◌, ℕ, zero, suc, ◌<◌, ◌==◌, if◌then◌else◌, List, length, All, slice_index}
+use Rattle.std.specs.Prelude.{◌≡◌, ℕ, zero, suc, ◌<◌, ◌==◌, if◌then◌else◌, List, length, slice_index}
 
 -- one more than the last index below n at which a list has a state, 0 where there is none
 unfoldable pub last_before : List ℕ → ℕ → ℕ → ℕ

@@ -1,8 +1,5 @@
 -- `number_all`: numbers the states of a list.
-use Rattle.std.proofs.Common.{◌≡◌, ◌<◌, ℕ, List, All, length, get_or, map, take, refl, sym, ◌∙◌, ap, subst, arith}
-use Rattle.std.proofs.lemmas.List.{take_all}
-use Rattle.std.proofs.lemmas.List.Elements.{All-nil}
-use Rattle.omega_components.specs.private.Numbering.{IsKnown}
+use Rattle.std.proofs.Common.{◌<◌, length, ◌∙◌, arith}
 use Rattle.omega_components.proofs.Numbered.{numbered_more}
 use Rattle.omega_components.proofs.numbering.number_all.Goals as goal
 

@@ -1,5 +1,5 @@
 -- `reached`: which states are reached from some states by edges of a list.
-use Rattle.std.proofs.Common.{◌≡◌, ℕ, List, Bool, sym, subst, ap, ◌∙◌, IsTrue}
+use Rattle.std.proofs.Common.{List, Bool, sym, subst, ◌∙◌, IsTrue}
 use Rattle.omega_components.specs.Graph.{marked}
 use Rattle.omega_components.specs.private.Searching.{mark_at}
 use Rattle.omega_components.proofs.Walks.{marked_reached, reached_marked}

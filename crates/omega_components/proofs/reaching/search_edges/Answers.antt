@@ -1,5 +1,5 @@
 -- `search_edges`: meets the states that are reached from some states by edges of a list.
-use Rattle.std.proofs.Common.{◌≡◌, ◌<◌, ℕ, List, All, length, sym, subst, ap, ◌∙◌, arith}
+use Rattle.std.proofs.Common.{ℕ, length, sym, subst, ap, ◌∙◌}
 use Rattle.std.proofs.lemmas.List.{length-map}
 use Rattle.omega_components.specs.Graph.{edge_at}
 use Rattle.omega_components.specs.private.Searching.{IsSearched}

@@ -1,5 +1,5 @@
 -- `path`: a walk of edges of a list from one of some states to a state.
-use Rattle.std.proofs.Common.{◌≡◌, ◌<◌, ℕ, List, [], length, sym, subst, ap, arith}
+use Rattle.std.proofs.Common.{ℕ, [], length, subst}
 use Rattle.omega_components.specs.Graph.{listed, marked}
 use Rattle.omega_components.specs.Reaching.{IsWalkFrom}
 use Rattle.omega_components.proofs.Searched.{leads_back}

@@ -1,10 +1,10 @@
 -- `Search::follow`: meets the states to which edges lead from one that was met.
-use Rattle.std.proofs.Common.{◌≡◌, ◌+◌, ◌-◌, ◌<◌, ◌≤◌, length, get_or, refl, sym, subst, arith, rules}
+use Rattle.std.proofs.Common.{◌≡◌, ◌-◌, ◌<◌, ◌≤◌, length, get_or, refl, sym, subst, arith, rules}
 use Rattle.omega_components.specs.declared.met.Met.{Met}
 use Rattle.omega_components.specs.private.Links.{last_before}
-use Rattle.omega_components.specs.private.Searching.{Trace, meeting, met_at}
+use Rattle.omega_components.specs.private.Searching.{Trace, meeting}
 use Rattle.omega_components.proofs.Linking.{last_below}
-use Rattle.omega_components.proofs.Following.{IsFollowing, following_begins, following_ends, following_more, left_within}
+use Rattle.omega_components.proofs.Following.{IsFollowing, following_ends, following_more, left_within}
 use Rattle.omega_components.proofs.searching.Search.follow.Goals as goal
 
 pub offset_bounds-enters-edge : goal.offset_bounds-enters-edge

@@ -1,7 +1,4 @@
 -- What holds in the loop of `Search::follow`: the search came to what the edges from the index on enter.
-use Rattle.std.proofs.Common.{◌≡◌, ℕ, ◌<◌, ◌≤◌, IsTrue, length, get_or}
-use Rattle.omega_components.specs.private.Links.{last_before}
-use Rattle.omega_components.specs.private.Searching.{Grows, IsStep, mark_at, met_at}
 use Rattle.omega_components.proofs.Following.{IsFollowing}
 use Rattle.omega_components.proofs.searching.Search.follow.Given as goal
 
