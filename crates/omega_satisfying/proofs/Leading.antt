@@ -1,12 +1,12 @@
 -- Steps of a search: what one more of them changes, and what stands at a place.
-use Rattle.std.proofs.Common.{◌≡◌, ◌≢◌, ℕ, ◌<◌, ◌≤◌, Bool, true, false, ◌&&◌, ◌||◌, cond, eqb, List, [], ◌∷◌, ◌++◌, length, get_or, reverse, inl, inr, ap, refl, subst, sym, ◌∙◌, arith, eq-eqb, length-append}
+use Rattle.std.proofs.Common.{◌≡◌, ◌≢◌, ℕ, ◌<◌, ◌≤◌, Bool, false, ◌&&◌, ◌||◌, cond, List, [], ◌∷◌, ◌++◌, length, get_or, reverse, inl, inr, ap, refl, subst, sym, ◌∙◌, arith, eq-eqb, length-append}
 use Rattle.std.proofs.lemmas.Bool.{ne_eqb}
 use Rattle.std.proofs.lemmas.Bool.Decides.{eqb_tells}
 use Rattle.std.proofs.lemmas.List.{get_or_append_left, length-reverse, reverse-append, reverse-reverse}
 use Rattle.std.proofs.Math.Seq.{get_or-append_seam}
 use Rattle.omega_satisfying.specs.declared.steps.Step.{Step}
 use Rattle.omega_satisfying.specs.declared.steps.Step.TheVariants.{Done, Either, Stuck, Try}
-use Rattle.omega_satisfying.specs.private.Leading.{ArePlanned, AreSteps, IsKept, IsLiteral, IsStep, is_as, leads, leads_among, leads_by}
+use Rattle.omega_satisfying.specs.private.Leading.{ArePlanned, AreSteps, IsKept, IsStep, is_as, leads, leads_among, leads_by}
 
 -- a step leads where the same is known of the places that it names
 leads_by-same : (step : Step) (count : ℕ) (leading : (ℕ → Bool) → ℕ → Bool) (held one other : ℕ → Bool)

@@ -1,5 +1,5 @@
 -- How labels become steps: the parts of a label, and the ways on from them.
-use Rattle.std.proofs.Common.{◌≡◌, ℕ, ◌<◌, Bool, true, false, not, ◌&&◌, ◌||◌, eqb, List, length, ap, refl, subst, sym, ◌∙◌, arith}
+use Rattle.std.proofs.Common.{◌≡◌, ℕ, Bool, true, false, not, ◌&&◌, ◌||◌, List, ap, refl, sym, ◌∙◌, arith}
 use Rattle.std.proofs.lemmas.Bool.Decides.{Decides-eqb}
 use Rattle.omega_acc.specs.label.Label.{LabelTree, truth}
 use Rattle.omega_satisfying.specs.declared.steps.Step.{Step}

@@ -1,5 +1,5 @@
 -- The branches that wait do so under one more assumption too.
-use Rattle.std.proofs.Common.{◌≡◌, ◌&&◌, ◌||◌, [], ◌∷◌, ◌++◌, ℕ, Bool, nat_eq, List, reverse, ap, subst, sym, ◌∙◌}
+use Rattle.std.proofs.Common.{◌&&◌, ◌||◌, [], ◌∷◌, ℕ, Bool, nat_eq, List, reverse, ap, subst, sym, ◌∙◌}
 use Rattle.indexmap.proofs.CallerLemmas.{insert_entry-new}
 use Rattle.omega_satisfying.specs.private.Waiting.{IsWaiting, fits, waits_for}
 use Rattle.omega_satisfying.proofs.Branching.{IsWaiting-more, assumed-more}
