@@ -1,0 +1,14 @@
+-- Lemmas of the crate's proofs.
+mod JoinedLists
+mod Linking
+mod Linked
+mod Growing
+mod Following
+mod Searched
+mod Walks
+mod Apart
+mod Classes
+mod Numbered
+mod Judged
+mod Keeping
+mod Rooted

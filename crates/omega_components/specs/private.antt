@@ -1,0 +1,8 @@
+-- What only private contracts cite.
+pub mod Lists
+pub mod Ends
+pub mod Links
+pub mod Searching
+pub mod Numbering
+pub mod Classes
+pub mod Judging

@@ -1,0 +1,67 @@
+ghost use Rattle.std.specs.Prelude.{◌≡◌, ◌<◌, length, slice_index, All, IfOk};
+ghost use Rattle.omega_components.specs.private.Links.{last_before};
+
+use std::alloc::{AllocError, Global};
+use std::marker::Model;
+
+/// For each state below a count the indices at which a list has it, linked from the last to the first.
+#[derive(Drop)]
+pub(crate) struct Links<'a> {
+    states: &'a [u32],
+    // By state one more than its last index, and by index one more than the one before it of the same state: 0 where
+    // there is none.
+    last: Vec<usize>,
+    before: Vec<usize>,
+}
+
+impl<'a> Model for Links<'a> {
+    ghost use Rattle.std.specs.Prelude.{length};
+    ghost use Rattle.omega_components.specs.private.Links.{Linked, AreLinks};
+
+    ghost Value = { Linked };
+
+    ghost view = { λ l. record { count = length l.last.items; states = l.states.now } };
+
+    ghost invariant = { λ l. AreLinks l.states.now (length l.last.items) l.last.items l.before.items };
+}
+
+impl<'a> Links<'a> {
+    /// The links of a list. Linear in its states and the count.
+    pub(crate) fn new(
+        alloc: Global,
+        count: usize,
+        states: &'a [u32],
+    ) -> Result<Links<'a>, AllocError>
+        requires { All (λ state. state < count) states.now }
+        ensures count { IfOk result (λ links. links.count ≡ count) }
+        ensures states { IfOk result (λ links. links.states ≡ states.now) }
+    {
+        let mut last = vec![in alloc; 0usize; count]?;
+        let mut before = Vec::with_capacity(alloc, states.len())?;
+        for (index, state) in states.iter().enumerate() {
+            before.push(last[*state as usize])?;
+            last[*state as usize] = index + 1;
+        }
+        Ok(Links {
+            states,
+            last,
+            before,
+        })
+    }
+
+    /// One more than the last index of a state, 0 where there is none.
+    pub(crate) fn last(&self, state: usize) -> usize
+        requires { state < self.now.count }
+        ensures { result ≡ last_before self.now.states state (length self.now.states) }
+    {
+        self.last[state]
+    }
+
+    /// One more than the index before this one of the same state, 0 where there is none.
+    pub(crate) fn before(&self, index: usize) -> usize
+        requires { index < length self.now.states }
+        ensures { result ≡ last_before self.now.states (slice_index self.now.states index) index }
+    {
+        self.before[index]
+    }
+}

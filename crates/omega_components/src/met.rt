@@ -1,0 +1,9 @@
+/// A state that a search met.
+#[derive(Clone, Copy)]
+pub(crate) struct Met {
+    pub state: u32,
+    /// One more than the index of the edge along which it was met, 0 where the search began.
+    pub edge: usize,
+    /// The index of the state from which it was met, in the order in which they were.
+    pub origin: usize,
+}

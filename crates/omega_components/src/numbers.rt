@@ -1,0 +1,46 @@
+use std::alloc::{AllocError, Global};
+
+/// What stands where there is no number.
+pub(crate) const NONE: u32 = u32::MAX;
+
+/// Numbers by index. What is past the end reads as none and is not written.
+#[derive(Drop)]
+pub(crate) struct Numbers {
+    items: Vec<u32>,
+}
+
+impl Numbers {
+    /// So many times the same number.
+    pub(crate) fn filled(alloc: Global, count: usize, number: u32) -> Result<Numbers, AllocError> {
+        let items = vec![in alloc; number; count]?;
+        Ok(Numbers { items })
+    }
+
+    /// The number at an index.
+    #[inline(always)]
+    pub(crate) fn at(&self, index: u32) -> u32 {
+        match self.items.get(index as usize) {
+            Some(number) => *number,
+            None => NONE,
+        }
+    }
+
+    /// Writes a number at an index.
+    #[inline(always)]
+    pub(crate) fn put(&mut self, index: u32, number: u32) {
+        if (index as usize) < self.items.len() {
+            self.items[index as usize] = number;
+        }
+    }
+
+    /// The numbers as they are kept.
+    pub(crate) fn into_items(self) -> Vec<u32> {
+        let Numbers { items } = self;
+        items
+    }
+}
+
+/// A length as a number, cut off where it is none.
+pub(crate) fn number_of(length: usize) -> u32 {
+    length.min(NONE as usize) as u32
+}

@@ -1,0 +1,48 @@
+//! Which states some edges reach.
+ghost use Rattle.std.specs.Prelude.{◌≡◌, ◌↔◌, ℕ, List, IsTrue, false, slice_index_or, vec_len, IfOk, IsOkUnless};
+ghost use Rattle.omega_components.specs.Graph.{AreEdges, AreStates, listed, marked};
+ghost use Rattle.omega_components.specs.Reaching.{IsReached};
+ghost use Rattle.omega_components.specs.private.Searching.{IsSearchOf};
+
+use crate::ends::{enters_of, leaves_of};
+use crate::graph::Graph;
+use crate::searching::{Search, search_from};
+use omega_text::Refusal;
+use std::alloc::{AllocError, Global};
+
+/// Which states are reached from some states by edges of a list: for each state, whether it is. A source reaches
+/// itself. `Memory` where a request for memory is refused. Linear in the graph's states, the list's edges and the
+/// sources.
+pub fn reached(
+    alloc: Global,
+    graph: &Graph,
+    edges: &[u32],
+    sources: &[u32],
+) -> Result<Vec<bool>, Refusal>
+    requires edges { AreEdges graph.now edges.now }
+    requires sources { AreStates graph.now sources.now }
+    ensures count { IfOk result (λ reached. vec_len reached ≡ graph.now.states) }
+    ensures reached { IfOk result (λ reached. (marks : ℕ → List ℕ) (state : ℕ) → IsTrue (slice_index_or reached.items state false) ↔ IsReached (marked graph.now marks) (listed edges.now) sources.now state) }
+    ensures memory { IsOkUnless result Refusal.Memory }
+{
+    let search = search_edges(alloc, graph, edges, sources)?;
+    Ok(search.into_marks())
+}
+
+/// Meets the states that are reached from some states by edges of a list.
+pub(crate) fn search_edges(
+    alloc: Global,
+    graph: &Graph,
+    edges: &[u32],
+    sources: &[u32],
+) -> Result<Search, AllocError>
+    requires edges { AreEdges graph.now edges.now }
+    requires sources { AreStates graph.now sources.now }
+    ensures { IfOk result (IsSearchOf graph.now edges.now sources.now) }
+{
+    let leaves = leaves_of(alloc, graph, edges)?;
+    let enters = enters_of(alloc, graph, edges)?;
+    let count = graph.states() as usize;
+    let search = search_from(alloc, count, leaves.as_slice(), enters.as_slice(), sources)?;
+    Ok(search)
+}

@@ -1,0 +1,173 @@
+//! A search in breadth: each state that is reached is met on a shortest walk.
+ghost use Rattle.std.specs.Prelude.{◌≡◌, ◌+◌, ◌<◌, ℕ, [], List, false, IsTrue, length, replicate, vec_len, All, Contains, IfOk, IfNone, IfSome, OnOk};
+ghost use Rattle.omega_walk.specs.Walks.{MarkedGraph};
+ghost use Rattle.omega_components.specs.Graph.{listed};
+ghost use Rattle.omega_components.specs.Reaching.{IsWalkFrom};
+ghost use Rattle.omega_components.specs.private.Ends.{AreEnds};
+ghost use Rattle.omega_components.specs.private.Searching.{AreFollowed, Grows, IsMet, IsSearched, IsStart, IsStep, LeadBack, mark_at, meeting, met_at};
+
+use crate::links::Links;
+use crate::met::Met;
+use std::alloc::{AllocError, Global};
+use std::marker::Model;
+
+/// The states that a search met, in its order.
+#[derive(Drop)]
+pub(crate) struct Search {
+    // By state whether it was met.
+    marks: Vec<bool>,
+    met: Vec<Met>,
+}
+
+impl Model for Search {
+    ghost use Rattle.omega_components.specs.private.Searching.{Trace};
+
+    ghost Value = { Trace };
+
+    ghost view = { λ s. record { marks = s.marks.items; met = s.met.items } };
+}
+
+impl Search {
+    /// A search among so many states that met none.
+    fn new(alloc: Global, count: usize) -> Result<Search, AllocError>
+        ensures marks { IfOk result (λ search. search.marks ≡ replicate count false) }
+        ensures met { IfOk result (λ search. search.met ≡ []) }
+    {
+        let marks = vec![in alloc; false; count]?;
+        Ok(Search {
+            marks,
+            met: Vec::new(alloc),
+        })
+    }
+
+    /// Comes to a state, and meets it if it was not met.
+    #[tactic(auto, unfolding(crate::specs::private::Searching::meeting))]
+    fn meet(&mut self, met: Met) -> Result<(), AllocError>
+        requires { met.state < length self.old.marks }
+        ensures { OnOk result (self.new ≡ meeting self.old met) }
+    {
+        let index = met.state as usize;
+        if !self.marks[index] {
+            self.marks[index] = true;
+            self.met.push(met)?;
+        }
+        Ok(())
+    }
+
+    /// Meets the states where the search begins.
+    fn begin(&mut self, sources: &[u32]) -> Result<(), AllocError>
+        requires { All (λ source. source < length self.old.marks) sources.now }
+        ensures grows { OnOk result (Grows (IsStart sources.now) self.old self.new) }
+        ensures met { OnOk result ((v : ℕ) → Contains sources.now v → IsTrue (mark_at self.new.marks v)) }
+    {
+        for source in sources {
+            self.meet(Met {
+                state: *source,
+                edge: 0,
+                origin: 0,
+            })?;
+        }
+        Ok(())
+    }
+
+    /// Meets the states to which edges lead from one that was met. The links are those of the states that the edges
+    /// leave.
+    fn follow(&mut self, links: &Links<'_>, enters: &[u32], origin: usize) -> Result<(), AllocError>
+        requires origin { origin < length self.old.met }
+        requires state { (met_at self.old.met origin).state < links.now.count }
+        requires even { length enters.now ≡ length links.now.states }
+        requires enters { All (λ state. state < length self.old.marks) enters.now }
+        ensures grows { OnOk result (Grows (IsStep links.now.states enters.now (met_at self.old.met origin).state origin) self.old self.new) }
+        ensures followed { OnOk result (AreFollowed links.now.states enters.now (met_at self.old.met origin).state self.new.marks) }
+    {
+        let mut left = links.last(self.met[origin].state as usize);
+        while left > 0 {
+            let edge = left - 1;
+            self.meet(Met {
+                state: enters[edge],
+                edge: left,
+                origin,
+            })?;
+            left = links.before(edge);
+        }
+        Ok(())
+    }
+
+    /// Whether a state was met.
+    pub(crate) fn has_met(&self, state: u32) -> bool
+        requires { state < length self.now.marks }
+        ensures { result ≡ mark_at self.now.marks state }
+    {
+        self.marks[state as usize]
+    }
+
+    /// For each state whether it was met.
+    pub(crate) fn into_marks(self) -> Vec<bool>
+        ensures marks { result.items ≡ self.marks }
+        ensures count { vec_len result ≡ length self.marks }
+    {
+        let Search { marks, met: _ } = self;
+        marks
+    }
+
+    /// The index at which a state was met, none if it was not.
+    pub(crate) fn index_of(&self, state: u32) -> Option<usize>
+        ensures some { IfSome result (λ index. (index < length self.now.met) × ((met_at self.now.met index).state ≡ state)) }
+        ensures none { IfNone result ((k : ℕ) → k < length self.now.met → (met_at self.now.met k).state ≡ state → ⊥) }
+    {
+        for (index, met) in self.met.iter().enumerate() {
+            if met.state == state {
+                return Some(index);
+            }
+        }
+        None
+    }
+
+    /// The edges on the walk along which the state at an index was met.
+    pub(crate) fn walk_to(
+        &self,
+        alloc: Global,
+        edges: &[u32],
+        index: usize,
+    ) -> Result<Vec<u32>, AllocError>
+        requires index { index < length self.now.met }
+        requires back { LeadBack (length edges.now) self.now.met }
+        ensures { IfOk result (λ walk. (graph : MarkedGraph) (leaves enters sources : List ℕ) → AreEnds graph edges.now leaves enters → ((i : ℕ) → i < length self.now.met → IsMet leaves enters sources self.now.met i) → IsWalkFrom graph (listed edges.now) sources walk.items (met_at self.now.met index).state) }
+    {
+        let mut walk = Vec::new(alloc);
+        let mut at = index;
+        while self.met[at].edge > 0 {
+            let met = self.met[at];
+            walk.push(edges[met.edge - 1])?;
+            at = met.origin;
+        }
+        walk.reverse();
+        Ok(walk)
+    }
+}
+
+/// Meets the states that are reached from some states by edges, given by the states that they leave and those that they
+/// enter, all below a count. Linear.
+pub(crate) fn search_from(
+    alloc: Global,
+    count: usize,
+    leaves: &[u32],
+    enters: &[u32],
+    sources: &[u32],
+) -> Result<Search, AllocError>
+    requires even { length enters.now ≡ length leaves.now }
+    requires leaves { All (λ state. state < count) leaves.now }
+    requires enters { All (λ state. state < count) enters.now }
+    requires sources { All (λ state. state < count) sources.now }
+    ensures { IfOk result (IsSearched leaves.now enters.now sources.now count) }
+{
+    let links = Links::new(alloc, count, leaves)?;
+    let mut search = Search::new(alloc, count)?;
+    search.begin(sources)?;
+    let mut index = 0;
+    while index < search.met.len() {
+        search.follow(&links, enters, index)?;
+        index += 1;
+    }
+    Ok(search)
+}
