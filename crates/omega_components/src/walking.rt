@@ -11,8 +11,8 @@ use std::alloc::Global;
 /// A walk of edges of a list from one of some states to a state, none exactly where there is none. `Memory` where a
 /// request for memory is refused. Linear in the graph's states, the list's edges and the sources.
 ///
-/// The search is one in breadth, so the walk has the fewest edges that such a walk can have: none where the state is one
-/// of the sources. No clause says so.
+/// The search is one in breadth, so the walk has the fewest edges that such a walk can have: none where the state is
+/// one of the sources. No clause says so.
 pub fn path(
     alloc: Global,
     graph: &Graph,
