@@ -1,7 +1,6 @@
 -- Solutions as arrays: what is written holds the solution, and when what arrays hold is one.
-use Rattle.std.proofs.Common.{◌≡◌, ◌≢◌, ◌↔◌, ℕ, ◌+◌, ◌<◌, ◌≤◌, Bool, true, false, cond, IsTrue, Option, Some, None, IsSome, is_some, List, ◌∷◌, ◌++◌, [], length, map, get_or, All, refl, sym, ap, ◌∙◌, subst, eqb, arith}
+use Rattle.std.proofs.Common.{◌≡◌, ◌≢◌, ◌↔◌, ℕ, ◌<◌, ◌≤◌, Bool, true, false, cond, IsTrue, Option, Some, None, IsSome, is_some, List, length, map, get_or, All, refl, sym, ap, ◌∙◌, subst, arith}
 use Rattle.std.specs.Prelude.{IfSome, unwrap_or}
-use Rattle.std.specs.List.{range_with_len, slice_get}
 use Rattle.std.proofs.lemmas.Bool.{eq-eqb, false≢true, ne_eqb}
 use Rattle.std.proofs.lemmas.List.{ext_get_or, get_or-map, get_or_default, length-map}
 use Rattle.std.proofs.lemmas.List.FromFn.{fill_by_all, get_or-map-range_with_len}
@@ -14,7 +13,7 @@ use Rattle.omega_game.specs.Solution.{IsSolution, choices_of, winner_at}
 use Rattle.omega_game.specs.Winning.{IsStrategy, choice_at}
 use Rattle.omega_arrays.specs.Arrays.{player_of}
 use Rattle.omega_arrays.specs.Answer.{choice_for, choice_of, choices_for, no_choice, solution_in}
-use Rattle.omega_arrays.specs.private.Written.{AreWritten, ChoosesWhereWon, IsEntry}
+use Rattle.omega_arrays.specs.private.Written.{AreWritten, ChoosesWhereWon}
 
 -- ---- choices and their entries
 

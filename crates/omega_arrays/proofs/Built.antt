@@ -1,21 +1,20 @@
 -- The game of arrays that have the shape: it is a game, and its specifications are those that are handed over.
-use Rattle.std.proofs.Common.{◌≡◌, ℕ, zero, suc, ◌+◌, ◌-◌, ◌<◌, ◌≤◌, Bool, true, false, Option, Some, None, List, [], ◌∷◌, ◌++◌, inl, inr, length, map, take, drop, get_or, All, Contains, refl, sym, ap, ◌∙◌, subst, rules, arith}
-use Rattle.std.specs.Prelude.{slice_index, slice_range, sum_by}
+use Rattle.std.proofs.Common.{◌≡◌, ℕ, zero, suc, ◌+◌, ◌-◌, ◌<◌, ◌≤◌, Some, None, List, [], ◌∷◌, ◌++◌, inl, inr, length, map, get_or, Contains, sym, ap, ◌∙◌, subst, arith}
+use Rattle.std.specs.Prelude.{slice_range, sum_by}
 use Rattle.std.specs.List.{range_with_len}
-use Rattle.std.specs.List.Sorted.{IsPermutation, IsStrictlyIncreasing}
 use Rattle.std.proofs.lemmas.Bool.{cases_lt}
 use Rattle.std.proofs.lemmas.List.{get_or-map, get_or_default, get_or_past, length-map, nil_from_length, same_lists}
 use Rattle.std.proofs.lemmas.List.Sorted.{IsPermutation-refl}
 use Rattle.std.proofs.lemmas.List.Edits.{between_more, get_or-between, length-between}
 use Rattle.std.proofs.lemmas.List.Elements.{All-get_or}
-use Rattle.std.proofs.lemmas.List.FromFn.{fill_by_all, get_or-map-range_with_len, length-map-range_with_len, map-range_with_len_more, sum_by-map-range_with_len_more}
+use Rattle.std.proofs.lemmas.List.FromFn.{fill_by_all, get_or-map-range_with_len, length-map-range_with_len, sum_by-map-range_with_len_more}
 use Rattle.omega_text.specs.Limits.{most_number}
 use Rattle.omega_text.specs.Cases.{never, or_game, or_memory}
 use Rattle.omega_text.specs.declared.refusal.Refusal.{Refusal}
 use Rattle.omega_text.specs.declared.refusal.Refusal.TheVariants.{Automaton, Game, Io, Memory, Task, Text}
 use Rattle.omega_game.specs.declared.node_spec.NodeSpec.{NodeSpec}
 use Rattle.omega_game.specs.declared.player.Player.{Player}
-use Rattle.omega_game.specs.Game.{HasEdge, IsGame, IsWithinLimits, IsWritableNode, Node, identifiers, no_node, node_at, successor_count, successors_at}
+use Rattle.omega_game.specs.Game.{HasEdge, IsGame, IsWithinLimits, Node, identifiers, no_node, node_at, successors_at}
 use Rattle.omega_game.specs.Limits.{most_nodes, most_successors}
 use Rattle.omega_game.specs.Building.{IsBuildRefusal, IsGameOf, game_fault_of, specified, with_last, with_successor}
 use Rattle.omega_game.proofs.parts.Specifying.{with_last-push}

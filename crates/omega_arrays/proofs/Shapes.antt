@@ -1,9 +1,8 @@
 -- Arrays without a wrong entry stand for a game.
-use Rattle.std.proofs.Common.{◌≡◌, ℕ, zero, suc, ◌+◌, ◌-◌, ◌<◌, ◌≤◌, Bool, true, false, cond, Option, Some, None, List, length, get_or, All, refl, sym, ap, ◌∙◌, ltb, leb, eqb, rules, arith}
-use Rattle.std.specs.Prelude.{position, option_map, nat_le, nat_lt, slice_index}
+use Rattle.std.proofs.Common.{◌≡◌, ℕ, zero, suc, ◌+◌, ◌-◌, ◌<◌, ◌≤◌, Bool, true, false, cond, Option, Some, None, List, length, get_or, All, refl, eqb, arith}
+use Rattle.std.specs.Prelude.{option_map, nat_le, nat_lt}
 use Rattle.std.proofs.lemmas.Bool.{eqb-false, eqb-true, leb-false, ltb-false}
 use Rattle.omega_text.specs.Limits.{most_number}
-use Rattle.omega_arrays.specs.declared.fault.WrongEntry.{WrongEntry}
 use Rattle.omega_arrays.specs.Arrays.{GameArrays, node_count, start_at}
 use Rattle.omega_arrays.specs.Shape.{IsShape, entry, first_above, first_fall, first_of, miscounted, wrong_entry, wrong_length, wrong_start}
 use Rattle.omega_arrays.proofs.Firsts.{fails_at, range_fails_at}

@@ -1,5 +1,5 @@
 -- Solutions as arrays: for each place its winner, and the winner's choice there, or the mark for none.
-use Rattle.std.specs.Prelude.{◌≡◌, ℕ, ◌+◌, ◌<◌, ◌≤◌, ◌==◌, if◌then◌else◌, Bool, List, Option, Some, None, All, length, map, slice_index}
+use Rattle.std.specs.Prelude.{ℕ, ◌==◌, if◌then◌else◌, List, Option, Some, None, length, map, slice_index}
 use Rattle.std.specs.List.{range_with_len}
 use Rattle.omega_game.specs.declared.player.Player.{Player}
 use Rattle.omega_game.specs.declared.player.Player.TheVariants.{One, Zero}

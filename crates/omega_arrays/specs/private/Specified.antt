@@ -1,5 +1,5 @@
 -- The specifications of the nodes of a game as arrays.
-use Rattle.std.specs.Prelude.{ℕ, List, None, map, slice_index, slice_range}
+use Rattle.std.specs.Prelude.{ℕ, List, None, map, slice_index}
 use Rattle.std.specs.List.{range_with_len}
 use Rattle.omega_game.specs.declared.node_spec.NodeSpec.{NodeSpec}
 use Rattle.omega_arrays.specs.Arrays.{GameArrays, listed_at, player_of}

@@ -1,6 +1,4 @@
 -- `is_solution`: strategies that choose exactly where the owner wins are a solution.
-use Rattle.std.proofs.Common.{rules, arith}
-use Rattle.std.proofs.lemmas.Bool.{not-false}
 use Rattle.omega_game.specs.declared.player.Player.TheVariants.{One, Zero}
 use Rattle.omega_game.specs.Winning.{IsStrategy}
 use Rattle.omega_arrays.proofs.Answering.{held_iff}

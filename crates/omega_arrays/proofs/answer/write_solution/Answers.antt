@@ -1,5 +1,5 @@
 -- `write_solution`: the entries of all places hold the solution.
-use Rattle.std.proofs.Common.{◌≡◌, length, ◌∙◌, subst, ℕ, arith}
+use Rattle.std.proofs.Common.{◌∙◌, subst, ℕ}
 use Rattle.omega_arrays.specs.private.Written.{AreWritten}
 use Rattle.omega_arrays.proofs.Answering.{held_back, players_written}
 use Rattle.omega_arrays.proofs.answer.write_solution.Goals as goal

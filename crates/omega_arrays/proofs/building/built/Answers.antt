@@ -1,5 +1,5 @@
 -- `built`: the specifications have one game, and no fault within the limits.
-use Rattle.std.proofs.Common.{◌≡◌, ◌≤◌, List, length, None, ap, sym, ◌∙◌, subst, arith}
+use Rattle.std.proofs.Common.{◌≡◌, ◌≤◌, List, length, None, ap, ◌∙◌, subst, arith}
 use Rattle.std.proofs.lemmas.Result.{IfErr-weaker, IfOk-weaker}
 use Rattle.omega_game.specs.declared.node_spec.NodeSpec.{NodeSpec}
 use Rattle.omega_game.specs.Building.{IsGameOf, game_fault_of}
