@@ -36,7 +36,7 @@ def ran_well(words: list[str], folder: str) -> str:
                          text=True, errors="replace")
     if ran.returncode:
         sys.stderr.write(ran.stdout)
-        raise NotBuilt(f"{NAME} is not proved and built")
+        raise NotBuilt(f"{' '.join(words[:2])} ended with status {ran.returncode}, so {NAME} is not built")
     return ran.stdout
 
 

@@ -1,5 +1,4 @@
 -- How a call of the library ends: which number says what.
-use Rattle.std.specs.Prelude.{◌≡◌, Result, Ok, Err}
 use Rattle.omega_text.specs.Refusal.{number_of}
 use Rattle.omega_arrays.specs.declared.fault.ArrayFault.{ArrayFault}
 use Rattle.omega_arrays.specs.declared.fault.ArrayFault.TheVariants.{BadShape, Refused}

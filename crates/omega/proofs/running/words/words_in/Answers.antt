@@ -1,5 +1,5 @@
 -- `words_in`: one word more is taken off the rest, or is no text; at last no NUL is left.
-use Rattle.std.proofs.Common.{◌≡◌, ℕ, ◌+◌, ◌≤◌, ◌∷◌, ◌++◌, [], List, None, Some, length, take, drop, map, refl, sym, ap, ◌∙◌, rules, arith}
+use Rattle.std.proofs.Common.{◌≡◌, ℕ, ◌+◌, ◌∷◌, ◌++◌, [], List, None, Some, length, take, drop, map, refl, sym, ap, ◌∙◌, rules, arith}
 use Rattle.std.specs.Prelude.{position, string_bytes}
 use Rattle.std.specs.List.{slice_split}
 use Rattle.std.proofs.lemmas.List.{map-append}

@@ -1,5 +1,5 @@
 -- The loop of `words_in`: the words so far and the pieces of the rest are the pieces of all.
-use Rattle.std.proofs.Common.{◌≡◌, ◌++◌, ◌-◌, length, map}
+use Rattle.std.proofs.Common.{◌≡◌, ◌++◌, length, map}
 use Rattle.std.specs.Prelude.{string_bytes}
 use Rattle.std.specs.List.{slice_split}
 use Rattle.omega.specs.Running.{is_nul, pieces_of}
