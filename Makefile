@@ -1,18 +1,22 @@
 # make            proves and builds the program, crates side by side; make JOBS=2 uses two processors
 # make check      proves everything from nothing, tries wrong bodies, runs the tests, and checks the built program
+# make libomega   proves and builds the library for C and Python, out/libomega.a and out/libomega.so
 # make install    installs program, manual and completions below PREFIX
 # make dist       packs the built program into dist/: an archive and a Debian package, with their SHA-256 sums
 PREFIX ?= /usr/local
 DESTDIR ?=
 PROGRAM = crates/omega_tool/out/omega_tool
 
-.PHONY: all check install dist clean
+.PHONY: all check libomega install dist clean
 all:
 	@JOBS='$(JOBS)' python3 make/build.py
 
 check:
 	rt ci
 	checks/run
+
+libomega:
+	@JOBS='$(JOBS)' python3 make/library.py
 
 install: all
 	python3 make/package.py install --program $(PROGRAM) --prefix $(PREFIX) --root '$(DESTDIR)/'
@@ -21,4 +25,4 @@ dist: all
 	python3 make/package.py dist --program $(PROGRAM) --into dist
 
 clean:
-	rm -rf dist crates/*/out
+	rm -rf dist out crates/*/out

@@ -59,7 +59,8 @@ def crates_for(program: str) -> dict[str, Crate]:
         for line in lines:
             name, colon, uses = line.partition("#")[0].partition(":")
             if colon:
-                named[name.strip()] = uses.split()
+                # A static library has a word behind its name.
+                named[name.split()[0]] = uses.split()
     found: dict[str, Crate] = {}
     above: list[str] = []
 

@@ -1,0 +1,145 @@
+/* Each call of the library once, on exact allocations, with its answer compared. With an argument a request for memory
+ * may be refused: each call then ends with 60 and everything as before, or as with ample memory. */
+#include "omega.h"
+
+#include <stdio.h>
+#include <stdlib.h>
+#include <string.h>
+
+static int may_be_refused;
+
+#define WANT(holds)                                          \
+    do {                                                     \
+        if (!(holds)) {                                      \
+            fprintf(stderr, "line %d: %s\n", __LINE__, #holds); \
+            exit(1);                                         \
+        }                                                    \
+    } while (0)
+
+/* A block that is exactly as long as what it holds, so that a read or a write past its end is seen. */
+static void *held(const void *from, size_t size) {
+    static char room[1 << 16];
+    static size_t used;
+    void *block = may_be_refused ? room + (used = (used + 15) / 16 * 16) : malloc(size ? size : 1);
+    if (may_be_refused) used += size;
+    memcpy(block, from, size);
+    return block;
+}
+
+static const uint32_t priorities[] = {0, 1, 2};
+static const uint8_t owners[] = {0, 1, 1};
+static const uint32_t starts[] = {0, 2, 3, 4};
+static const uint32_t successors[] = {1, 2, 0, 0};
+
+static omega_game game(void) {
+    omega_game made = {held(priorities, sizeof priorities), 3, held(owners, sizeof owners), 3,
+                       held(starts, sizeof starts), 4, held(successors, sizeof successors), 4};
+    return made;
+}
+
+/* Whether a call gave its answer; it may be refused for want of memory where a request is refused. */
+static int answered(omega_outcome outcome) {
+    WANT(outcome.array == 0 && outcome.place == 0);
+    WANT(outcome.number == 0 || (may_be_refused && outcome.number == 60));
+    return outcome.number == 0;
+}
+
+static void solve(uint8_t by_search) {
+    static const uint8_t sevens[] = {7, 7, 7};
+    static const uint32_t marks[] = {7, 7, 7};
+    omega_game three = game();
+    uint8_t *winners = held(sevens, sizeof sevens);
+    uint32_t *choices = held(marks, sizeof marks);
+    omega_lifts lifts = {7, 7};
+    if (answered(omega_solve(&three, by_search, UINT64_MAX, winners, 3, choices, 3, &lifts))) {
+        WANT(winners[0] == 0 && winners[1] == 0 && winners[2] == 0);
+        WANT(choices[0] == 2 && choices[1] == OMEGA_NO_CHOICE && choices[2] == OMEGA_NO_CHOICE);
+        WANT(by_search ? lifts.zero == 0 && lifts.one == 0 : lifts.one > 0);
+    } else {
+        WANT(memcmp(winners, sevens, sizeof sevens) == 0 && memcmp(choices, marks, sizeof marks) == 0);
+        WANT(lifts.zero == 7 && lifts.one == 7);
+    }
+}
+
+static void verify(uint32_t choice, size_t room) {
+    static const uint8_t zeros[] = {0, 0, 0};
+    static const uint32_t marks[] = {7, 7, 7};
+    uint32_t chosen[] = {choice, OMEGA_NO_CHOICE, OMEGA_NO_CHOICE};
+    omega_game three = game();
+    uint32_t *stem = held(marks, room * sizeof *marks), *cycle = held(marks, room * sizeof *marks);
+    omega_verdict verdict = {7, 7, 7, 7};
+    if (answered(omega_verify(&three, held(zeros, sizeof zeros), 3, held(chosen, sizeof chosen), 3, &verdict, stem, room,
+                              cycle, room))) {
+        WANT(verdict.is_right == (choice == 2) && verdict.player == 0);
+        WANT(choice == 2 ? verdict.cycle == 0 : verdict.cycle == 2);
+        for (size_t at = 0; choice != 2 && at < room && at < verdict.cycle; at++) WANT(cycle[at] < 2);
+    } else {
+        WANT(memcmp(stem, marks, room * sizeof *marks) == 0 && memcmp(cycle, marks, room * sizeof *marks) == 0);
+        WANT(verdict.is_right == 7 && verdict.player == 7 && verdict.stem == 7 && verdict.cycle == 7);
+    }
+}
+
+static void bound(void) {
+    omega_game three = game();
+    omega_bounds bounds = {{7, 7, 7}, {7, 7, 7}};
+    if (answered(omega_bound(&three, &bounds))) {
+        WANT(bounds.zero.low == 6 && bounds.zero.high == 0 && bounds.zero.fits == 1);
+        WANT(bounds.one.low == 12 && bounds.one.high == 0 && bounds.one.fits == 1);
+    } else {
+        WANT(bounds.zero.low == 7 && bounds.one.fits == 7);
+    }
+}
+
+static void run(size_t room) {
+    static const char words[] = "check\0--format\0pg", input[] = "0 0 0 0;", wanted[] = "accepted\n";
+    static const char refused[] = "omega: 60 Memory\n";
+    char blank[64] = {0};
+    uint8_t *output = held(blank, room), *errors = held(blank, room);
+    omega_ran ran = omega_run(held(words, sizeof words), sizeof words, held(input, sizeof input - 1), sizeof input - 1,
+                              held(input, 0), 0, output, room, errors, room);
+    if (ran.status == 0) {
+        size_t seen = room < 9 ? room : 9;
+        WANT(ran.output == 9 && ran.errors == 0 && memcmp(output, wanted, seen) == 0);
+    } else {
+        WANT(may_be_refused && ran.output < 9);
+        WANT(ran.errors == 0 || (ran.status >= 4 && memcmp(errors, refused, room < 7 ? room : 7) == 0));
+    }
+}
+
+static void version(void) {
+    uint8_t *room = held("xxxxxxxx", 8);
+    size_t length = omega_version(room, 5);
+    WANT(length == 5 && memcmp(room, "1.0.0xxx", 8) == 0);
+    WANT(omega_version(room, 0) == 5);
+}
+
+static void shape(void) {
+    static const uint32_t wrong[] = {1, 3, 0, 0};
+    static const uint8_t sevens[] = {7, 7, 7};
+    omega_game three = game();
+    three.successors = held(wrong, sizeof wrong);
+    uint8_t *winners = held(sevens, sizeof sevens);
+    uint32_t choices[3];
+    omega_lifts lifts;
+    omega_outcome outcome = omega_solve(&three, 1, 0, winners, 3, choices, 3, &lifts);
+    WANT(outcome.number == 57 && outcome.array == OMEGA_SUCCESSORS && outcome.place == 1);
+    WANT(memcmp(winners, sevens, sizeof sevens) == 0);
+    three = game();
+    outcome = omega_solve(&three, 1, 0, winners, 2, choices, 3, &lifts);
+    WANT(outcome.number == 57 && outcome.array == OMEGA_WINNERS && outcome.place == 2);
+}
+
+int main(int count, char **words) {
+    may_be_refused = count > 1 && words[1] != NULL;
+    solve(1);
+    solve(0);
+    verify(2, 3);
+    verify(1, 3);
+    verify(1, 1);
+    bound();
+    run(64);
+    run(4);
+    version();
+    shape();
+    return 0;
+}

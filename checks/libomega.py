@@ -1,0 +1,390 @@
+"""The library for C and Python: built, called from both, and compared with slow solvers and with the program."""
+import ctypes
+import os
+import random
+import re
+import resource
+import subprocess
+import sys
+import tempfile
+
+import games
+from program import ROOT, SECONDS, run_of
+from rows import FAULT, ROWS, rows_of
+
+BUILT = os.path.join(ROOT, "out")
+SHARED = os.path.join(BUILT, "libomega.so")
+STATIC = os.path.join(BUILT, "libomega.a")
+HERE = os.path.dirname(os.path.abspath(__file__))
+WARNINGS = ["-std=c11", "-Wall", "-Wextra", "-Wpedantic", "-Werror", "-I", os.path.join(ROOT, "include")]
+GAMES = 2000
+MOST_NODES = 200
+# Enough for nearly all of these games.
+MOST_LIFTS = 3_000_000
+# The name of a file behind an option.
+NAMED = re.compile(r"--(?:game|solution|automaton|with)[= ](\S*)")
+
+
+def python_of():
+    """The package, over the library that was built."""
+    os.environ["LIBOMEGA"] = SHARED
+    sys.path.insert(0, os.path.join(ROOT, "python"))
+    import omega
+    return omega
+
+
+def random_game(draw):
+    """Priorities, owners and lists of successors."""
+    count = draw.choice([1, 2, 3, 5, 8, draw.randrange(1, 40), draw.randrange(1, MOST_NODES + 1)])
+    colours = draw.choice([2, 3, 5, count + 1, 2**31 - 1])
+    degree = draw.choice([1, 2, 3, 5])
+    return ([draw.randrange(colours) for _ in range(count)], [draw.randrange(2) for _ in range(count)],
+            [[draw.randrange(count) for _ in range(draw.randrange(1, degree + 1))] for _ in range(count)])
+
+
+def attracted(targets, player, owners, successors, inside):
+    """The nodes of a set from which a player can force a visit to some of them."""
+    found = set(targets)
+    while True:
+        more = {v for v in inside - found
+                if (any if owners[v] == player else all)(w in found for w in successors[v] if w in inside)}
+        if not more:
+            return found
+        found |= more
+
+
+def won_by(priorities, owners, successors, inside):
+    """Zielonka's algorithm, as plainly as can be: the nodes that each player wins of a set that is a game."""
+    if not inside:
+        return [set(), set()]
+    greatest = max(priorities[v] for v in inside)
+    player = greatest % 2
+    near = attracted({v for v in inside if priorities[v] == greatest}, player, owners, successors, inside)
+    rest = won_by(priorities, owners, successors, inside - near)
+    won = [set(), set()]
+    if not rest[1 - player]:
+        won[player] = set(inside)
+        return won
+    lost = attracted(rest[1 - player], 1 - player, owners, successors, inside)
+    won = won_by(priorities, owners, successors, inside - lost)
+    won[1 - player] |= lost
+    return won
+
+
+def nodes_of(priorities, owners, successors):
+    """The game as checks/games.py knows it."""
+    return {v: games.Node(priorities[v], owners[v], successors[v], None) for v in range(len(priorities))}
+
+
+def lasso_fault(game, winner, choice, found):
+    """What is wrong with a counterexample, or nothing."""
+    priorities, owners, successors = game
+    walk = [*found.stem, *found.cycle, found.cycle[0]]
+    if winner[walk[0]] != found.player:
+        return "it does not begin at a node given to the player"
+    for v, w in zip(walk, walk[1:]):
+        chosen = choice[v] is not None and owners[v] == found.player == winner[v]
+        if w not in ([choice[v]] if chosen else successors[v]):
+            return f"no edge from {v} to {w} is left possible"
+    if max(priorities[v] for v in found.cycle) % 2 == found.player:
+        return "the cycle does not lose"
+    return None
+
+
+def broken(draw, game, winner, choice):
+    """A solution that differs in one place: a winner and the choice with it, or another choice."""
+    _, owners, successors = game
+    winner, choice, v = list(winner), list(choice), draw.randrange(len(winner))
+    others = [w for w in successors[v] if w != choice[v]]
+    if choice[v] is not None and others and draw.randrange(2):
+        choice[v] = draw.choice(others)
+        return winner, choice
+    winner[v] = 1 - winner[v]
+    choice[v] = draw.choice(successors[v]) if owners[v] == winner[v] else None
+    return winner, choice
+
+
+def judged_fault(omega, game, winner, choice):
+    """What is wrong with the verdict on a solution, or nothing."""
+    nodes, solution = nodes_of(*game), dict(enumerate(zip(winner, choice)))
+    found = omega.verify(*game, winner, choice)
+    losing = [player for player in (0, 1) if not games.wins(nodes, solution, player)]
+    if (found.player if found else None) != (losing[0] if losing else None):
+        return f"the verdict is {found}, and the players whose choices lose are {losing}"
+    return lasso_fault(game, winner, choice, found) if found else None
+
+
+def game_fault(omega, draw, game):
+    """What is wrong with the answers on a game, or nothing."""
+    count, answers = len(game[0]), []
+    won = won_by(*game, set(range(count)))
+    bounds = omega.bound(*game)
+    for search in (True, False):
+        try:
+            made = omega.solve(*game, search=search, budget=MOST_LIFTS)
+        except omega.Refusal as why:
+            most = max(2**128 if it is None else it for it in (bounds.zero, bounds.one))
+            if why.number != 51 or most <= MOST_LIFTS:
+                return f"search {search}: {why}, and {bounds}"
+            continue
+        if [v for v in range(count) if made.winner[v] == 0] != sorted(won[0]):
+            return f"search {search}: the winners are {made.winner}"
+        if any(most is not None and lifts > most for lifts, most in zip(made.lifts, (bounds.zero, bounds.one))):
+            return f"{made.lifts} lifts, and {bounds}"
+        fault = judged_fault(omega, game, made.winner, made.choice)
+        if fault or omega.verify(*game, made.winner, made.choice):
+            return f"search {search}: the solution is not right: {fault}"
+        answers.append(made)
+    return judged_fault(omega, game, *broken(draw, game, answers[0].winner, answers[0].choice))
+
+
+def solved_games(omega):
+    draw = random.Random(57)
+    for number in range(GAMES):
+        game = random_game(draw)
+        fault = game_fault(omega, draw, game)
+        if fault:
+            yield f"game {number}", f"{fault}, for {game}"
+            return
+    yield f"{GAMES} random games", None
+
+
+SMALL = ([0, 1, 2], [0, 1, 1], ([0, 2, 3, 4], [1, 2, 0, 0]))
+SHAPES = [
+    ("no node", ([], [], ([0], [])), "priorities", 0),
+    ("an owner missing", ([0, 1], [0], ([0, 1, 2], [0, 0])), "owners", 1),
+    ("an owner too many", ([0], [0, 0], ([0, 1], [0])), "owners", 1),
+    ("a start missing", ([0, 1], [0, 0], ([0, 1], [0, 0])), "starts", 2),
+    ("a start too many", ([0], [0], ([0, 1, 1], [0])), "starts", 2),
+    ("a priority too great", ([0, 2**31], [0, 0], ([0, 1, 2], [0, 0])), "priorities", 1),
+    ("an owner above 1", ([0, 1], [0, 2], ([0, 1, 2], [0, 0])), "owners", 1),
+    ("a first start that is not 0", ([0], [0], ([1, 1], [0])), "starts", 0),
+    ("a start that falls", ([0, 1, 2], [0, 0, 0], ([0, 2, 1, 3], [0, 0, 0])), "starts", 2),
+    ("a node without successors", ([0, 1], [0, 0], ([0, 1, 1], [0])), "starts", 2),
+    ("a last start before the end", ([0, 1], [0, 0], ([0, 1, 2], [0, 0, 0])), "starts", 2),
+    ("a successor that is no place", ([0, 1], [0, 0], ([0, 1, 2], [0, 2])), "successors", 1),
+    ("the lengths before the entries", ([2**31, 1], [0, 2, 0], ([0, 1, 2], [0, 9])), "owners", 2),
+]
+ANSWERS = [
+    ("a winner missing", [0, 0], [2, None, None], (57, "winner", 2)),
+    ("a choice too many", [0, 0, 0], [2, None, None, None], (57, "choice", 3)),
+    ("a winner above 1", [0, 2, 0], [2, None, None], (57, "winner", 1)),
+    ("a choice that is no successor", [0, 0, 0], [0, None, None], (53, None, None)),
+    ("a choice missing", [0, 0, 0], [None, None, None], (53, None, None)),
+    ("a choice of a node that the other wins", [0, 0, 0], [2, 0, None], (53, None, None)),
+]
+
+
+def refusal_of(omega, call, *words):
+    """What refuses a call: number, array and place, or nothing."""
+    try:
+        call(*words)
+    except omega.Refusal as why:
+        return why.number, why.array, why.place
+    return None
+
+
+def differs(came, wanted):
+    return None if came == wanted else f"{came} for {wanted}"
+
+
+def shape_faults(omega):
+    for label, game, array, place in SHAPES:
+        wanted = (57, array, place)
+        yield f"solve: {label}", differs(refusal_of(omega, omega.solve, *game), wanted)
+        yield f"bound: {label}", differs(refusal_of(omega, omega.bound, *game), wanted)
+        count = len(game[0])
+        yield f"verify: {label}", differs(refusal_of(omega, omega.verify, *game, [0] * count, [None] * count), wanted)
+        yield f"{label}: nothing is written", unwritten_fault(omega, game, 57)
+    for label, winner, choice, wanted in ANSWERS:
+        yield f"verify: {label}", differs(refusal_of(omega, omega.verify, *SMALL, winner, choice), wanted)
+    many = 1_048_577
+    game = ([0] * many, [0] * many, (range(many + 1), [0] * many))
+    yield "too many nodes", unwritten_fault(omega, game, 13)
+    edges = ([0], [0], ([0, 8_388_609], bytes(4 * 8_388_609)))
+    edges = ([0], [0], ([0, 8_388_609], memoryview(edges[2][1]).cast("I")))
+    yield "too many successors", unwritten_fault(omega, edges, 14)
+    wide = ([2 * v for v in range(8192)] + [1], [0] * 8193, (range(8194), range(8193)))
+    yield "too wide", unwritten_fault(omega, wide, 50, search=0)
+    yield "the search needs no table", differs(omega.solve(*wide).lifts, (0, 0))
+    carry = ([1, 0, 3, 1], [0, 0, 0, 1], [[0], [1], [2], [2, 0]])
+    yield "the budget is used up", unwritten_fault(omega, carry, 51, search=0, budget=0)
+
+
+def unwritten_fault(omega, game, number, search=1, budget=2**40):
+    """What is wrong where `omega_solve` has to refuse a game, with each array as it was, or nothing."""
+    arrays = omega._Arrays(*game)
+    winners, choices = (ctypes.c_uint8 * arrays.nodes)(*[7] * arrays.nodes), (ctypes.c_uint32 * arrays.nodes)(*[7] * arrays.nodes)
+    lifts = omega._Lifts(7, 7)
+    outcome = omega._LIBRARY.omega_solve(arrays.game, search, budget, *omega._room(winners), *omega._room(choices), lifts)
+    if outcome.number != number:
+        return f"number {outcome.number} for {number}"
+    if set(winners) - {7} or set(choices) - {7} or (lifts.zero, lifts.one) != (7, 7):
+        return "something is written"
+    return None
+
+
+def row_runs(omega):
+    """Each row of checks/rows.txt through the library, compared with what the row wants."""
+    with open(ROWS) as file:
+        for row in rows_of(file.read()):
+            for command in row.commands:
+                # The library has one file, whatever its name.
+                if all(name == "g" for name in NAMED.findall(command)):
+                    yield f"line {row.number}: {command}", row_run_fault(omega, row, command)
+
+
+def row_run_fault(omega, row, command):
+    """What the library leaves of a row's text that is not what is wanted, or nothing."""
+    text = row.text
+    for words in command.split(" | "):
+        ran = omega.run(words.split(), text, row.file or b"")
+        text = ran.output
+    if ran.status != row.status:
+        return f"status {ran.status} for {row.status}"
+    if row.said:
+        said = ran.errors if row.status == FAULT else ran.output
+        missing = [part for part in row.said if part not in said]
+        return f"{missing} is not said" if missing else None
+    return differs((ran.output, ran.errors), (row.output, row.error))
+
+
+def run_checks(omega):
+    yield "version", differs(f"omega {omega.version()}\n".encode(), run_of(["--version"], b"").stdout[:len(omega.version()) + 7])
+    long = "".join(f"{v} {v % 7} {v % 2} {(v + 1) % 5000};" for v in range(5000)).encode()
+    program = run_of(["solve"], long)
+    ran = omega.run(["solve"], long)
+    yield "an output that is longer than the first room", differs((ran.status, ran.output), (0, program.stdout))
+    broken_line = (ctypes.c_uint8 * 2)(255, 0)
+    none, room = (ctypes.c_uint8 * 0)(), (ctypes.c_uint8 * 99)()
+    ran = omega._LIBRARY.omega_run(*[part for it in (broken_line, none, none, none, room) for part in omega._room(it)])
+    yield "words that are not UTF-8", differs((ran.status, bytes(room[:ran.errors])), (2, b"error: the command line is not UTF-8\n"))
+
+
+def buffer_checks(omega):
+    from array import array
+    flat = (array("I", [0, 2, 3, 4]), array("I", [1, 2, 0, 0]))
+    made = omega.solve(array("I", [0, 1, 2]), b"\x00\x01\x01", flat)
+    yield "arrays as buffers", differs((made.winner, made.choice), ([0, 0, 0], [2, None, None]))
+    yield "a right solution", differs(omega.verify(*SMALL, made.winner, made.choice), None)
+    found = omega.verify(*SMALL, [0, 0, 0], [1, None, None])
+    yield "a wrong solution", lasso_fault((SMALL[0], SMALL[1], [[1, 2], [0], [0]]), [0, 0, 0], [1, None, None], found)
+    yield "the bounds", differs(omega.bound(*SMALL), omega.Bounds(6, 12))
+
+
+def compiled(folder, name, source, *words):
+    """Compiles a program in C over the static library. Its path, and what the compiler said."""
+    file, made = os.path.join(folder, name + ".c"), os.path.join(folder, name)
+    with open(file, "w") as out:
+        out.write(source)
+    ran = subprocess.run(["cc", *WARNINGS, "-o", made, file, *words], capture_output=True, timeout=SECONDS)
+    return made, ran.stderr.decode() if ran.returncode else ""
+
+
+def source_of(name):
+    with open(os.path.join(HERE, name)) as file:
+        return file.read()
+
+
+def ran_fault(words, wanted=b"", env=None):
+    ran = subprocess.run(words, capture_output=True, timeout=SECONDS, env=env)
+    if ran.returncode or ran.stdout != wanted:
+        return f"status {ran.returncode}, {ran.stdout!r}, {ran.stderr[-600:]!r}"
+    return None
+
+
+def blocks_of(page, language):
+    """The blocks of a language in a part of a page of docs/ that ends with the next part."""
+    part = page[page.index("## From C and Python"):]
+    part = part[:part.find("\n## ", 5)] if "\n## " in part[5:] else part
+    found = []
+    for block in part.split(f"```{language}\n")[1:]:
+        found.append(block[:block.index("```")])
+    return found
+
+
+def example_checks(folder):
+    """The examples of docs/library.md, as they stand, with what they are said to write."""
+    with open(os.path.join(ROOT, "docs", "library.md")) as file:
+        page = file.read()
+    wanted = [text.encode() for text in blocks_of(page, "text")]
+    for number, source in enumerate(blocks_of(page, "c")):
+        made, said = compiled(folder, f"example{number}", source, STATIC)
+        yield f"example {number} in C", said or ran_fault([made], wanted[0])
+        shared, said = compiled(folder, f"shared{number}", source, "-L", BUILT, "-lomega", f"-Wl,-rpath,{BUILT}")
+        yield f"example {number} in C, over the shared library", said or ran_fault([shared], wanted[0])
+    yield "the header in C++", cplusplus_fault(folder)
+    for number, source in enumerate(blocks_of(page, "python")):
+        env = {**os.environ, "LIBOMEGA": SHARED, "PYTHONPATH": os.path.join(ROOT, "python")}
+        yield f"example {number} in Python", ran_fault([sys.executable, "-c", source], wanted[1], env)
+
+
+def cplusplus_fault(folder):
+    """What a compiler of C++ says of the header, or nothing."""
+    file = os.path.join(folder, "header.cc")
+    with open(file, "w") as out:
+        out.write('#include "omega.h"\nint main() { omega_bounds bounds; (void)bounds; return (int)omega_version(nullptr, 0) * 0; }\n')
+    words = ["cc", "-x", "c++", "-std=c++17", "-fsyntax-only", "-Wall", "-Wextra", "-Werror", "-I", os.path.join(ROOT, "include"), file]
+    ran = subprocess.run(words, capture_output=True, timeout=SECONDS)
+    return ran.stderr.decode() if ran.returncode and b"cc1plus" not in ran.stderr else None
+
+
+def sanitized_checks(folder):
+    """The C side of all calls under AddressSanitizer, where the compiler has it."""
+    made, said = compiled(folder, "sanitized", source_of("calls.c"), "-g", "-fsanitize=address,undefined", STATIC)
+    if "cannot find" in said or "unsupported" in said:
+        yield "AddressSanitizer is not there", None
+        return
+    # What the calls are given is not freed.
+    env = {**os.environ, "ASAN_OPTIONS": "detect_leaks=0"}
+    yield "all calls under AddressSanitizer", said or ran_fault([made], env=env)
+
+
+def refused_memory(folder):
+    """Each request for memory during `omega_solve` and `omega_verify` refused: 60, and every array as it was."""
+    shim = os.path.join(folder, "refusing.so")
+    subprocess.run(["cc", "-O2", "-shared", "-fPIC", "-o", shim, os.path.join(HERE, "refusing.c"), "-ldl"], check=True)
+    made, said = compiled(folder, "calls", source_of("calls.c"), STATIC)
+    yield "the calls in C compile", said or None
+    count = os.path.join(folder, "count")
+    env = {"LD_PRELOAD": shim, "REFUSE_COUNT": count}
+    yield "all calls in C", ran_fault([made])
+    yield "all calls in C, none refused", ran_fault([made, "refused"], env=env)
+    with open(count) as file:
+        requests = int(file.read())
+    for number in range(1, requests + 1):
+        for to in (number, 2**60):
+            fault = ran_fault([made, "refused"], env={**env, "REFUSE_FROM": str(number), "REFUSE_TO": str(to)})
+            yield f"request {number} of {requests}{'' if to == number else ' and all behind it'}", fault
+
+
+def leak_checks(omega):
+    """10,000 calls take no more memory than 1,000."""
+    def used():
+        return resource.getrusage(resource.RUSAGE_SELF).ru_maxrss
+
+    before = 0
+    for number in range(10_000):
+        if number == 1_000:
+            before = used()
+        made = omega.solve(*SMALL, search=number % 2)
+        omega.verify(*SMALL, made.winner, [1, None, None])
+        refusal_of(omega, omega.bound, [], [], ([0], []))
+        omega.run(["check", "--format", "pg"], b"0 0 0 0;")
+    grown = used() - before
+    yield "no leak over 10,000 calls", f"{grown} KiB more" if grown > 2048 else None
+
+
+def libomega_checks():
+    subprocess.run([sys.executable, os.path.join(ROOT, "make", "library.py")], check=True, stdout=subprocess.DEVNULL)
+    omega = python_of()
+    yield from buffer_checks(omega)
+    yield from shape_faults(omega)
+    yield from run_checks(omega)
+    yield from row_runs(omega)
+    yield from solved_games(omega)
+    yield from leak_checks(omega)
+    with tempfile.TemporaryDirectory() as folder:
+        yield from example_checks(folder)
+        yield from sanitized_checks(folder)
+        yield from refused_memory(folder)

@@ -1,0 +1,3 @@
+-- Lemmas by theme.
+pub mod Runs
+pub mod Words

@@ -1,0 +1,76 @@
+-- What `omega_run` leaves: what the program leaves that obeys the words over these texts.
+use Rattle.std.specs.Prelude.{◌≡◌, ◌<◌, ◌==◌, ◌⊎◌, ◌∷◌, ◌++◌, [], Bool, ℕ, List, Option, Some, Result, Ok, Err, codes, length, string_bytes}
+use Rattle.std.specs.List.{slice_split}
+use Rattle.std.specs.Str.{IsUtf8}
+use Rattle.omega_text.specs.declared.refusal.Refusal.{Refusal}
+use Rattle.omega_text.specs.declared.refusal.Refusal.TheVariants.{Memory}
+use Rattle.omega_command.specs.declared.line.Line.{Line}
+use Rattle.omega_command.specs.declared.line.Line.TheVariants.{Fault}
+use Rattle.omega_io.specs.Writing.{Tells}
+use Rattle.omega_run.specs.Obey.{IsObeyed, Streams, streams}
+use Rattle.omega_words.specs.Words.{IsLineAsked}
+use Rattle.omega_arrays.specs.Room.{laid_over}
+use Rattle.omega.specs.declared.running.Ran.{Ran}
+
+-- the byte that ends a word
+abbrev pub is_nul : ℕ → Bool
+is_nul byte = byte == 0
+
+-- the program's name, and the pieces between the NULs: each but the last is a word, which a NUL ends
+abbrev pub pieces_of : List ℕ → List (List ℕ)
+pieces_of text = codes "omega" ∷ slice_split is_nul text
+
+-- these are the words, the program's name first; behind the last NUL stands the rest, which is not read
+pub record AreWords (text : List ℕ) (words : List (List ℕ)) : Type 0 where
+  pub rest : List ℕ
+  pub split : pieces_of text ≡ words ++ rest ∷ []
+
+-- some word is not UTF-8
+pub record HasNoText (text : List ℕ) : Type 0 where
+  pub front : List (List ℕ)
+  pub word : List ℕ
+  pub back : List (List ℕ)
+  pub split : pieces_of text ≡ front ++ word ∷ back
+  pub ended : 0 < length back
+  pub broken : ¬ IsUtf8 word
+
+-- the line tells that the command line is not UTF-8
+abbrev pub TellsNoText : Line → Type 0
+TellsNoText (Fault text) = string_bytes text ≡ codes "error: the command line is not UTF-8\n"
+TellsNoText line = ⊥
+
+-- the line that the words ask for, or where one is not UTF-8, the fault that tells of it
+abbrev pub IsLineOf : List ℕ → Line → Type 0
+IsLineOf text line =
+    ((words : List (List ℕ)) × AreWords text words × IsLineAsked words line) ⊎ (HasNoText text × TellsNoText line)
+
+-- the words were read as this line, or there was no memory for it
+abbrev pub IsAsked : List ℕ → Result Line Refusal → Type 0
+IsAsked words (Ok line) = IsLineOf words line
+IsAsked words (Err refusal) = refusal ≡ Memory
+
+-- the program obeyed the command line, whatever is left of the input, and however many reads and writes failed
+pub record IsObeyedSomehow (reads : List ℕ → List ℕ → Type 0) (refuses : List ℕ → Refusal → Type 0) (asked : Result Line Refusal) (status : ℕ)
+    (told told' : Option (List ℕ)) (failed_tells : ℕ) (before : Streams) (held : Option (List ℕ)) : Type 0 where
+  pub unread : Option (List ℕ)
+  pub failed_reads : ℕ
+  pub failed_writes : ℕ
+  pub failed_tells' : ℕ
+  pub obeyed : IsObeyed reads refuses asked status (Tells told told' failed_tells failed_tells') before (streams unread failed_reads held failed_writes)
+
+-- the program obeyed the words, with the input, where each file holds the text; it wrote the output, and told the errors
+pub record IsRun (words input file : List ℕ) (status : ℕ) (output errors : List ℕ) : Type 0 where
+  pub asked : Result Line Refusal
+  pub read : IsAsked words asked
+  pub obeyed : IsObeyedSomehow (λ name text. text ≡ file) (λ name refusal. refusal ≡ Memory) asked status (Some []) (Some errors) 0
+      (streams (Some input) 0 (Some []) 0) (Some output)
+
+-- what `omega_run` leaves: of the output and of what was told as much as there was room for, and how long they are
+pub record IsRunOutcome (words input file : List ℕ) (ran : Ran) (output output' errors errors' : List ℕ) : Type 0 where
+  pub written : List ℕ
+  pub told : List ℕ
+  pub run : IsRun words input file ran.status written told
+  pub output_length : ran.output ≡ length written
+  pub errors_length : ran.errors ≡ length told
+  pub output_laid : output' ≡ laid_over written output
+  pub errors_laid : errors' ≡ laid_over told errors

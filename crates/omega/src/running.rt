@@ -1,0 +1,119 @@
+//! The program as a function: a command line is obeyed over texts in memory.
+ghost use Rattle.std.specs.Prelude.{◌≡◌, ◌-◌, ◌^◌, ◌<◌, IfOk, IsOkUnless};
+ghost use Rattle.omega_run.specs.Obey.{streams};
+ghost use Rattle.omega_text.specs.declared.refusal.Refusal.TheVariants.{Memory};
+ghost use Rattle.omega_command.specs.Line.{IsRunnable};
+ghost use Rattle.omega.specs.Running.{IsLineOf, IsObeyedSomehow, IsRun, IsRunOutcome};
+
+mod files;
+mod words;
+
+use files::OneFile;
+use omega_arrays::copied;
+use omega_run::{FromRead, GameFiles, Input, Line, Output, Refusal, ToWrite, obey};
+use omega_words::read_words;
+use std::alloc::Global;
+use words::words_in;
+
+/// What a run left.
+#[repr(C)]
+#[derive(Clone, Copy, Debug, PartialEq, Eq)]
+pub struct Ran {
+    /// The exit status.
+    pub status: u32,
+    /// How many bytes were written to standard output.
+    pub output: u64,
+    /// How many bytes were written to standard error.
+    pub errors: u64,
+}
+
+/// Does what the program does with a command line, whose words behind the program's name are each ended by a NUL; what
+/// stands behind the last NUL is not read. The input is its standard input, and the file is read where a word names
+/// one. What it writes is copied as far as there is room for it, and its whole length is given.
+#[unsafe(no_mangle)]
+pub extern "C" fn omega_run(
+    alloc: Global,
+    words: &[u8],
+    input: &[u8],
+    file: &[u8],
+    output: &mut [u8],
+    errors: &mut [u8],
+) -> Ran
+    ensures { IsRunOutcome words.now input.now file.now result output.old output.new errors.old errors.new }
+{
+    let left = left_by(alloc, words, input, file);
+    copied(left.output.as_slice(), output);
+    copied(left.errors.as_slice(), errors);
+    Ran {
+        status: left.status as u32,
+        output: left.output.len() as u64,
+        errors: left.errors.len() as u64,
+    }
+}
+
+/// What a run leaves: its status, and what it wrote.
+#[derive(Drop)]
+struct Left {
+    status: u8,
+    output: Vec<u8>,
+    errors: Vec<u8>,
+}
+
+/// Obeys the words over the input, with the one text in the place of each file.
+fn left_by(alloc: Global, words: &[u8], input: &[u8], file: &[u8]) -> Left
+    ensures { IsRun words.now input.now file.now result.status result.output.items result.errors.items }
+{
+    let asked = asked_of(alloc, words);
+    let files = OneFile::new(file);
+    let mut reading = FromRead::new(input);
+    let mut writing = ToWrite::new(Vec::new(alloc));
+    let mut telling = ToWrite::new(Vec::new(alloc));
+    let status = status_of(
+        alloc,
+        asked,
+        &files,
+        &mut reading,
+        &mut writing,
+        &mut telling,
+    );
+    Left {
+        status,
+        output: writing.into_inner(),
+        errors: telling.into_inner(),
+    }
+}
+
+/// The status after a command line is obeyed. What is left of the input, and how often something failed, is not told.
+fn status_of<F: GameFiles, R: Input, W: Output, E: Output>(
+    alloc: Global,
+    asked: Result<Line, Refusal>,
+    files: &F,
+    input: &mut R,
+    output: &mut W,
+    errors: &mut E,
+) -> u8
+    requires runnable { IfOk asked IsRunnable }
+    requires reads { R.failed input.old < 2 ^ 64 - 1 }
+    requires writes { W.failed output.old < 2 ^ 64 - 1 }
+    requires tells { E.failed errors.old < 2 ^ 64 - 1 }
+    ensures { IsObeyedSomehow (F.reads files.now) (F.refuses files.now) asked result
+        (E.contents errors.old) (E.contents errors.new) (E.failed errors.old)
+        (streams (R.remaining input.old) (R.failed input.old) (W.contents output.old) (W.failed output.old)) (W.contents output.new) }
+{
+    obey(alloc, asked, files, input, output, errors)
+}
+
+/// What the words of the command line ask for. 60 alone.
+fn asked_of(alloc: Global, words: &[u8]) -> Result<Line, Refusal>
+    ensures asked { IfOk result (IsLineOf words.now) }
+    ensures runnable { IfOk result IsRunnable }
+    ensures memory { IsOkUnless result Memory }
+{
+    match words_in(alloc, words)? {
+        Some(words) => read_words(alloc, words.as_slice()),
+        None => {
+            let fault = String::from_str(alloc, "error: the command line is not UTF-8\n")?;
+            Ok(Line::Fault(fault))
+        }
+    }
+}

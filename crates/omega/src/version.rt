@@ -1,0 +1,18 @@
+ghost use Rattle.std.specs.Prelude.{◌≡◌, length};
+ghost use Rattle.omega_arrays.specs.Room.{laid_over};
+
+use omega_arrays::copied;
+
+/// The version of the library, which is that of the program.
+const VERSION: &str = "1.0.0";
+
+/// Writes the version of the library, as many bytes as there is room for, and gives how many it has.
+#[unsafe(no_mangle)]
+pub extern "C" fn omega_version(room: &mut [u8]) -> usize
+    ensures count { result ≡ length VERSION.now }
+    ensures written { room.new ≡ laid_over VERSION.now room.old }
+{
+    let text = VERSION.as_bytes();
+    copied(text, room);
+    text.len()
+}

@@ -1,0 +1,5 @@
+-- Lemmas by theme.
+pub mod Answering
+pub mod Built
+pub mod Firsts
+pub mod Shapes

@@ -1,0 +1,142 @@
+//! Solutions as arrays, judged.
+ghost use Rattle.std.specs.Prelude.{◌≡◌, IfNone, IfOk, IfErr, IfSome, IsOk, IsOkUnless, OnErr, None, length};
+ghost use Rattle.omega_text.specs.declared.refusal.Refusal.TheVariants.{Memory};
+ghost use Rattle.omega_game.specs.Solution.{IsSolution, WinsGiven};
+ghost use Rattle.omega_game_answers.specs.Verify.{LosesGiven};
+ghost use Rattle.omega_arrays.specs.Answer.{solution_in, wrong_answer};
+ghost use Rattle.omega_arrays.specs.Arrays.{nodes_in};
+ghost use Rattle.omega_arrays.specs.Judging.{IsFinding, IsJudged, IsJudgingRefusal, IsSolutionRefusal, IsTold};
+ghost use Rattle.omega_arrays.specs.Shape.{IsSized};
+ghost use Rattle.omega_arrays.specs.Solving.{or_shape};
+
+use crate::answer::{is_solution, solution_held, wrong_answer};
+use crate::arrays::Arrays;
+use crate::building::built;
+use crate::copying::copied;
+use crate::fault::ArrayFault;
+use omega_game::{Game, Lasso, Player, Refusal, Solution, TaskFault, counterexample};
+use std::alloc::Global;
+
+/// What is said of a solution.
+#[repr(C)]
+#[derive(Clone, Copy, Debug, PartialEq, Eq)]
+pub struct Verdict {
+    /// 1 if for each player the choices win from all nodes given to that player, or else 0.
+    pub is_right: u32,
+    /// Where it is 0, the number of the least player whose choices do not.
+    pub player: u32,
+    /// Where it is 0, how many places the stem of the counterexample has.
+    pub stem: u64,
+    /// Where it is 0, how many places its cycle has.
+    pub cycle: u64,
+}
+
+/// Says whether the choices win from all nodes given to each player. Where they do not, a counterexample is written:
+/// the places of a walk to a cycle, and those of the cycle, as many of each as there is room for. 57, 13, 14, 53 where
+/// the arrays hold no solution of the game, or 60: nothing is written then.
+pub fn verify_arrays(
+    alloc: Global,
+    arrays: &Arrays<'_>,
+    winners: &[u8],
+    choices: &[u32],
+    stem: &mut [u32],
+    cycle: &mut [u32],
+) -> Result<Verdict, ArrayFault>
+    ensures judged { IfOk result (λ verdict. IsJudged (nodes_in arrays.now) (solution_in winners.now choices.now) verdict stem.old stem.new cycle.old cycle.new) }
+    ensures solution { IsOk result → IsSolution (nodes_in arrays.now) (solution_in winners.now choices.now) }
+    ensures faultless { IsOk result → wrong_answer arrays.now winners.now choices.now ≡ None }
+    ensures sized { IsOk result → IsSized arrays.now }
+    ensures stem_kept { OnErr result (stem.new ≡ stem.old) }
+    ensures cycle_kept { OnErr result (cycle.new ≡ cycle.old) }
+    ensures refused { IfErr result (or_shape (wrong_answer arrays.now winners.now choices.now) (IsJudgingRefusal arrays.now winners.now choices.now)) }
+{
+    if let Some(wrong) = wrong_answer(arrays, winners, choices) {
+        return Err(ArrayFault::BadShape(wrong));
+    }
+    let game = built(alloc, arrays)?;
+    let found = judged(alloc, &game, winners, choices)?;
+    Ok(told(&found, stem, cycle))
+}
+
+/// Why the solution that arrays hold does not win, none where it does. 53 where it is no solution of the game, or 60.
+fn judged(
+    alloc: Global,
+    game: &Game,
+    winners: &[u8],
+    choices: &[u32],
+) -> Result<Option<(Player, Lasso)>, Refusal>
+    requires winners { length winners.now ≡ length game.now }
+    requires choices { length choices.now ≡ length game.now }
+    ensures finding { IfOk result (IsFinding game.now (solution_in winners.now choices.now)) }
+    ensures solution { IsOk result → IsSolution game.now (solution_in winners.now choices.now) }
+    ensures refused { IfErr result (IsSolutionRefusal game.now (solution_in winners.now choices.now)) }
+{
+    let solution = solution_held(alloc, winners, choices)?;
+    if !is_solution(game, &solution, winners, choices) {
+        return Err(Refusal::Task(TaskFault::BadSolution));
+    }
+    let found = refuted(alloc, game, &solution)?;
+    Ok(found)
+}
+
+/// Why a solution does not win, for the least player whose choices do not; none where they do. 60 alone.
+fn refuted(
+    alloc: Global,
+    game: &Game,
+    solution: &Solution,
+) -> Result<Option<(Player, Lasso)>, Refusal>
+    requires { IsSolution game.now solution.now }
+    ensures finding { IfOk result (IsFinding game.now solution.now) }
+    ensures memory { IsOkUnless result Memory }
+{
+    if let Some(lasso) = lost_by(alloc, game, solution, Player::Zero)? {
+        return Ok(Some((Player::Zero, lasso)));
+    }
+    if let Some(lasso) = lost_by(alloc, game, solution, Player::One)? {
+        return Ok(Some((Player::One, lasso)));
+    }
+    Ok(None)
+}
+
+/// Why the choices of a player do not win from all nodes given to the player, none where they do. 60 alone.
+fn lost_by(
+    alloc: Global,
+    game: &Game,
+    solution: &Solution,
+    player: Player,
+) -> Result<Option<Lasso>, Refusal>
+    requires { IsSolution game.now solution.now }
+    ensures wins { IfOk result (λ found. IfNone found (WinsGiven game.now solution.now player)) }
+    ensures loses { IfOk result (λ found. IfSome found (LosesGiven game.now solution.now player)) }
+    ensures memory { IsOkUnless result Memory }
+{
+    game.keeps_limits();
+    let places = solution.places_given(alloc, player)?;
+    let strategy = solution.strategy(player);
+    let found = counterexample(alloc, game, player, places.as_slice(), strategy)?;
+    Ok(found)
+}
+
+/// The verdict, and the places of a counterexample written.
+fn told(found: &Option<(Player, Lasso)>, stem: &mut [u32], cycle: &mut [u32]) -> Verdict
+    ensures { IsTold found.now result stem.old stem.new cycle.old cycle.new }
+{
+    match found {
+        None => Verdict {
+            is_right: 1,
+            player: 0,
+            stem: 0,
+            cycle: 0,
+        },
+        Some((player, lasso)) => {
+            copied(lasso.stem.as_slice(), stem);
+            copied(lasso.cycle.as_slice(), cycle);
+            Verdict {
+                is_right: 0,
+                player: player.number(),
+                stem: lasso.stem.as_slice().len() as u64,
+                cycle: lasso.cycle.as_slice().len() as u64,
+            }
+        }
+    }
+}

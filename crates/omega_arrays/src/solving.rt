@@ -1,0 +1,76 @@
+//! Games as arrays, solved.
+ghost use Rattle.std.specs.Prelude.{◌≡◌, ◌≤◌, All, IfOk, IfErr, IsOk, OnOk, OnErr, None, length};
+ghost use Rattle.omega_game.specs.Solution.{IsExactSolution};
+ghost use Rattle.omega_solve.specs.Limits.{most_lifts};
+ghost use Rattle.omega_arrays.specs.Answer.{solution_in, wrong_room};
+ghost use Rattle.omega_arrays.specs.Arrays.{nodes_in};
+ghost use Rattle.omega_arrays.specs.Shape.{IsSized};
+ghost use Rattle.omega_arrays.specs.Solving.{AreLifts, IsSolvingRefusal, IsWholeRefusal, budget_of, or_shape};
+
+use crate::answer::{write_solution, wrong_room};
+use crate::arrays::Arrays;
+use crate::building::built;
+use crate::fault::ArrayFault;
+use crate::lifting::lifted;
+use omega_game::{Game, Refusal, Solution};
+use omega_search::solve_by_search;
+use omega_solve::MOST_LIFTS;
+use std::alloc::Global;
+
+/// How many lifts the run for each player made.
+#[repr(C)]
+#[derive(Clone, Copy, Debug, PartialEq, Eq)]
+pub struct Lifts {
+    /// Those of player 0's run.
+    pub zero: u64,
+    /// Those of player 1's run.
+    pub one: u64,
+}
+
+/// Solves the game of the arrays for both players, and writes for each place its winner, and the winner's choice there,
+/// or `NO_CHOICE` where the winner does not own the node. A search is tried first if that is asked for; where it gives
+/// an answer no lifts are made. Each run makes at most as many lifts as the budget, at most 2^40. 57, 13, 14, 50, 51 or
+/// 60: nothing is written then.
+pub fn solve_arrays(
+    alloc: Global,
+    arrays: &Arrays<'_>,
+    by_search: bool,
+    budget: u64,
+    winners: &mut [u8],
+    choices: &mut [u32],
+) -> Result<Lifts, ArrayFault>
+    ensures exact { OnOk result (IsExactSolution (nodes_in arrays.now) (solution_in winners.new choices.new)) }
+    ensures players { OnOk result (All (λ p. p ≤ 1) winners.new) }
+    ensures lifts { IfOk result (AreLifts by_search (nodes_in arrays.now) (budget_of budget)) }
+    ensures faultless { IsOk result → wrong_room arrays.now (length winners.old) (length choices.old) ≡ None }
+    ensures sized { IsOk result → IsSized arrays.now }
+    ensures winners_kept { OnErr result (winners.new ≡ winners.old) }
+    ensures choices_kept { OnErr result (choices.new ≡ choices.old) }
+    ensures refused { IfErr result (or_shape (wrong_room arrays.now (length winners.old) (length choices.old)) (IsSolvingRefusal arrays.now (budget_of budget))) }
+{
+    if let Some(wrong) = wrong_room(arrays, winners.len(), choices.len()) {
+        return Err(ArrayFault::BadShape(wrong));
+    }
+    let game = built(alloc, arrays)?;
+    let (solution, lifts) = solved(alloc, &game, by_search, budget.min(MOST_LIFTS))?;
+    write_solution(&game, &solution, winners, choices);
+    Ok(lifts)
+}
+
+/// The solution of a game, by the search if that is asked for and gives one, or else by lifting. 50, 51 or 60.
+fn solved(
+    alloc: Global,
+    game: &Game,
+    by_search: bool,
+    budget: u64,
+) -> Result<(Solution, Lifts), Refusal>
+    requires { budget ≤ most_lifts }
+    ensures exact { IfOk result (λ found. IsExactSolution game.now found.0) }
+    ensures lifts { IfOk result (λ found. AreLifts by_search game.now budget found.1) }
+    ensures refused { IfErr result (IsWholeRefusal game.now budget) }
+{
+    if by_search && let Some(solution) = solve_by_search(alloc, game)? {
+        return Ok((solution, Lifts { zero: 0, one: 0 }));
+    }
+    lifted(alloc, game, budget)
+}
