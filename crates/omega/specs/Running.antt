@@ -58,7 +58,8 @@ pub record IsObeyedSomehow (reads : List ℕ → List ℕ → Type 0) (refuses :
   pub failed_tells' : ℕ
   pub obeyed : IsObeyed reads refuses asked status (Tells told told' failed_tells failed_tells') before (streams unread failed_reads held failed_writes)
 
--- the program obeyed the words, with the input, where each file holds the text; it wrote the output, and told the errors
+-- the program obeyed the words, with the input, where each file holds the text; it wrote the output, and told the
+-- errors
 pub record IsRun (words input file : List ℕ) (status : ℕ) (output errors : List ℕ) : Type 0 where
   pub asked : Result Line Refusal
   pub read : IsAsked words asked

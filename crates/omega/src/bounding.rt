@@ -6,7 +6,8 @@ use crate::outcome::Outcome;
 use omega_arrays::{Bounds, bound_arrays};
 use std::alloc::Global;
 
-/// The most lifts that a run for each player makes on the game of the arrays. 57, 13, 14 or 60: nothing is written then.
+/// The most lifts that a run for each player makes on the game of the arrays. 57, 13, 14 or 60: nothing is written
+/// then.
 #[unsafe(no_mangle)]
 pub extern "C" fn omega_bound(alloc: Global, game: &Game<'_>, bounds: &mut Bounds) -> Outcome
     ensures { let a = arrays game.now.priorities.now game.now.owners.now game.now.starts.now game.now.successors.now in IsBoundOutcome a result bounds.old bounds.new }

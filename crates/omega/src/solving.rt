@@ -9,8 +9,8 @@ use std::alloc::Global;
 
 /// Solves the game of the arrays for both players: the winner of each node, 0 or 1, and the winner's choice there, or
 /// 2^32 - 1 where the winner does not own the node; and how many lifts the run for each player made. With `by_search`
-/// not 0 a search is tried first, which makes no lifts; a budget above 2^40 is taken for 2^40. 57, 13, 14, 50, 51 or 60:
-/// nothing is written then.
+/// not 0 a search is tried first, which makes no lifts; a budget above 2^40 is taken for 2^40. 57, 13, 14, 50, 51 or
+/// 60: nothing is written then.
 #[unsafe(no_mangle)]
 pub extern "C" fn omega_solve(
     alloc: Global,

@@ -5,7 +5,8 @@ use Rattle.omega_game.specs.Game.{Node}
 use Rattle.omega_game.specs.declared.player.Player.{Player}
 use Rattle.omega_game.specs.declared.player.Player.TheVariants.{One, Zero}
 
--- by place the priorities, the owners, and where the successors begin; and the successors, those of the first node first
+-- by place the priorities, the owners, and where the successors begin; and the successors, those of the first node
+-- first
 pub record GameArrays : Type 0 where
   pub priorities : List ℕ
   pub owners : List ℕ
