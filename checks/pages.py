@@ -22,8 +22,8 @@ from widths import width_checks
 
 MARK = "\x01done\x01"
 SHELL = "sh"
-# Programs that a command may need, and without which it is passed over.
-PERHAPS = ("dot",)
+# Programs that a command may need, and without which it is passed over, by how the command calls them.
+PERHAPS = {"dot": r"\bdot -T", "parallel": r"\bparallel -"}
 # Solvers that are shown in blocks that are not run.
 ELSEWHERE = ("pgsolver ", "oink ")
 
@@ -31,7 +31,7 @@ ELSEWHERE = ("pgsolver ", "oink ")
 def pages():
     """The pages by their paths, with their texts."""
     paths = [os.path.join(ROOT, "README.md"), *sorted(glob.glob(os.path.join(ROOT, "docs", "*.md")))]
-    for path in [*paths, os.path.join(ROOT, "CHANGELOG.md")]:
+    for path in [*paths, os.path.join(ROOT, "CONTRIBUTING.md"), os.path.join(ROOT, "CHANGELOG.md")]:
         with open(path) as file:
             yield os.path.relpath(path, ROOT), file.read()
 
@@ -87,7 +87,7 @@ def outputs_of(commands, folder):
 
 
 def is_passed_over(command):
-    return any(re.search(rf"\b{word} -T", command) and not shutil.which(word) for word in PERHAPS)
+    return any(re.search(call, command) and not shutil.which(name) for name, call in PERHAPS.items())
 
 
 def block_checks(label, block, folder):

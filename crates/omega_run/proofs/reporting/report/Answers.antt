@@ -2,7 +2,7 @@
 use Rattle.std.proofs.Common.{◌≡◌, inr, rules}
 use Rattle.omega_text.specs.declared.refusal.Refusal.TheVariants.{Memory}
 use Rattle.omega_run.proofs.Telling.{memory-line}
-use Rattle.omega_run.proofs.obeying.report.Goals as goal
+use Rattle.omega_run.proofs.reporting.report.Goals as goal
 
 pub returns : goal.returns
 returns g c =

@@ -1,7 +1,7 @@
 -- `report_behind`: where no write of the lines failed the refusal is told behind them, and else nothing.
 use Rattle.std.proofs.Common.{◌∙◌, arith, refl}
 use Rattle.omega_run.proofs.Performing.{reports_any, reports_as}
-use Rattle.omega_run.proofs.obeying.report_behind.Goals as goal
+use Rattle.omega_run.proofs.reporting.report_behind.Goals as goal
 
 pub returns-then-failures-sound : goal.returns-then-failures-sound
 returns-then-failures-sound g c =
