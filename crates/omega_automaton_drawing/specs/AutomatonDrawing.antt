@@ -71,19 +71,26 @@ style_part Plain = []
 style_part Stem = codes ", style=bold, color=blue"
 style_part Cycle = codes ", style=bold, color=red"
 
+-- the line of the number of an edge of a lasso
+abbrev pub number_line : Role → ℕ → List ℕ
+number_line Plain number = []
+number_line Stem number = codes "edge " ++ (decimal number ++ line_end)
+number_line Cycle number = codes "edge " ++ (decimal number ++ line_end)
+
 -- the beginning of an arrow that leaves a state
 abbrev pub tail_part : ℕ → List ℕ
 tail_part state = codes "  " ++ (decimal state ++ codes " -> ")
 
--- the label of an edge, a line each for its expression and its sets, and its style
-abbrev pub attributes_part : List (List ℕ) → Role → Edge → List ℕ
-attributes_part names role edge =
-    codes " [label=\"" ++ (edge_label_line names edge.label ++ (marks_line edge.marks ++ (codes "\"" ++ style_part role)))
+-- the label of an edge, a line each for its number on a lasso, its expression and its sets, and its style
+abbrev pub attributes_part : List (List ℕ) → ℕ → Role → Edge → List ℕ
+attributes_part names number role edge =
+    codes " [label=\"" ++ (number_line role number ++ (edge_label_line names edge.label ++ (marks_line edge.marks
+    ++ (codes "\"" ++ style_part role))))
 
 -- an edge of a state that leads to one state
-abbrev pub arrow_line : List (List ℕ) → Role → ℕ → Edge → List ℕ
-arrow_line names role state edge =
-    tail_part state ++ (decimal (slice_index edge.targets 0) ++ (attributes_part names role edge ++ codes "];\n"))
+abbrev pub arrow_line : List (List ℕ) → ℕ → Role → ℕ → Edge → List ℕ
+arrow_line names number role state edge =
+    tail_part state ++ (decimal (slice_index edge.targets 0) ++ (attributes_part names number role edge ++ codes "];\n"))
 
 -- the point of a universal branch has the number of its edge
 abbrev pub branch_name : ℕ → List ℕ
@@ -100,13 +107,13 @@ branch_arrow number role target =
 -- an edge of a state that leads to several states at once: a line to a point, and from there an arrow to each
 abbrev pub branch_text : List (List ℕ) → ℕ → Role → ℕ → Edge → List ℕ
 branch_text names number role state edge =
-    tail_part state ++ (branch_name number ++ (attributes_part names role edge ++ (codes ", arrowhead=none];\n"
+    tail_part state ++ (branch_name number ++ (attributes_part names number role edge ++ (codes ", arrowhead=none];\n"
     ++ (branch_point number ++ flat_map (branch_arrow number role) edge.targets))))
 
 -- an edge of a state, with its number and its role
 abbrev pub edge_text : List (List ℕ) → ℕ → Role → ℕ → Edge → List ℕ
 edge_text names number role state edge =
-    if length edge.targets == 1 then arrow_line names role state edge else branch_text names number role state edge
+    if length edge.targets == 1 then arrow_line names number role state edge else branch_text names number role state edge
 
 -- an edge of the body, with its number
 abbrev pub body_edge : Description → (ℕ → Role) → ℕ → BodyEdge → List ℕ

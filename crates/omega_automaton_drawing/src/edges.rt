@@ -4,7 +4,7 @@ ghost use Rattle.std.specs.Prelude.{◌≡◌, ◌+◌, ◌^◌, ◌≤◌, ◌<
 ghost use Rattle.std.specs.List.{flat_map};
 ghost use Rattle.std.specs.Option.{option_copied};
 ghost use Rattle.omega_automaton.specs.Automaton.{IsEdge, IsLabel, IsState, edge_count, edges_from, edges_of};
-ghost use Rattle.omega_automaton_drawing.specs.AutomatonDrawing.{arrow_line, attributes_part, body_edge, branch_arrow, branch_name, branch_point, branch_text, edge_label_line, edge_text, style_part, tail_part};
+ghost use Rattle.omega_automaton_drawing.specs.AutomatonDrawing.{arrow_line, attributes_part, body_edge, branch_arrow, branch_name, branch_point, branch_text, edge_label_line, edge_text, number_line, style_part, tail_part};
 ghost use Rattle.omega_dot.specs.Numbered.{numbered};
 ghost use Rattle.omega_automaton_drawing.specs.private.layout.Marking.{role_at};
 
@@ -72,7 +72,7 @@ fn write_edge(
     ensures memory { IsOkUnless result Refusal.Memory }
 {
     if edge.targets().len() == 1 {
-        write_arrow(automaton, state, edge, role, out)
+        write_arrow(automaton, state, edge, number, role, out)
     } else {
         write_branch(automaton, state, edge, number, role, out)
     }
@@ -83,17 +83,18 @@ fn write_arrow(
     automaton: &Automaton,
     state: u32,
     edge: &EdgeRef<'_>,
+    number: usize,
     role: Role,
     out: &mut Vec<u8>,
 ) -> Result<(), Refusal>
     requires edge { IsEdge automaton.now edge.now }
     requires single { length edge.now.targets ≡ 1 }
-    ensures ok { OnOk result (out.new.items ≡ out.old.items ++ arrow_line automaton.now.propositions role state edge.now) }
+    ensures ok { OnOk result (out.new.items ≡ out.old.items ++ arrow_line automaton.now.propositions number role state edge.now) }
     ensures memory { IsOkUnless result Refusal.Memory }
 {
     write_tail(state, out)?;
     write_number(u128::from(edge.targets()[0]), out)?;
-    write_attributes(automaton, edge, role, out)?;
+    write_attributes(automaton, edge, number, role, out)?;
     out.extend_from_slice(b"];\n")?;
     Ok(())
 }
@@ -113,7 +114,7 @@ fn write_branch(
 {
     write_tail(state, out)?;
     write_branch_name(number, out)?;
-    write_attributes(automaton, edge, role, out)?;
+    write_attributes(automaton, edge, number, role, out)?;
     out.extend_from_slice(b", arrowhead=none];\n")?;
     write_branch_point(number, out)?;
     write_branch_arrows(number, role, edge.targets(), out)?;
@@ -131,18 +132,20 @@ fn write_tail(state: u32, out: &mut Vec<u8>) -> Result<(), Refusal>
     Ok(())
 }
 
-/// Appends the label of an edge and its style.
+/// Appends the label of an edge, with its number if it is on a lasso, and its style.
 fn write_attributes(
     automaton: &Automaton,
     edge: &EdgeRef<'_>,
+    number: usize,
     role: Role,
     out: &mut Vec<u8>,
 ) -> Result<(), Refusal>
     requires { IsEdge automaton.now edge.now }
-    ensures ok { OnOk result (out.new.items ≡ out.old.items ++ attributes_part automaton.now.propositions role edge.now) }
+    ensures ok { OnOk result (out.new.items ≡ out.old.items ++ attributes_part automaton.now.propositions number role edge.now) }
     ensures memory { IsOkUnless result Refusal.Memory }
 {
     out.extend_from_slice(b" [label=\"")?;
+    write_number_line(role, number, out)?;
     write_edge_label(automaton, edge.label(), out)?;
     write_marks(edge.marks(), out)?;
     out.push(b'"')?;
@@ -165,6 +168,22 @@ fn write_edge_label(
         out.extend_from_slice(b"\\n")?;
     }
     Ok(())
+}
+
+/// Appends the line of the number of an edge of a lasso.
+fn write_number_line(role: Role, number: usize, out: &mut Vec<u8>) -> Result<(), Refusal>
+    ensures ok { OnOk result (out.new.items ≡ out.old.items ++ number_line role number) }
+    ensures memory { IsOkUnless result Refusal.Memory }
+{
+    match role {
+        Role::Plain => Ok(()),
+        Role::Stem | Role::Cycle => {
+            out.extend_from_slice(b"edge ")?;
+            write_number(number as u128, out)?;
+            out.extend_from_slice(b"\\n")?;
+            Ok(())
+        }
+    }
 }
 
 /// Appends the style of a role.

@@ -1,11 +1,11 @@
 //! The names of propositions in place of their numbers.
 
-ghost use Rattle.std.specs.Prelude.{◌≡◌, ◌≤◌, true, ◌++◌, IfOk, IfSome, IsOkUnless, None, OnOk, length};
+ghost use Rattle.std.specs.Prelude.{◌≡◌, ◌≤◌, ◌||◌, true, ◌++◌, IfOk, IfSome, IsOkUnless, None, OnOk, length};
 ghost use Rattle.omega_acc.specs.label.Label.{propositions};
 ghost use Rattle.omega_automaton.specs.Automaton.{AreBelow};
 ghost use Rattle.omega_automaton.specs.Limits.{most_propositions};
-ghost use Rattle.omega_text.specs.Bytes.{is_digit};
-ghost use Rattle.omega_automaton_drawing.specs.Expressions.{named_text};
+ghost use Rattle.omega_text.specs.Bytes.{is_digit, is_letter};
+ghost use Rattle.omega_automaton_drawing.specs.Expressions.{drawn_name, is_constant, is_identifier, named_text};
 ghost use Rattle.omega_automaton_drawing.specs.private.layout.Naming.{AreOwed, pending_name, sign_text, with_digit, with_names};
 
 use omega_acc::{Label, write_label};
@@ -81,12 +81,54 @@ fn write_pending(
     ensures ok { OnOk result (out.new.items ≡ out.old.items ++ pending_name names.now number) }
     ensures memory { IsOkUnless result Refusal.Memory }
 {
-    if let Some(number) = number {
-        if let Some(name) = names.get(number as usize) {
-            write_escaped(name.as_slice(), out)?;
-        }
+    let Some(number) = number else {
+        return Ok(());
+    };
+    match names.get(number as usize) {
+        Some(name) => write_drawn(name.as_slice(), out),
+        None => write_drawn(b"", out),
     }
+}
+
+/// Appends a name as it is drawn: in quotes, where it could be taken for something else.
+fn write_drawn(name: &[u8], out: &mut Vec<u8>) -> Result<(), Refusal>
+    ensures ok { OnOk result (out.new.items ≡ out.old.items ++ drawn_name name.now) }
+    ensures memory { IsOkUnless result Refusal.Memory }
+{
+    if is_identifier(name) && !is_constant(name) {
+        return write_escaped(name, out);
+    }
+    out.extend_from_slice(b"\\\"")?;
+    write_escaped(name, out)?;
+    out.extend_from_slice(b"\\\"")?;
     Ok(())
+}
+
+/// Whether a name is letters, digits and underscores, of which the first is no digit.
+fn is_identifier(name: &[u8]) -> bool
+    ensures { result ≡ is_identifier name.now }
+{
+    !name.is_empty() && is_letter(name[0]) && name.iter().all(|byte| is_letter_or_digit(*byte))
+}
+
+/// Whether a name is that of a constant.
+fn is_constant(name: &[u8]) -> bool
+    ensures { result ≡ is_constant name.now }
+{
+    name.len() == 1 && (name[0] == b't' || name[0] == b'f')
+}
+
+/// A letter or an underscore.
+fn is_letter(byte: u8) -> bool
+    ensures { result ≡ is_letter byte }
+{
+    byte.is_ascii_alphabetic() || byte == b'_'
+}
+
+fn is_letter_or_digit(byte: u8) -> bool
+    ensures { result ≡ (is_letter byte || is_digit byte) }
+{
+    is_letter(byte) || byte.is_ascii_digit()
 }
 
 /// Appends a sign of a label.

@@ -9,7 +9,7 @@ pub returns-clause-ok : goal.returns-clause-ok
 returns-clause-ok c =
     behind c.args.out.now.items (tail_part c.args.state) _ c.in_ok-write_tail.ensures.ok
     (behind c.write_tail.new.out.items (branch_name c.args.number) _ c.in_ok-write_branch_name.ensures.ok
-    (behind c.write_branch_name.new.out.items (attributes_part c.args.automaton.now.propositions c.args.role c.args.edge.now) _ c.in_ok-write_attributes.ensures.ok
+    (behind c.write_branch_name.new.out.items (attributes_part c.args.automaton.now.propositions c.args.number c.args.role c.args.edge.now) _ c.in_ok-write_attributes.ensures.ok
     (behind c.write_attributes.new.out.items (codes ", arrowhead=none];\n") _ c.in_ok-extend_from_slice.ensures.items
     (behind c.extend_from_slice.new.self.items (branch_point c.args.number) (flat_map (branch_arrow c.args.number c.args.role) c.args.edge.now.targets)
     c.in_ok-write_branch_point.ensures.ok
