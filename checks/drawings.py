@@ -31,6 +31,8 @@ AUTOMATA = [
     b'--BODY-- State: [0&!1|t] 0 "ze&ro" {1} 1 0&3 {0} State: 1 [!(0|1)&0] 3 {0 1} [1] 1 --END--',
     b'HOA: v1 name: "\n\t\x01\xff" States: 2 Start: 1 AP: 1 "\r&" acc-name: Buchi Acceptance: 1 Inf(0) --BODY-- '
     b"State: 1 [0] 0 State: 0 [!0] 1 {0} [0] 0 --END--",
+    b'HOA: v1 States: 1 Start: 0 AP: 6 "a & b" "t" "f" "" "_x1" "1x" Acceptance: 0 t --BODY-- '
+    b'State: 0 [0&1|!2&3] 0 [4] 0 [5|!4] 0 --END--',
     b"HOA: v1 States: 2147483647 Start: 2147483646 acc-name: all Acceptance: 0 t --BODY-- --END--",
     b"HOA: v1 States: 3 Start: 0 acc-name: co-Buchi Acceptance: 1 Fin(0) --BODY-- State: 0 [t] 0 {0} [t] 1 State: 1 [t] 1 --END--",
     b"HOA: v1 States: 1 Start: 0 acc-name: none Acceptance: 0 f --BODY-- State: 0 [t] 0 --END--",
@@ -59,10 +61,17 @@ def game_drawing(nodes, solution=None):
     return b"".join(lines) + b"}\n"
 
 
+def drawn_name(name):
+    """The name of a proposition, in quotes where it is no identifier, or a constant."""
+    if re.fullmatch(rb"[A-Za-z_][A-Za-z0-9_]*", name) and name not in (b"t", b"f"):
+        return name
+    return rb'\"' + escaped(name) + rb'\"'
+
+
 def named(tree, names):
     """A label with the names of its propositions, in parentheses where the canonical text has them."""
     if tree[0] == "number":
-        return escaped(names[tree[1]][1:-1])
+        return drawn_name(names[tree[1]][1:-1])
     if tree[0] not in BINDS:
         return tree[0].encode()
 
@@ -110,6 +119,7 @@ def automaton_drawing(automaton, stem=(), cycle=()):
     for number, (state, edge) in numbered:
         style = b", style=bold, color=red" if number in cycle else b", style=bold, color=blue" if number in stem else b""
         label = b"" if edge.label is None else text_of(edge.label) + b"\\n"
+        label = b"edge %d\\n%s" % (number, label) if style else label
         lines += edge_lines(number, state, edge, label, style)
     return b"".join(lines) + b"}\n"
 
