@@ -5,6 +5,7 @@ pub mod Lasso
 pub mod Counters
 pub mod EmptinessGame
 pub mod Refusing
+pub mod Searching
 pub mod Runs
 pub mod Words
 pub mod Laws

@@ -4,6 +4,7 @@
 mod branching;
 mod deciding;
 mod edge_ranges;
+mod edge_table;
 mod following;
 mod game_laws;
 mod games;
@@ -12,6 +13,7 @@ mod kinds;
 mod laws;
 mod marks;
 mod nodes;
+mod numbering;
 mod searching;
 mod starting;
 mod turning;

@@ -1,149 +1,123 @@
-//! An accepting lasso found by a search of the emptiness game, without a solver.
-ghost use Rattle.std.specs.Prelude.{◌≡◌, ◌++◌, ◌<◌, [], ◌∷◌, All, IfErr, IfOk, IsOkUnless, None, OnOk, length, replicate};
-ghost use Rattle.omega_empty.specs.EmptinessGame.{IsEmptinessGame};
-ghost use Rattle.omega_empty.specs.GameLaws.{number_at, numbers_on};
-ghost use Rattle.omega_empty.specs.Refusing.{IsGameRefusal, IsGiven};
+//! An accepting lasso of any acceptance formula, found by a search of the automaton itself.
+ghost use Rattle.std.specs.Prelude.{◌≡◌, ◌<◌, ◌^◌, ℕ, List, false, filter, length, map, All, IfErr, IfOk, IsOkUnless, OnOk, slice_index_or};
+ghost use Rattle.omega_automaton.specs.Automaton.{edges_of};
+ghost use Rattle.omega_components.specs.Graph.{AreEdges, edge_at};
+ghost use Rattle.omega_empty.specs.EmptinessGame.{AreUsable, has_branch};
+ghost use Rattle.omega_empty.specs.Lasso.{marks_of};
+ghost use Rattle.omega_empty.specs.Searching.{IsSearchRefusal, IsSearchable};
 ghost use Rattle.omega_empty.specs.Verdict.{IsVerdict};
-ghost use Rattle.omega_empty.specs.private.layout.Starting.{start_places, places_of_start};
-ghost use Rattle.omega_empty.specs.private.layout.Passing.{PassesLasso};
+ghost use Rattle.omega_empty.specs.private.layout.Numbering.{AreFlags, AreNumbered};
 
-use crate::game_laws::{unwon_is_empty, won_walks_accept};
-use crate::games::emptiness_game;
+use crate::branching::has_branch;
+use crate::edge_table::edge_table;
+use crate::numbering::{Numbered, numbered};
 use crate::turning::turned;
+use crate::usable::usable_edges;
 use crate::verdict::Verdict;
-use omega_automaton::{Automaton, Refusal, Seq};
-use omega_game::{Game, Lasso, Player, Strategy, counterexample};
-use omega_region::regions_are_apart;
+use omega_accepting::accepting_walk;
+use omega_automaton::{Automaton, Refusal};
+use omega_components::{Graph, path, reached};
+use omega_text::{Numbers, TaskFault};
 use std::alloc::Global;
 
-/// Whether an automaton is empty, or an accepting lasso. The lasso is what shows that in the emptiness game the
-/// strategy without a choice does not win for player 1 from the nodes of the starts. There is no budget: the cost is
-/// that of `counterexample` in the game. Refused as `emptiness_game` refuses, or with 60.
+/// Whether an automaton is empty, or an accepting lasso, whatever its acceptance formula and its name. Refused are, the
+/// first by number: 41 (a start or an edge lists several states), 42 (a label mentions too many propositions), or 60.
+/// The cost is that of `accepting_walk` in its usable edges that a start reaches.
 pub fn lasso(alloc: Global, automaton: &Automaton) -> Result<Verdict, Refusal>
     ensures verdict { IfOk result (IsVerdict automaton.now) }
-    ensures given { OnOk result (IsGiven automaton.now) }
-    ensures refused { IfErr result (IsGameRefusal automaton.now) }
+    ensures given { OnOk result (IsSearchable automaton.now) }
+    ensures refused { IfErr result (IsSearchRefusal automaton.now) }
 {
-    let game = emptiness_game(alloc, automaton)?;
-    searched(alloc, automaton, &game)
+    if has_branch(automaton) {
+        return Err(Refusal::Task(TaskFault::UniversalBranch));
+    }
+    let usable = usable_edges(alloc, automaton)?;
+    let verdict = searched(alloc, automaton, usable.as_slice())?;
+    Ok(verdict)
 }
 
-/// The verdict that the emptiness game gives. 60 alone.
-fn searched(alloc: Global, automaton: &Automaton, game: &Game) -> Result<Verdict, Refusal>
-    requires game { IsEmptinessGame automaton.now game.now }
+/// The verdict of an automaton whose usable edges are told. 60 alone.
+fn searched(alloc: Global, automaton: &Automaton, usable: &[bool]) -> Result<Verdict, Refusal>
+    requires plain { has_branch automaton.now ≡ false }
+    requires usable { AreUsable automaton.now usable.now }
     ensures verdict { IfOk result (IsVerdict automaton.now) }
     ensures memory { IsOkUnless result Refusal.Memory }
 {
-    won_walks_accept();
-    unwon_is_empty();
-    regions_are_apart();
-    automaton.keeps_limits();
-    game.keeps_limits();
-    let places = start_places(alloc, automaton, game)?;
-    let strategy = free_strategy(alloc, game)?;
-    match counterexample(alloc, game, Player::One, places.as_slice(), &strategy)? {
-        None => Ok(Verdict::Empty),
-        Some(found) => passed(alloc, automaton, game, &found),
-    }
+    let table = edge_table(alloc, automaton)?;
+    let numbered = numbered(alloc, automaton, table.ends.as_slice())?;
+    found_in(alloc, automaton, usable, table.marks.as_slice(), &numbered)
 }
 
-/// The strategy without a choice, which leaves each edge possible. 60 alone.
-fn free_strategy(alloc: Global, game: &Game) -> Result<Strategy, Refusal>
-    ensures choice { IfOk result (λ strategy. strategy.choice ≡ replicate (length game.now) None) }
-    ensures memory { IsOkUnless result Refusal.Memory }
-{
-    let choice = vec![in alloc; None; game.len()]?;
-    Ok(Strategy {
-        choice: Seq::from_vec(choice),
-    })
-}
-
-/// The places of the nodes of the starts at the first counter. 60 alone.
-fn start_places(alloc: Global, automaton: &Automaton, game: &Game) -> Result<Vec<u32>, Refusal>
-    ensures places { IfOk result (λ places. places.items ≡ start_places automaton.now game.now) }
-    ensures memory { IsOkUnless result Refusal.Memory }
-{
-    let mut places = Vec::new(alloc);
-    for start in automaton.starts() {
-        add_start(&mut places, game, start.as_slice())?;
-    }
-    Ok(places)
-}
-
-/// Puts last the place of the node of a start of one state. 60 alone.
-fn add_start(places: &mut Vec<u32>, game: &Game, start: &[u32]) -> Result<(), Refusal>
-    ensures places { OnOk result (places.new.items ≡ places.old.items ++ places_of_start game.now start.now) }
-    ensures memory { IsOkUnless result Refusal.Memory }
-{
-    if start.len() != 1 {
-        return Ok(());
-    }
-    if let Some(place) = game.place_of(start[0]) {
-        places.push(place)?;
-    }
-    Ok(())
-}
-
-/// An accepting lasso of the edges that a lasso of places passes: those up to the first place of its cycle, which may
-/// be that of an edge, and those behind it until it comes again; entered where the stem first comes to the cycle.
-/// 60 alone.
-fn passed(
+/// The verdict of an automaton whose graph is made. 60 alone.
+fn found_in(
     alloc: Global,
     automaton: &Automaton,
-    game: &Game,
-    found: &Lasso,
+    usable: &[bool],
+    marks: &[Numbers],
+    numbered: &Numbered,
 ) -> Result<Verdict, Refusal>
-    requires passes { PassesLasso automaton.now game.now found.now }
+    requires plain { has_branch automaton.now ≡ false }
+    requires usable { AreUsable automaton.now usable.now }
+    requires marks { marks.now ≡ map marks_of (edges_of automaton.now) }
+    requires numbered { (names : List ℕ) × AreNumbered automaton.now names numbered.now.sources.items numbered.now.graph }
     ensures verdict { IfOk result (IsVerdict automaton.now) }
     ensures memory { IsOkUnless result Refusal.Memory }
 {
     automaton.keeps_limits();
-    let cycle = found.cycle.as_slice();
-    let first = cycle[0];
-    let stem = edge_numbers(alloc, automaton, game, found.stem.as_slice(), first)?;
-    let around = edge_numbers(alloc, automaton, game, &cycle[1..], first)?;
-    turned(alloc, stem.as_slice(), around.as_slice())
+    let graph = &numbered.graph;
+    let _count = graph.len();
+    let sources = numbered.sources.as_slice();
+    let numbers = chosen(alloc, usable)?;
+    let numbers = numbers.as_slice();
+    let states = reached(alloc, graph, numbers, sources)?;
+    let edges = leaving(alloc, graph, numbers, states.as_slice())?;
+    let formula = automaton.acceptance().shape(alloc)?;
+    let found = accepting_walk(alloc, graph, marks, edges.as_slice(), &formula)?;
+    match found {
+        None => Ok(Verdict::Empty),
+        Some(cycle) => {
+            let target = graph.from(cycle[0]);
+            match path(alloc, graph, numbers, sources, target)? {
+                None => unreachable!(),
+                Some(stem) => turned(alloc, stem.as_slice(), cycle.as_slice()),
+            }
+        }
+    }
 }
 
-/// The numbers of the edges whose nodes stand at places and then at a last one. 60 alone.
-fn edge_numbers(
-    alloc: Global,
-    automaton: &Automaton,
-    game: &Game,
-    places: &[u32],
-    last: u32,
-) -> Result<Vec<u32>, Refusal>
-    requires states { 0 < automaton.now.states }
-    requires places { All (λ place. place < length game.now) places.now }
-    requires last { last < length game.now }
-    ensures numbers { IfOk result (λ numbers. numbers.items ≡ numbers_on automaton.now game.now (places.now ++ last ∷ [])) }
+/// The numbers of the flags that are set. 60 alone.
+fn chosen(alloc: Global, flags: &[bool]) -> Result<Vec<u32>, Refusal>
+    requires { length flags.now < 2 ^ 32 }
+    ensures flags { IfOk result (λ numbers. AreFlags flags.now numbers.items) }
+    ensures below { IfOk result (λ numbers. All (λ number. number < length flags.now) numbers.items) }
     ensures memory { IsOkUnless result Refusal.Memory }
 {
     let mut numbers = Vec::new(alloc);
-    for place in places {
-        add_number(&mut numbers, automaton, game, *place)?;
+    for number in 0..flags.len() {
+        if flags[number] {
+            numbers.push(number as u32)?;
+        }
     }
-    add_number(&mut numbers, automaton, game, last)?;
     Ok(numbers)
 }
 
-/// Puts last the number of the edge whose node stands at a place, if one does. 60 alone.
-fn add_number(
-    numbers: &mut Vec<u32>,
-    automaton: &Automaton,
-    game: &Game,
-    place: u32,
-) -> Result<(), Refusal>
-    requires states { 0 < automaton.now.states }
-    requires place { place < length game.now }
-    ensures numbers { OnOk result (numbers.new.items ≡ numbers.old.items ++ number_at automaton.now game.now place) }
+/// Those of some edges that leave a state with a flag. 60 alone.
+fn leaving(
+    alloc: Global,
+    graph: &Graph,
+    numbers: &[u32],
+    states: &[bool],
+) -> Result<Vec<u32>, Refusal>
+    requires edges { AreEdges graph.now numbers.now }
+    requires states { length states.now ≡ graph.now.states }
+    ensures left { IfOk result (λ edges. edges.items ≡ filter (λ number. slice_index_or states.now (edge_at graph.now number).from false) numbers.now) }
     ensures memory { IsOkUnless result Refusal.Memory }
 {
-    let states = u64::from(automaton.state_count());
-    let span = states + u64::from(automaton.edge_count());
-    let within = u64::from(game.id(place)) % span;
-    if within >= states {
-        numbers.push((within - states) as u32)?;
+    let mut edges = Vec::new(alloc);
+    for number in numbers {
+        if states[graph.from(*number) as usize] {
+            edges.push(*number)?;
+        }
     }
-    Ok(())
+    Ok(edges)
 }

@@ -1,6 +1,6 @@
 -- Both lists end alike with one number more as long as these are the same.
 use Rattle.std.proofs.Common.{arith}
-use Rattle.omega_empty.proofs.finding.Entering.{none_shared, one_more_shared}
+use Rattle.omega_empty.proofs.tracing.Entering.{none_shared, one_more_shared}
 use Rattle.omega_empty.proofs.turning.shared_end.Goals as goal
 
 pub loop-shared-init : goal.loop-shared-init

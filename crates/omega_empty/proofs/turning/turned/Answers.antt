@@ -3,7 +3,7 @@ use Rattle.std.proofs.Common.{◌≡◌, ℕ, ◌-◌, List, ◌++◌, drop, len
 use Rattle.std.proofs.lemmas.List.{length-drop, take-append-drop}
 use Rattle.std.proofs.Math.Seq.{take-length}
 use Rattle.omega_empty.specs.Lasso.{IsAcceptingLasso}
-use Rattle.omega_empty.proofs.finding.Entering.{turned_lasso}
+use Rattle.omega_empty.proofs.tracing.Entering.{turned_lasso}
 use Rattle.omega_empty.proofs.turning.turned.Goals as goal
 
 pub returns-clause-verdict : goal.returns-clause-verdict

@@ -1,0 +1,18 @@
+//! A search for a closed walk of whose marks an acceptance formula holds.
+#![tactic(auto)]
+
+mod accepting;
+mod exploring;
+mod flattening;
+mod meeting;
+mod node;
+mod search;
+mod shape;
+mod stepping;
+mod task;
+mod touring;
+mod valuing;
+
+pub use accepting::accepting_walk;
+pub use omega_components::{Graph, Refusal};
+pub use shape::AccShape;

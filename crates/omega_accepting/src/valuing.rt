@@ -1,0 +1,79 @@
+//! What the marks of edges say of each part of a formula.
+ghost use Rattle.std.specs.Prelude.{◌≡◌, ◌<◌, ℕ, length, All, IfOk, IsOkUnless, slice_index_or};
+ghost use Rattle.omega_components.specs.Graph.{marked};
+ghost use Rattle.omega_accepting.specs.Rows.{row_at};
+ghost use Rattle.omega_accepting.specs.private.Formulas.{IsFormula, IsNode, tree_at};
+ghost use Rattle.omega_accepting.specs.private.Walks.{AreValues, IsReady, value_on};
+
+use crate::meeting::occurs;
+use crate::node::Node;
+use crate::search::Search;
+use omega_text::Refusal;
+use std::alloc::Global;
+
+/// What the marks of edges say of a formula.
+#[derive(Clone, Copy)]
+pub(crate) struct Value {
+    /// Whether it holds of all the edges together.
+    pub(crate) holds: bool,
+    /// Whether it holds of them where each `Fin` is true: else it holds of no closed walk.
+    pub(crate) possible: bool,
+}
+
+/// The value of each node. One pass over the edges for each atom at most. 60 alone.
+pub(crate) fn values(alloc: Global, search: &Search<'_>, edges: &[u32]) -> Result<Vec<Value>, Refusal>
+    requires formula { IsFormula search.now.nodes.now }
+    requires edges { All (λ edge. edge < length search.now.marks.now) edges.now }
+    ensures values { IfOk result (λ values. AreValues (marked search.now.graph.now (row_at search.now.marks.now)) (tree_at search.now.nodes.now) edges.now values.items) }
+    ensures count { IfOk result (λ values. length values.items ≡ length search.now.nodes.now) }
+    ensures memory { IsOkUnless result Refusal.Memory }
+{
+    let mut values = Vec::new(alloc);
+    for node in search.nodes {
+        let value = node_value(search, edges, *node, values.as_slice());
+        values.push(value)?;
+    }
+    Ok(values)
+}
+
+/// The value of the next node, by those of the nodes before it.
+fn node_value(search: &Search<'_>, edges: &[u32], node: Node, before: &[Value]) -> Value
+    requires node { IsNode (tree_at search.now.nodes.now) (length before.now) node }
+    requires edges { All (λ edge. edge < length search.now.marks.now) edges.now }
+    requires before { AreValues (marked search.now.graph.now (row_at search.now.marks.now)) (tree_at search.now.nodes.now) edges.now before.now }
+    ensures { result ≡ value_on (marked search.now.graph.now (row_at search.now.marks.now)) edges.now (tree_at search.now.nodes.now (length before.now)) }
+{
+    match node {
+        Node::Constant(value) => Value {
+            holds: value,
+            possible: value,
+        },
+        Node::Inf(negated, set) => {
+            let met = occurs(search, edges, negated, set);
+            Value {
+                holds: met,
+                possible: met,
+            }
+        }
+        Node::Fin(negated, set) => Value {
+            holds: !occurs(search, edges, negated, set),
+            possible: true,
+        },
+        Node::And(left, right) => {
+            let left = before[left as usize];
+            let right = before[right as usize];
+            Value {
+                holds: left.holds && right.holds,
+                possible: left.possible && right.possible,
+            }
+        }
+        Node::Or(left, right) => {
+            let left = before[left as usize];
+            let right = before[right as usize];
+            Value {
+                holds: left.holds || right.holds,
+                possible: left.possible || right.possible,
+            }
+        }
+    }
+}
