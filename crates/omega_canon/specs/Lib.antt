@@ -4,6 +4,3 @@ pub mod HeaderText
 pub mod BodyText
 pub mod Canonical
 pub mod Stream
-pub mod Written
-pub mod Writable
-pub mod Laws

@@ -9,7 +9,7 @@ use Rattle.omega_text.specs.Lexeme.{Lexeme}
 use Rattle.omega_text.specs.Limits.{most_text}
 use Rattle.omega_text.specs.hoa.Format.{hoa_format}
 use Rattle.omega_text.specs.hoa.Pieces.{Settles}
-use Rattle.omega_text.specs.hoa.scanning.Reading.{Any, HasRead, IsAt, IsKept}
+use Rattle.omega_text.specs.private.hoa.scanning.Reading.{Any, HasRead, IsAt, IsKept}
 use Rattle.omega_text.specs.declared.hoa.tokenizer.HoaTokenizer.{HoaTokenizer}
 use Rattle.omega_text.specs.declared.hoa.kind.HoaKind.{HoaKind}
 use Rattle.omega_text.specs.declared.refusal.Refusal.{Refusal}

@@ -13,6 +13,7 @@ pub mod OneStream
 pub mod OneText
 pub mod Outlines
 pub mod Passing
+pub mod Places
 pub mod Readings
 pub mod Results
 pub mod Segments

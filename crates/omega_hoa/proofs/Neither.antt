@@ -22,6 +22,7 @@ use Rattle.omega_hoa.specs.declared.item.Item.{Item}
 use Rattle.omega_hoa.specs.declared.item.Item.TheVariants.{Automaton as AutomatonItem, Aborted}
 use Rattle.omega_hoa.proofs.Cutting.{cuts_split}
 use Rattle.omega_hoa.proofs.Dividing.{ended, stream_push}
+use Rattle.omega_hoa.proofs.Places.{first_start}
 
 -- a mark that ends a segment, and what stands before and behind it
 record Marked (lexemes : List (Lexeme HoaKind)) : Type 0 where
@@ -69,13 +70,16 @@ module _ (first : Lexeme HoaKind) (rest : List (Lexeme HoaKind)) (opens : Opens 
   split_behind mark = ap (λ all. first ∷ all) (mark.split ∙ sym (append_assoc mark.inside (mark.last ∷ []) mark.rest))
 
 -- a segment that is no automaton and has no fault is none
-module _ (there : MeaningsAreThere) (lexemes : List (Lexeme HoaKind)) where
+module _ (there : MeaningsAreThere) (lexemes : List (Lexeme HoaKind)) (whole : IsSegment End lexemes) where
   judged : ((automaton : Description) → IsAutomatonOf lexemes automaton → ⊥) → ((refusal : Refusal) → IsSegmentFault lexemes refusal → ⊥) → ⊥
-  judged no_automaton no_fault = no_fault (Text (Syntax 0)) (λ raw written.
-      (elim (automaton_fault_of raw) as (λ said. automaton_fault_of raw ≡ said → ⊥) [
-        | None ↦ λ none. let means = there raw none in no_automaton means.0 (record { raw = raw; written = written; means = means.1 })
-        | Some fault ↦ λ has. no_fault (AutomatonRefusal fault) (record { raw = raw; written = written; has = has })
-      ]) refl)
+  judged no_automaton no_fault = let start = first_start End lexemes whole in no_fault (Text (Syntax start.0)) (
+    λ raw written.
+        (elim (automaton_fault_of raw) as (λ said. automaton_fault_of raw ≡ said → ⊥) [
+          | None ↦ λ none. let means = there raw none in no_automaton means.0 (record { raw = raw; written = written; means = means.1 })
+          | Some fault ↦ λ has. no_fault (AutomatonRefusal fault) (record { raw = raw; written = written; has = has })
+        ]) refl,
+    start.1,
+  )
 
 -- a text within the limit is that of an automaton or refused
 module _ (there : MeaningsAreThere) (source : List ℕ) (short : length source ≤ most_text)
@@ -86,19 +90,22 @@ module _ (there : MeaningsAreThere) (source : List ℕ) (short : length source �
 
     -- a segment that others follow
     followed : (segment more : List (Lexeme HoaKind)) (next : Lexeme HoaKind) → IsSegment End segment → lexemes ≡ segment ++ next ∷ more → ⊥
-    followed segment more next whole split = tokens_refused (Text (Syntax 0)) (inr (record {
+    followed segment more next whole split = let start = first_start End segment whole in tokens_refused (Text (Syntax start.0)) (inr (record {
       segment = segment;
       rest = next ∷ more;
       split = split;
       whole = whole;
       refused = inl (
-        λ raw written. tokens_refused (Text (Syntax next.span.start)) (inr (record {
-          segment = segment;
-          rest = next ∷ more;
-          split = split;
-          whole = whole;
-          refused = inr ((raw, written), (next, more, refl, refl));
-        })),
+        (
+          λ raw written. tokens_refused (Text (Syntax next.span.start)) (inr (record {
+            segment = segment;
+            rest = next ∷ more;
+            split = split;
+            whole = whole;
+            refused = inr ((raw, written), (next, more, refl, refl));
+          })),
+          start.1,
+        ),
         inl refl,
       );
     }))
@@ -107,7 +114,7 @@ module _ (there : MeaningsAreThere) (source : List ℕ) (short : length source �
     alone : (segment : List (Lexeme HoaKind)) → IsSegment End segment → lexemes ≡ segment ++ [] → ⊥
     alone segment whole split =
         let same : segment ≡ lexemes = sym (append-nil segment) ∙ sym split in
-        judged there segment
+        judged there segment whole
         (λ automaton is. no_automaton automaton (record {
           short = short;
           lexemes = lexemes;
@@ -214,7 +221,7 @@ module _ (there : MeaningsAreThere) (exact : GoesOneWay hoa_format) (source : Li
   -- a segment that ends with `--END--`
   automaton_or_fault : (front segment : List (Lexeme HoaKind)) (items : List Item) (at : ℕ) → IsStream front items → Cuts hoa_format source 0 (front ++ segment) at → IsSegment End segment
       → ((automaton : Description) → IsStream (front ++ segment) (items ++ AutomatonItem automaton ∷ []) → ⊥) → ⊥
-  automaton_or_fault front segment items at stream cuts whole onward = judged there segment
+  automaton_or_fault front segment items at stream cuts whole onward = judged there segment whole
       (λ automaton is. onward automaton (stream_push front segment items (AutomatonItem automaton) stream (whole, is)))
       (λ refusal fault. no_fault items refusal (record { front = front; rest = segment; from = at; cuts = cuts; before = stream; refused = inr (inr (whole, fault)) }))
 

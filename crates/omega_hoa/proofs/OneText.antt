@@ -67,11 +67,8 @@ no_three Expansion is = cc
 
 -- tokens of a segment that are refused 3 are those of no automaton
 three_unread : (segment : List (Lexeme HoaKind)) (refusal : Refusal) → number_of refusal ≡ 3 → IsSegmentFault segment refusal → IsNoRaw segment
-three_unread segment (Text (Syntax at)) is fault = fault
+three_unread segment (Text said) is fault = fault.0
 three_unread segment (AutomatonRefusal said) is fault = absurd (no_three said is)
-three_unread segment (Text (Lex at)) is fault = absurd fault
-three_unread segment (Text (Number at)) is fault = absurd fault
-three_unread segment (Text TooLong) is fault = absurd fault
 three_unread segment refusal is fault = absurd fault
 
 -- where tokens without a segment ended by `--END--` are refused 3, in four cases

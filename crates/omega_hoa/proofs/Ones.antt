@@ -18,12 +18,14 @@ use Rattle.omega_hoa.specs.Alone.{AreRefused, HasNoSegmentAt, IsAutomatonRefusal
 use Rattle.omega_raw.specs.declared.raw_automaton.RawAutomaton.{RawAutomaton}
 use Rattle.omega_acc.specs.Symbols.{IsUnread}
 use Rattle.omega_automaton.specs.Automaton.{Description}
-use Rattle.omega_hoa.specs.Segment.{IsAutomatonOf, IsNoRaw, IsRawOf, IsSegmentFault}
+use Rattle.omega_hoa.specs.Segment.{IsAutomatonOf, IsRawOf, IsSegmentFault, IsStartOf}
+use Rattle.omega_hoa.specs.private.Places.{IsPartUnread, counted_from}
+use Rattle.omega_hoa.proofs.Places.{unread_here}
 use Rattle.omega_hoa.specs.Stream.{IsOpen, IsSegment}
 use Rattle.omega_hoa.specs.private.outlines.Outline.{BeginsAborted, BeginsStray, HasFollowed, HasOutline, HasWhole, IsWhole}
 use Rattle.omega_hoa.specs.declared.outline.TextOutline.TheVariants.{Empty, Stray, Open, Aborted}
 use Rattle.omega_hoa.proofs.Cutting.{cuts_forward, cuts_last, cuts_split, moved, part_cut}
-use Rattle.omega_hoa.proofs.Written.{automaton_same, fault_same, none_same, raw_same, same_moved}
+use Rattle.omega_hoa.proofs.Written.{automaton_same, raw_same, same_moved}
 
 -- a fact of the value that a call answers, from another
 pub ok_says : {A E : Type 0} (result : Result A E) (Says Wanted : A → Type 0) → ((value : A) → Says value → Wanted value) → IfOk result Says → IfOk result Wanted
@@ -106,29 +108,29 @@ whole_value source end automaton has short value = record {
 }
 
 -- its refusal
-pub whole_refused : (source : List ℕ) (end : ℕ) (refusal : Refusal) → (has : HasWhole source end) → length source ≤ most_text → IsSegmentFault (map (moved 0) has.lexemes) refusal
+pub whole_refused : (source : List ℕ) (end : ℕ) (refusal : Refusal) → (has : HasWhole source end) → length source ≤ most_text → IsSegmentFault has.lexemes refusal
     → IsAutomatonRefusal source refusal
 whole_refused source end refusal has short fault = tokens_refused source has.lexemes refusal short has.cut (inr (record {
   segment = has.lexemes;
   rest = [];
   split = sym (append-nil has.lexemes);
   whole = segment_of has.lexemes end has.is;
-  refused = inl (fault_same (map (moved 0) has.lexemes) has.lexemes refusal (same_moved 0 has.lexemes) fault, inr refl);
+  refused = inl (fault, inr refl);
 }))
 
 -- the refusal of a segment that others follow, by its syntax
 pub own_refused : (source : List ℕ) (end at : ℕ) (refusal : Refusal) → (has : HasFollowed source end at) → length source ≤ most_text
-    → IsUnread (IsNoRaw (map (moved 0) has.is.front)) refusal → or_memory (IsAutomatonRefusal source) refusal
-own_refused source end at Memory has short unread = tt
-own_refused source end at (Text (Syntax place)) has short unread = tokens_refused source has.lexemes (Text (Syntax place)) short has.cut (inr (record {
+    → ((place : ℕ) → IsStartOf (map (counted_from 0) (map (moved 0) has.is.front)) place → IsStartOf has.is.front place) → IsPartUnread 0 (map (moved 0) has.is.front) refusal → or_memory (IsAutomatonRefusal source) refusal
+own_refused source end at Memory has short back unread = tt
+own_refused source end at (Text (Syntax place)) has short back unread = tokens_refused source has.lexemes (Text (Syntax place)) short has.cut (inr (record {
   segment = has.is.front;
   rest = has.is.next ∷ has.is.rest;
   split = has.is.split;
   whole = segment_of has.is.front end has.is.whole;
-  refused = inl (none_same (map (moved 0) has.is.front) has.is.front (same_moved 0 has.is.front) unread, inl refl);
+  refused = inl (unread_here 0 has.is.front back (Text (Syntax place)) unread, inl refl);
 }))
-own_refused source end at (Text fault) has short unread = absurd unread
-own_refused source end at refusal has short unread = absurd unread
+own_refused source end at (Text fault) has short back unread = absurd unread.1
+own_refused source end at refusal has short back unread = absurd unread
 
 -- and by what follows it
 pub next_refused : (source : List ℕ) (end at : ℕ) → (has : HasFollowed source end at) → length source ≤ most_text → IsInGrammar has.is.front → IsAutomatonRefusal source (Text (Syntax at))

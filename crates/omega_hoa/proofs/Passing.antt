@@ -5,8 +5,8 @@ use Rattle.omega_text.specs.Lexeme.{Lexeme}
 use Rattle.omega_text.specs.declared.hoa.kind.HoaKind.{HoaKind}
 use Rattle.omega_text.specs.declared.hoa.kind.HoaKind.TheVariants.{End, Abort}
 use Rattle.omega_text.specs.declared.hoa.tokenizer.HoaTokenizer.{HoaTokenizer}
-use Rattle.omega_text.specs.hoa.scanning.Reading.{HasRead, HasPassed, HasRoom}
-use Rattle.omega_text.specs.hoa.Pieces.{NoneMarks, is_mark}
+use Rattle.omega_text.specs.private.hoa.scanning.Reading.{HasRead}
+use Rattle.omega_text.specs.hoa.Pieces.{HasPassed, HasRoom, NoneMarks, is_mark}
 use Rattle.omega_hoa.specs.Feeding.{IsDivided, IsRest}
 use Rattle.omega_hoa.specs.Stream.{IsOpen, NoneEnds, is_end}
 use Rattle.omega_hoa.specs.private.dividing.Next.{IsProgress, IsProgressSome}
@@ -61,7 +61,7 @@ read_up_to prior bytes from to forward =
     ∙ ap (λ bs. prior ++ bs) (sym (take-add from (to - from) bytes) ∙ ap (λ n. take n bytes) all)
 
 -- places can be counted up to the end of the bytes
-pub room_inside : (bytes : List ℕ) (first place : ℕ) (progress : ReadProgress) → place ≤ length bytes → IsProgressSome bytes first place progress → HasRoom (length bytes - place) progress.tokenizer
+pub room_inside : (bytes : List ℕ) (first place : ℕ) (progress : ReadProgress) → place ≤ length bytes → IsProgressSome bytes first place progress → HasRoom (λ seen lexemes. HasRead seen lexemes progress.tokenizer) (length bytes - place)
 room_inside bytes first place progress within some =
     let so_far = some.2 in
     let seen = some.0 ++ take place bytes in
@@ -69,7 +69,7 @@ room_inside bytes first place progress within some =
 
 -- the bytes that were passed were read
 pub passed_on : (bytes : List ℕ) (first from to : ℕ) (progress : ReadProgress) (tokenizer : HoaTokenizer) (prior : List ℕ) (items : List Item) → from ≤ to → progress.division.inside ≡ true
-    → (so_far : IsProgress bytes first from progress prior items) → HasPassed (prior ++ take from bytes) so_far.lexemes (take (to - from) (drop from bytes)) tokenizer
+    → (so_far : IsProgress bytes first from progress prior items) → HasPassed (λ seen lexemes. HasRead seen lexemes tokenizer) (prior ++ take from bytes) so_far.lexemes (take (to - from) (drop from bytes))
     → tokenizer.fault ≡ progress.tokenizer.fault
     → IsProgress bytes first to (record { tokenizer = tokenizer; division = progress.division }) prior items
 passed_on bytes first from to progress tokenizer prior items forward inside so_far passed same =

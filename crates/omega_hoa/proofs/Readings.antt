@@ -34,20 +34,20 @@ module _ (raws_one : RawsAreOne) (lexemes : List (Lexeme HoaKind)) where
       cc
 
   pub fault_one : (one other : Refusal) → IsSegmentFault lexemes one → IsSegmentFault lexemes other → (one ≡ other) ⊎ (IsSegment End lexemes → AreOfSegment lexemes one other)
-  fault_one (Text (Syntax at)) (Text (Syntax place)) here there = inr (λ whole. record { whole = whole; unread = here; first = refl; second = refl })
-  fault_one (Text (Syntax at)) (AutomatonRefusal fault) here there = absurd (here there.raw there.written)
-  fault_one (AutomatonRefusal fault) (Text (Syntax at)) here there = absurd (there here.raw here.written)
+  fault_one (Text (Syntax at)) (Text (Syntax place)) here there = inr (λ whole. record { whole = whole; unread = here.0; first = here.1; second = there.1 })
+  fault_one (Text (Syntax at)) (AutomatonRefusal fault) here there = absurd (here.0 there.raw there.written)
+  fault_one (AutomatonRefusal fault) (Text (Syntax at)) here there = absurd (there.0 here.raw here.written)
   fault_one (AutomatonRefusal fault) (AutomatonRefusal other) here there = inl (ap (λ said. AutomatonRefusal said) (meaning_fault_one fault other here there))
-  fault_one (Text (Lex at)) other here there = absurd here
-  fault_one (Text (Number at)) other here there = absurd here
-  fault_one (Text TooLong) other here there = absurd here
+  fault_one (Text (Lex at)) other here there = absurd here.1
+  fault_one (Text (Number at)) other here there = absurd here.1
+  fault_one (Text TooLong) other here there = absurd here.1
   fault_one (Game fault) other here there = absurd here
   fault_one (Task fault) other here there = absurd here
   fault_one Memory other here there = absurd here
   fault_one Io other here there = absurd here
-  fault_one one (Text (Lex at)) here there = absurd there
-  fault_one one (Text (Number at)) here there = absurd there
-  fault_one one (Text TooLong) here there = absurd there
+  fault_one one (Text (Lex at)) here there = absurd there.1
+  fault_one one (Text (Number at)) here there = absurd there.1
+  fault_one one (Text TooLong) here there = absurd there.1
   fault_one one (Game fault) here there = absurd there
   fault_one one (Task fault) here there = absurd there
   fault_one one Memory here there = absurd there
@@ -55,13 +55,10 @@ module _ (raws_one : RawsAreOne) (lexemes : List (Lexeme HoaKind)) where
 
   -- not both an automaton and a fault
   pub automaton_has_no_fault : (automaton : Description) (refusal : Refusal) → IsAutomatonOf lexemes automaton → IsSegmentFault lexemes refusal → ⊥
-  automaton_has_no_fault automaton (Text (Syntax at)) is fault = fault is.raw is.written
+  automaton_has_no_fault automaton (Text said) is fault = fault.0 is.raw is.written
   automaton_has_no_fault automaton (AutomatonRefusal said) is fault =
       let same : None ≡ Some said = sym is.means.faultless ∙ ap automaton_fault_of (raw_one is.raw fault.raw is.written fault.written) ∙ fault.has in
       cc
-  automaton_has_no_fault automaton (Text (Lex at)) is fault = fault
-  automaton_has_no_fault automaton (Text (Number at)) is fault = fault
-  automaton_has_no_fault automaton (Text TooLong) is fault = fault
   automaton_has_no_fault automaton (Game said) is fault = fault
   automaton_has_no_fault automaton (Task said) is fault = fault
   automaton_has_no_fault automaton Memory is fault = fault

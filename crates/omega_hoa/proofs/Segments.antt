@@ -11,8 +11,9 @@ use Rattle.omega_acc.specs.Symbols.{IsUnread}
 use Rattle.omega_raw.specs.Grammar.{ReadsAutomaton, ReadsNoAutomaton}
 use Rattle.omega_raw.specs.declared.raw_automaton.RawAutomaton.{RawAutomaton}
 use Rattle.omega_automaton.specs.Meaning.{IsMeaningless}
-use Rattle.omega_hoa.specs.Segment.{IsNoRaw, IsRawOf, IsSegmentFault}
+use Rattle.omega_hoa.specs.Segment.{IsNoRaw, IsRawOf}
 use Rattle.omega_hoa.specs.Stream.{IsSegment}
+use Rattle.omega_hoa.specs.private.Places.{IsPartFault, IsPartUnread}
 use Rattle.omega_hoa.proofs.Writing.{nothing_left}
 
 -- an automaton that is read of a segment's tokens is all of them
@@ -27,14 +28,13 @@ none_read tokens lexemes refusal fault at same is syntax unread =
     λ raw written. none raw [] (subst (λ ls. ReadsAutomaton ls raw []) (sym same) written)
 
 -- a segment that is not read has a fault
-pub unread_fault : (lexemes : List (Lexeme HoaKind)) (refusal : Refusal) → IsUnread (IsNoRaw lexemes) refusal → or_memory (IsSegmentFault lexemes) refusal
-unread_fault lexemes (Text (Syntax at)) unread = unread
-unread_fault lexemes (Text fault) unread = absurd unread
-unread_fault lexemes Memory unread = tt
-unread_fault lexemes refusal unread = absurd unread
+pub unread_fault : (begins : ℕ) (lexemes : List (Lexeme HoaKind)) (refusal : Refusal) → IsPartUnread begins lexemes refusal → IsPartFault begins lexemes refusal
+unread_fault begins lexemes (Text fault) unread = unread
+unread_fault begins lexemes Memory unread = tt
+unread_fault begins lexemes refusal unread = absurd unread
 
 -- so has one that means nothing
-pub meaningless_fault : (lexemes : List (Lexeme HoaKind)) (raw : RawAutomaton) (refusal : Refusal) → IsRawOf lexemes raw → IsMeaningless raw refusal → or_memory (IsSegmentFault lexemes) refusal
-meaningless_fault lexemes raw (AutomatonRefusal fault) written has = record { raw = raw; written = written; has = has }
-meaningless_fault lexemes raw Memory written has = tt
-meaningless_fault lexemes raw refusal written has = absurd has
+pub meaningless_fault : (begins : ℕ) (lexemes : List (Lexeme HoaKind)) (raw : RawAutomaton) (refusal : Refusal) → IsRawOf lexemes raw → IsMeaningless raw refusal → IsPartFault begins lexemes refusal
+meaningless_fault begins lexemes raw (AutomatonRefusal fault) written has = record { raw = raw; written = written; has = has }
+meaningless_fault begins lexemes raw Memory written has = tt
+meaningless_fault begins lexemes raw refusal written has = absurd has

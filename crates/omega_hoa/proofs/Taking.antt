@@ -18,13 +18,15 @@ use Rattle.omega_hoa.specs.Feeding.{IsDivided, IsRest}
 use Rattle.omega_automaton.specs.Automaton.{Description}
 use Rattle.omega_hoa.specs.Segment.{IsAutomatonOf, IsSegmentFault}
 use Rattle.omega_hoa.specs.Stream.{IsItemOf, IsOpen, IsSegment, IsStreamFault, Opens, is_end}
+use Rattle.omega_hoa.specs.private.Places.{IsPartFault}
 use Rattle.omega_hoa.specs.private.dividing.Next.{IsNextDivision, IsRefusedNow, IsWindow}
 use Rattle.omega_hoa.specs.declared.division.Division.{Division}
 use Rattle.omega_hoa.specs.declared.item.Item.{Item}
 use Rattle.omega_hoa.specs.declared.item.Item.TheVariants.{Automaton as AutomatonItem, Aborted}
 use Rattle.omega_hoa.proofs.Cutting.{cuts_end, cuts_forward, cuts_last, cuts_split, moved, part, part_cut}
 use Rattle.omega_hoa.proofs.Dividing.{ended, open_push, opened, segment_moved, stream_push}
-use Rattle.omega_hoa.proofs.Written.{automaton_same, fault_same, same_moved}
+use Rattle.omega_hoa.proofs.Places.{start_back, fault_here}
+use Rattle.omega_hoa.proofs.Written.{automaton_same, same_moved}
 
 -- memory, or the other cases
 pub memory_or : (Holds : Refusal → Type 0) (refusal : Refusal) → or_memory Holds refusal → (refusal ≡ Memory) ⊎ Holds refusal
@@ -184,12 +186,14 @@ module _ (exact : GoesOneWay hoa_format) (bytes : List ℕ) (first : ℕ) (divis
 
   -- a fault that was read of these bytes refuses the text
   pub segment_refused : (refusal : Refusal) → division.inside ≡ true → token.kind ≡ End
-      → ((ls : List (Lexeme HoaKind)) → IsCut hoa_format (take (token.span.end - division.begins) (drop (division.begins - first) bytes)) ls → IsSegment End ls → or_memory (IsSegmentFault ls) refusal)
+      → ((ls : List (Lexeme HoaKind)) → IsCut hoa_format (take (token.span.end - division.begins) (drop (division.begins - first) bytes)) ls → IsSegment End ls → IsPartFault division.begins ls refusal)
       → IsRefusedNow seen items refusal
   segment_refused refusal inside is reads =
       let all = next.divided.rest ++ lexeme_in seen token ∷ [] in
       let segment = ended next.divided.rest (lexeme_in seen token) End (open_behind inside) is in
-      elim (memory_or (IsSegmentFault (map (moved division.begins) all)) refusal (reads (map (moved division.begins) all) segment_cut (segment_moved division.begins End all segment))) [
+      let back = start_back exact (seen ++ []) division.begins division.begins token.span.end all (omega arith) (behind []).segment in
+      elim (memory_or (IsSegmentFault all) refusal
+      (fault_here division.begins all back refusal (reads (map (moved division.begins) all) segment_cut (segment_moved division.begins End all segment)))) [
         | inl memory ↦ inl memory
         | inr fault ↦ inr (λ more. record {
           front = next.divided.front;
@@ -197,7 +201,7 @@ module _ (exact : GoesOneWay hoa_format) (bytes : List ℕ) (first : ℕ) (divis
           from = token.span.end;
           cuts = subst (λ ls. Cuts hoa_format (seen ++ more) 0 ls token.span.end) (append_assoc next.divided.front next.divided.rest (lexeme_in seen token ∷ [])) (behind more).whole;
           before = next.divided.before;
-          refused = inr (inr (segment, fault_same (map (moved division.begins) all) all refusal (same_moved division.begins all) fault));
+          refused = inr (inr (segment, fault));
         })
       ]
 

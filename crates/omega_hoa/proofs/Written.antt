@@ -167,10 +167,3 @@ none_same ones others same none = λ raw written. none raw (raw_same others ones
 -- they are those of the same automaton
 pub automaton_same : (ones others : List (Lexeme HoaKind)) (automaton : Description) → AreLike ones others → IsAutomatonOf ones automaton → IsAutomatonOf others automaton
 automaton_same ones others automaton same is = record { raw = is.raw; written = raw_same ones others is.raw same is.written; means = is.means }
-
--- or have the same fault
-pub fault_same : (ones others : List (Lexeme HoaKind)) (refusal : Refusal) → AreLike ones others → IsSegmentFault ones refusal → IsSegmentFault others refusal
-fault_same ones others (Text (Syntax at)) same fault = none_same ones others same fault
-fault_same ones others (AutomatonRefusal said) same fault = record { raw = fault.raw; written = raw_same ones others fault.raw same fault.written; has = fault.has }
-fault_same ones others (Text fault) same is = absurd is
-fault_same ones others refusal same is = absurd is

@@ -2,10 +2,10 @@
 -- whatever the code does.
 use Rattle.std.specs.Prelude.{◌≡◌, ℕ, ◌⊎◌, List, [], ◌∷◌, ◌++◌, Option, Some, None, MatchOption}
 use Rattle.std.specs.List.{AllByRecursion, flat_map}
+use Rattle.omega_text.specs.Cases.{never, or_text}
 use Rattle.omega_text.specs.Cut.{Cuts}
 use Rattle.omega_text.specs.Lexeme.{Lexeme}
 use Rattle.omega_text.specs.Reading.{IsTokenOf}
-use Rattle.omega_text.specs.Refusal.{number_of}
 use Rattle.omega_text.specs.hoa.Format.{hoa_format}
 use Rattle.omega_text.specs.declared.hoa.kind.HoaKind.{HoaKind}
 use Rattle.omega_text.specs.declared.hoa.kind.HoaKind.TheVariants.{End}
@@ -18,17 +18,17 @@ use Rattle.omega_automaton.specs.Automaton.{Description}
 use Rattle.omega_hoa.specs.Alone.{IsAutomatonRefusal, IsAutomatonText}
 use Rattle.omega_hoa.specs.Feeding.{IsFed, TakesPiece}
 use Rattle.omega_hoa.specs.Kept.{Kept}
-use Rattle.omega_hoa.specs.Segment.{IsNoRaw, IsRawOf}
+use Rattle.omega_hoa.specs.Segment.{IsNoRaw, IsRawOf, IsSyntaxWithin}
 use Rattle.omega_hoa.specs.Stream.{IsSegment, IsStreamFault, IsStreamRefusal, IsStreamText}
 use Rattle.omega_hoa.specs.declared.item.Item.{Item}
 
--- two refusals 3 of the tokens of one whole segment, which are those of no automaton:
--- their places are shown by tests alone
+-- two refusals 3 of the tokens of one whole segment, which are those of no automaton: each stands at the start of one of
+-- the tokens, and at which is shown by tests alone
 pub record AreOfSegment (segment : List (Lexeme HoaKind)) (one other : Refusal) : Type 0 where
   pub whole : IsSegment End segment
   pub unread : IsNoRaw segment
-  pub first : number_of one ≡ 3
-  pub second : number_of other ≡ 3
+  pub first : or_text (IsSyntaxWithin segment) never one
+  pub second : or_text (IsSyntaxWithin segment) never other
 
 -- two refusals of a text are the same, or both are 3 and of one segment of it that ends with `--END--`
 abbrev pub AreAlike : List ℕ → Refusal → Refusal → Type 0

@@ -1,11 +1,12 @@
 -- What the tokens of one segment that ends with `--END--` are: those of an automaton, or faulty.
-use Rattle.std.specs.Prelude.{◌≡◌, Some, List, []}
+use Rattle.std.specs.Prelude.{◌≡◌, ℕ, ◌⊎◌, Some, List, [], ◌∷◌}
 use Rattle.omega_text.specs.Cases.{never, or_automaton, or_text}
 use Rattle.omega_text.specs.Lexeme.{Lexeme}
 use Rattle.omega_text.specs.declared.hoa.kind.HoaKind.{HoaKind}
 use Rattle.omega_text.specs.declared.refusal.Refusal.{Refusal}
 use Rattle.omega_text.specs.declared.refusal.automaton.AutomatonFault.{AutomatonFault}
-use Rattle.omega_acc.specs.Symbols.{IsSyntax}
+use Rattle.omega_text.specs.declared.refusal.text.TextFault.{TextFault}
+use Rattle.omega_text.specs.declared.refusal.text.TextFault.TheVariants.{Syntax}
 use Rattle.omega_raw.specs.Grammar.{ReadsAutomaton}
 use Rattle.omega_raw.specs.declared.raw_automaton.RawAutomaton.{RawAutomaton}
 use Rattle.omega_automaton.specs.Automaton.{Description}
@@ -32,6 +33,16 @@ pub record HasMeaningFault (lexemes : List (Lexeme HoaKind)) (fault : AutomatonF
   pub written : IsRawOf lexemes raw
   pub has : automaton_fault_of raw ≡ Some fault
 
--- why the tokens are not an automaton's: 3 where no automaton is written so, else by what it means
+-- one of the tokens begins at this place
+abbrev pub IsStartOf : List (Lexeme HoaKind) → ℕ → Type 0
+IsStartOf [] at = ⊥
+IsStartOf (lexeme ∷ lexemes) at = (at ≡ lexeme.span.start) ⊎ IsStartOf lexemes at
+
+-- a fault of syntax, at the start of one of the tokens
+abbrev pub IsSyntaxWithin : List (Lexeme HoaKind) → TextFault → Type 0
+IsSyntaxWithin lexemes (Syntax at) = IsStartOf lexemes at
+IsSyntaxWithin lexemes fault = ⊥
+
+-- why the tokens are not an automaton's: 3 at one of them where no automaton is written so, else by what it means
 abbrev pub IsSegmentFault : List (Lexeme HoaKind) → Refusal → Type 0
-IsSegmentFault lexemes = or_text (IsSyntax (IsNoRaw lexemes)) (or_automaton (HasMeaningFault lexemes) never)
+IsSegmentFault lexemes = or_text (λ fault. IsNoRaw lexemes × IsSyntaxWithin lexemes fault) (or_automaton (HasMeaningFault lexemes) never)

@@ -1,3 +1,4 @@
 -- What only private contracts cite.
 pub mod dividing
 pub mod outlines
+pub mod Places

@@ -4,7 +4,7 @@ ghost use Rattle.omega_hoa.specs.declared.item.Item.{Item};
 
 use crate::division::{Division, take_all};
 use crate::item::Item;
-use omega_text::{HoaTokenizer, Refusal, Settled};
+use omega_text::{ByteTokenizer, HoaTokenizer, Refusal, Settled};
 use std::alloc::Global;
 
 /// How far the bytes of a stream were read.

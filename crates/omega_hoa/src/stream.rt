@@ -10,7 +10,7 @@ use crate::division::Division;
 use crate::ending::{end_inside, end_outside};
 use crate::item::Item;
 use crate::progress::{ReadProgress, read_bytes};
-use omega_text::{HoaKind, HoaTokenizer, MOST_TEXT, Refusal, TextFault, TokenKind};
+use omega_text::{ByteTokenizer, HoaKind, HoaTokenizer, MOST_TEXT, Refusal, TextFault, TokenKind};
 use std::alloc::Global;
 use std::marker::Model;
 

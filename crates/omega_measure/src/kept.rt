@@ -1,6 +1,7 @@
 ghost use Rattle.std.specs.Prelude.{◌≡◌, ◌≤◌, length, map, IfOk, IsOkUnless};
 ghost use Rattle.omega_measure.specs.Limits.{most_cells};
-ghost use Rattle.omega_measure.specs.private.layout.Falling.{IsStrictlyFalling, count_from};
+ghost use Rattle.omega_game.specs.private.priorities.Tally.{IsStrictlyFalling};
+ghost use Rattle.omega_measure.specs.private.layout.Falling.{count_from};
 
 use omega_game::Refusal;
 use std::alloc::Global;

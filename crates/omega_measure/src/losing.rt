@@ -2,7 +2,7 @@ ghost use Rattle.std.specs.Prelude.{◌≡◌, IfOk, IsOkUnless};
 ghost use Rattle.omega_game.specs.Bound.{losing_priorities};
 ghost use Rattle.omega_game.specs.Game.{priorities};
 ghost use Rattle.omega_lift.specs.Least.{limits_of};
-ghost use Rattle.omega_measure.specs.private.layout.Falling.{IsStrictlyFalling};
+ghost use Rattle.omega_game.specs.private.priorities.Tally.{IsStrictlyFalling};
 
 use omega_game::{Game, Player, Refusal};
 use std::alloc::Global;

@@ -16,7 +16,7 @@ pub struct FilledWords {
 }
 
 impl FilledWords {
-    /// All words of a set that has so many ranks.
+    /// All words of a set that has so many ranks. An error where a request for memory is refused.
     pub fn all(alloc: Global, ranks: u32) -> Result<FilledWords, AllocError> {
         let bits = all_ranks(alloc, ranks / 64)?;
         Ok(FilledWords { bits })

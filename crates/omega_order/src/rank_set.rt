@@ -4,7 +4,8 @@ ghost use Rattle.omega_order.specs.RankSet.{is_set};
 
 use std::alloc::{AllocError, Global};
 
-/// The words of the set of all ranks that they have a bit for, of which there are more than `count`.
+/// The set of all ranks for which its words have a bit: as many words as hold a rank `count`, all bits set. An error
+/// where a request for memory is refused.
 pub fn all_ranks(alloc: Global, count: u32) -> Result<Vec<u64>, AllocError>
     ensures { IfOk result (λ words. words.items ≡ replicate (count / 64 + 1) (2 ^ 64 - 1)) }
 {

@@ -6,7 +6,7 @@ use Rattle.omega_acc.specs.Depth.{IsMemory}
 use Rattle.omega_acc.specs.Symbols.{IsUnread}
 use Rattle.omega_raw.specs.Grammar.{IsConj, ReadsAutomaton, ReadsNoAutomaton, conj_row}
 use Rattle.omega_raw.specs.private.steps.Parts.{EndsConj}
-use Rattle.omega_raw.specs.private.steps.Reading.{Finds, Found, Given, IsReadingRefusal}
+use Rattle.omega_raw.specs.private.steps.Reading.{Finds, Found, Given, IsSyntaxOrMemory}
 use Rattle.omega_raw.specs.Symbols.{ReadsSymbols, AutomatonSymbol, Tokens}
 use Rattle.omega_raw.specs.private.steps.First.{FirstIs}
 use Rattle.omega_raw.specs.declared.raw_automaton.RawAutomaton.{RawAutomaton}
@@ -61,7 +61,7 @@ error_is (Ok value) said Wanted is follows = tt
 error_is (Err refusal) said Wanted is follows = follows refusal is
 
 -- a refusal that is want of memory wherever an automaton was written
-pub read_refused : (tokens : Tokens) (refusal : Refusal) → IsReadingRefusal refusal → ((raw : RawAutomaton) (rest : Tokens) → ReadsAutomaton tokens raw rest → IsMemory refusal)
+pub read_refused : (tokens : Tokens) (refusal : Refusal) → IsSyntaxOrMemory refusal → ((raw : RawAutomaton) (rest : Tokens) → ReadsAutomaton tokens raw rest → IsMemory refusal)
     → IsUnread (ReadsNoAutomaton tokens) refusal
 read_refused tokens (Text (Syntax at)) is memory = memory
 read_refused tokens (Text fault) is memory = absurd is

@@ -7,7 +7,8 @@ use Rattle.omega_acc.specs.formula.Reading.{ReadsAcc}
 use Rattle.omega_acc.specs.formula.Raw.{RawAccTree}
 use Rattle.omega_acc.specs.label.Reading.{Reads}
 use Rattle.omega_acc.specs.label.Raw.{RawLabelTree}
-use Rattle.omega_raw.specs.private.steps.Reading.{Found, NextIs, NextIsNot, NextMayBe}
+use Rattle.omega_acc.specs.private.layout.Passing.{NextIsNot}
+use Rattle.omega_raw.specs.private.steps.Reading.{Found, NextIs, NextMayBe}
 use Rattle.omega_raw.specs.Symbols.{IsNext, Shows, ReadsSymbols, Splits, AutomatonSymbol, Tokens, alias, formula, header, label, number, sign, text, word}
 use Rattle.omega_raw.specs.private.steps.First.{FirstIs}
 use Rattle.omega_text.specs.Lexeme.{Lexeme}

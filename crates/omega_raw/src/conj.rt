@@ -3,7 +3,7 @@ ghost use Rattle.omega_acc.specs.Depth.{IsMemory};
 ghost use Rattle.omega_raw.specs.Grammar.{IsConj, conj_row, joined_row};
 ghost use Rattle.omega_raw.specs.private.steps.Parts.{EndsConj, is_and};
 ghost use Rattle.omega_raw.specs.private.steps.First.{FirstIs};
-ghost use Rattle.omega_raw.specs.private.steps.Reading.{Finds, GivesRow, IsAny, IsKind, IsReadingRefusal};
+ghost use Rattle.omega_raw.specs.private.steps.Reading.{Finds, GivesRow, IsAny, IsKind, IsSyntaxOrMemory};
 
 use crate::part::{Part, read_numbers};
 use crate::taking::{take_int, take_sign};
@@ -45,7 +45,7 @@ pub(crate) fn conj<'a, S: TokenSource<'a, HoaKind>>(
 ) -> Result<Numbers, Refusal>
     ensures gives { GivesRow IsConj conj_row (S.left source.old) (S.left source.new) result }
     ensures finds { Finds IsConj conj_row (FirstIs EndsConj) (S.left source.old) (S.left source.new) result }
-    ensures err { IfErr result IsReadingRefusal }
+    ensures err { IfErr result IsSyntaxOrMemory }
 {
     let first = take_int(source)?;
     let others = read_numbers::<Joined, S>(alloc, source)?;

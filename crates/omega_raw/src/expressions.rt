@@ -2,7 +2,7 @@
 
 ghost use Rattle.std.specs.Prelude.{IfErr};
 ghost use Rattle.omega_raw.specs.private.steps.Rows.{formula_row, expression_row};
-ghost use Rattle.omega_raw.specs.private.steps.Reading.{Anything, Finds, GivesRow, IsAny, IsReadingRefusal};
+ghost use Rattle.omega_raw.specs.private.steps.Reading.{Anything, Finds, GivesRow, IsAny, IsSyntaxOrMemory};
 
 use omega_acc::{RawAcc, RawLabel, formulas_are_one, labels_are_one, read_raw_acc, read_raw_label};
 use omega_text::{HoaKind, Refusal, TokenSource};
@@ -15,7 +15,7 @@ pub(crate) fn label_expression<'a, S: TokenSource<'a, HoaKind>>(
 ) -> Result<RawLabel, Refusal>
     ensures gives { GivesRow IsAny expression_row (S.left source.old) (S.left source.new) result }
     ensures finds { Finds IsAny expression_row Anything (S.left source.old) (S.left source.new) result }
-    ensures err { IfErr result IsReadingRefusal }
+    ensures err { IfErr result IsSyntaxOrMemory }
 {
     labels_are_one();
     read_raw_label(alloc, source)
@@ -28,7 +28,7 @@ pub(crate) fn acceptance_expression<'a, S: TokenSource<'a, HoaKind>>(
 ) -> Result<RawAcc, Refusal>
     ensures gives { GivesRow IsAny formula_row (S.left source.old) (S.left source.new) result }
     ensures finds { Finds IsAny formula_row Anything (S.left source.old) (S.left source.new) result }
-    ensures err { IfErr result IsReadingRefusal }
+    ensures err { IfErr result IsSyntaxOrMemory }
 {
     formulas_are_one();
     read_raw_acc(alloc, source)

@@ -2,7 +2,7 @@ ghost use Rattle.std.specs.Prelude.{◌≡◌, All, IfErr, IfSome, MatchBool, tr
 ghost use Rattle.std.specs.List.{AllByRecursion};
 ghost use Rattle.omega_raw.specs.Grammar.{each, optional_row};
 ghost use Rattle.omega_raw.specs.private.steps.First.{FirstIs};
-ghost use Rattle.omega_raw.specs.private.steps.Reading.{EndsList, Finds, GivesRow, IsReadingRefusal, NextIs, NextMayBe};
+ghost use Rattle.omega_raw.specs.private.steps.Reading.{EndsList, Finds, GivesRow, IsSyntaxOrMemory, NextIs, NextMayBe};
 
 use crate::raw_edge::RawEdge;
 use crate::raw_edges::RawEdges;
@@ -38,7 +38,7 @@ pub(crate) trait Part<'a, S: TokenSource<'a, HoaKind>> {
     fn read(alloc: Global, source: &mut S) -> Result<Self::Value, Refusal>
         ensures gives { GivesRow valid written (S.left source.old) (S.left source.new) result }
         ensures finds { Finds valid written (FirstIs next) (S.left source.old) (S.left source.new) result }
-        ensures err { IfErr result IsReadingRefusal };
+        ensures err { IfErr result IsSyntaxOrMemory };
 
     /// It begins so.
     ghost begun: { (it : Self.Value) (others : List AutomatonSymbol) → valid it → FirstIs (λ kind. first kind ≡ true) (written it others) };
@@ -64,7 +64,7 @@ pub(crate) fn read_if<'a, P: Part<'a, S>, S: TokenSource<'a, HoaKind>>(
 ) -> Result<Option<P::Value>, Refusal>
     ensures gives { GivesRow (λ it. IfSome it P.valid) (optional_row P.written) (S.left source.old) (S.left source.new) result }
     ensures finds { Finds (λ it. IfSome it P.valid) (optional_row P.written) (FirstIs (EndsList P.first P.next)) (S.left source.old) (S.left source.new) result }
-    ensures err { IfErr result IsReadingRefusal }
+    ensures err { IfErr result IsSyntaxOrMemory }
 {
     if !is_next::<P, S>(source) {
         return Ok(None);
@@ -80,7 +80,7 @@ pub(crate) fn read_each<'a, P: Part<'a, S>, S: TokenSource<'a, HoaKind>>(
 ) -> Result<Seq<P::Value>, Refusal>
     ensures gives { GivesRow (AllByRecursion P.valid) (each P.written) (S.left source.old) (S.left source.new) result }
     ensures finds { Finds (AllByRecursion P.valid) (each P.written) (FirstIs (EndsList P.first P.next)) (S.left source.old) (S.left source.new) result }
-    ensures err { IfErr result IsReadingRefusal }
+    ensures err { IfErr result IsSyntaxOrMemory }
 {
     let values = read_growing::<P, S>(alloc, source)?;
     Ok(shrunk(values))
@@ -93,7 +93,7 @@ pub(crate) fn read_growing<'a, P: Part<'a, S>, S: TokenSource<'a, HoaKind>>(
 ) -> Result<Seq<P::Value>, Refusal>
     ensures gives { GivesRow (AllByRecursion P.valid) (each P.written) (S.left source.old) (S.left source.new) result }
     ensures finds { Finds (AllByRecursion P.valid) (each P.written) (FirstIs (EndsList P.first P.next)) (S.left source.old) (S.left source.new) result }
-    ensures err { IfErr result IsReadingRefusal }
+    ensures err { IfErr result IsSyntaxOrMemory }
 {
     let mut values = Vec::new(alloc);
     while is_next::<P, S>(source) {
@@ -119,7 +119,7 @@ pub(crate) fn read_numbers<'a, P: Part<'a, S, Value = u32>, S: TokenSource<'a, H
 ) -> Result<Numbers, Refusal>
     ensures gives { GivesRow (AllByRecursion P.valid) (each P.written) (S.left source.old) (S.left source.new) result }
     ensures finds { Finds (AllByRecursion P.valid) (each P.written) (FirstIs (EndsList P.first P.next)) (S.left source.old) (S.left source.new) result }
-    ensures err { IfErr result IsReadingRefusal }
+    ensures err { IfErr result IsSyntaxOrMemory }
 {
     let mut numbers = Numbers::new();
     while is_next::<P, S>(source) {
@@ -136,7 +136,7 @@ pub(crate) fn read_raw_edges<'a, P: Part<'a, S, Value = RawEdge>, S: TokenSource
 ) -> Result<RawEdges, Refusal>
     ensures gives { GivesRow (AllByRecursion P.valid) (each P.written) (S.left source.old) (S.left source.new) result }
     ensures finds { Finds (AllByRecursion P.valid) (each P.written) (FirstIs (EndsList P.first P.next)) (S.left source.old) (S.left source.new) result }
-    ensures err { IfErr result IsReadingRefusal }
+    ensures err { IfErr result IsSyntaxOrMemory }
 {
     let mut edges = RawEdges::new(alloc);
     while is_next::<P, S>(source) {

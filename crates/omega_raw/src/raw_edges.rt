@@ -62,7 +62,8 @@ impl RawEdges {
         }
     }
 
-    /// Adds an edge at the end. The first that is not short makes all before it lie as they are.
+    /// Adds an edge at the end. The first that is not short makes all before it lie as they are. An error where a
+    /// request for memory is refused: the edges are as before then.
     pub fn push(&mut self, alloc: Global, edge: RawEdge) -> Result<(), AllocError>
         ensures ok { OnOk result (self.new ≡ self.old ++ edge ∷ []) }
         ensures err { OnErr result (self.new ≡ self.old) }

@@ -32,7 +32,7 @@ impl StateName {
         StateName { bytes: None }
     }
 
-    /// This name.
+    /// This name. An error where a request for memory is refused.
     pub fn of(alloc: Global, bytes: ByteString) -> Result<Self, AllocError>
         ensures { IfOk result (λ name. name ≡ Some bytes) }
     {

@@ -4,7 +4,8 @@ ghost use Rattle.std.specs.Prelude.{◌≡◌, ◌∷◌, List, IfErr, IfNone, I
 ghost use Rattle.omega_acc.specs.Depth.{IsMemory};
 ghost use Rattle.omega_acc.specs.Symbols.{IsUnread};
 ghost use Rattle.omega_raw.specs.Grammar.{int_row, string_row, word_row};
-ghost use Rattle.omega_raw.specs.private.steps.Reading.{Anything, Finds, FoundThere, GivesRow, IsAny, IsReadingRefusal, NextIsNot};
+ghost use Rattle.omega_acc.specs.private.layout.Passing.{NextIsNot};
+ghost use Rattle.omega_raw.specs.private.steps.Reading.{Anything, Finds, FoundThere, GivesRow, IsAny, IsSyntaxOrMemory};
 ghost use Rattle.omega_raw.specs.Symbols.{ReadsSymbols, AutomatonSymbol, Tokens, header, sign, without_last};
 ghost use Rattle.omega_text.specs.Forms.{between_quotes};
 ghost use Rattle.omega_text.specs.Lexeme.{lexeme_of};
@@ -75,7 +76,7 @@ pub(crate) fn take_sign<'a, S: TokenSource<'a, HoaKind>>(
 ) -> Result<(), Refusal>
     ensures gives { OnOk result ((others : List AutomatonSymbol) (rest : Tokens) → ReadsSymbols (S.left source.new) others rest → ReadsSymbols (S.left source.old) (sign kind ∷ others) rest) }
     ensures finds { (others : List AutomatonSymbol) (rest : Tokens) → ReadsSymbols (S.left source.old) (sign kind ∷ others) rest → FoundThere result (ReadsSymbols (S.left source.new) others rest) }
-    ensures err { IfErr result IsReadingRefusal }
+    ensures err { IfErr result IsSyntaxOrMemory }
 {
     take_kind(source, kind)?;
     Ok(())
@@ -88,7 +89,7 @@ pub(crate) fn take_header<'a, S: TokenSource<'a, HoaKind>>(
 ) -> Result<(), Refusal>
     ensures gives { OnOk result ((others : List AutomatonSymbol) (rest : Tokens) → ReadsSymbols (S.left source.new) others rest → ReadsSymbols (S.left source.old) (header name.now ∷ others) rest) }
     ensures finds { (others : List AutomatonSymbol) (rest : Tokens) → ReadsSymbols (S.left source.old) (header name.now ∷ others) rest → FoundThere result (ReadsSymbols (S.left source.new) others rest) }
-    ensures err { IfErr result IsReadingRefusal }
+    ensures err { IfErr result IsSyntaxOrMemory }
 {
     let at = source.place();
     let token = take_kind(source, HoaKind::HeaderName)?;
@@ -102,7 +103,7 @@ pub(crate) fn take_header<'a, S: TokenSource<'a, HoaKind>>(
 pub(crate) fn take_int<'a, S: TokenSource<'a, HoaKind>>(source: &mut S) -> Result<u32, Refusal>
     ensures gives { GivesRow IsAny int_row (S.left source.old) (S.left source.new) result }
     ensures finds { Finds IsAny int_row Anything (S.left source.old) (S.left source.new) result }
-    ensures err { IfErr result IsReadingRefusal }
+    ensures err { IfErr result IsSyntaxOrMemory }
 {
     Ok(take_kind(source, HoaKind::Int)?.value)
 }
@@ -114,7 +115,7 @@ pub(crate) fn take_word<'a, S: TokenSource<'a, HoaKind>>(
 ) -> Result<ByteString, Refusal>
     ensures gives { GivesRow IsAny word_row (S.left source.old) (S.left source.new) result }
     ensures finds { Finds IsAny word_row Anything (S.left source.old) (S.left source.new) result }
-    ensures err { IfErr result IsReadingRefusal }
+    ensures err { IfErr result IsSyntaxOrMemory }
 {
     let token = take_kind(source, HoaKind::Identifier)?;
     copied(alloc, token.text)
@@ -127,7 +128,7 @@ pub(crate) fn take_string<'a, S: TokenSource<'a, HoaKind>>(
 ) -> Result<ByteString, Refusal>
     ensures gives { GivesRow IsAny string_row (S.left source.old) (S.left source.new) result }
     ensures finds { Finds IsAny string_row Anything (S.left source.old) (S.left source.new) result }
-    ensures err { IfErr result IsReadingRefusal }
+    ensures err { IfErr result IsSyntaxOrMemory }
 {
     let token = take_kind(source, HoaKind::String)?;
     string_of(alloc, token.text)

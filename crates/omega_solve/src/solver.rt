@@ -73,7 +73,7 @@ impl<'g, T: MeasureTable, S: Schedule> Solver<'g, T, S> {
     }
 
     /// A solver as `prepare` makes it, but with the places of the game in rising order: for a game whose places lie in
-    /// the order in which they are to be lifted.
+    /// the order in which they are to be lifted. Refused with `TooWide` as `prepare` is, or with `Memory`.
     pub fn prepare_in_order(
         alloc: Global,
         game: &'g Game,

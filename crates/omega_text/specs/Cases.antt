@@ -40,6 +40,10 @@ abbrev pub or_memory : (Refusal → Type 0) → Refusal → Type 0
 or_memory others Memory = Unit {0}
 or_memory others refusal = others refusal
 
+-- want of memory alone
+abbrev pub IsMemory : Refusal → Type 0
+IsMemory = or_memory never
+
 -- a failed read or write, or one of the others
 abbrev pub or_io : (Refusal → Type 0) → Refusal → Type 0
 or_io others Io = Unit {0}

@@ -5,4 +5,3 @@ pub mod Format
 pub mod Forms
 pub mod Laws
 pub mod Pieces
-pub mod scanning

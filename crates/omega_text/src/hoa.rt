@@ -1,5 +1,6 @@
 //! Texts in the Hanoi format, of automata and of streams of them, as tokens.
 
+mod byte_tokenizer;
 mod format;
 mod kept_mode;
 mod kind;
@@ -17,6 +18,7 @@ mod tokenizer;
 mod tokens;
 mod unit;
 
+pub use byte_tokenizer::ByteTokenizer;
 pub use kind::HoaKind;
 pub use placed::{PlacedToken, Settled};
 pub use token::next_hoa_token;

@@ -29,7 +29,9 @@ mod tokens;
 pub use byte_string::ByteString;
 pub use checking::check_tokens;
 pub use cursor::Cursor;
-pub use hoa::{HoaKind, HoaTokenizer, PlacedToken, Settled, hoa_tokens, next_hoa_token};
+pub use hoa::{
+    ByteTokenizer, HoaKind, HoaTokenizer, PlacedToken, Settled, hoa_tokens, next_hoa_token,
+};
 pub use limits::{MOST_NUMBER, MOST_TEXT};
 pub use marks::Marks;
 pub use number::write_number;

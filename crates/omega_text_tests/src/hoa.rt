@@ -2,7 +2,9 @@ ghost use Rattle.std.specs.Prelude.{◌+◌, ◌<◌, ◌≤◌, ◌^◌, length
 ghost use Rattle.omega_text_tests.specs.Read.{HasReadTo};
 
 use crate::rows::assert_row;
-use omega_text::{HoaKind, HoaTokenizer, PlacedToken, Settled, TextFault, hoa_tokens};
+use omega_text::{
+    ByteTokenizer, HoaKind, HoaTokenizer, PlacedToken, Settled, TextFault, hoa_tokens,
+};
 use std::alloc::{AllocError, Global};
 
 pub(crate) type Part = (HoaKind, usize, usize);
@@ -194,15 +196,15 @@ static LASTS: [(&str, Option<Part>, Option<(u32, usize)>); 15] = [
 ];
 
 // What a tokenizer settles of a piece that begins at a place is put behind other tokens; the answer is its fault.
-fn read(
-    tokenizer: &mut HoaTokenizer,
+fn read<T: ByteTokenizer>(
+    tokenizer: &mut T,
     place: usize,
     piece: &[u8],
     tokens: &mut Vec<PlacedToken>,
 ) -> Result<Option<TextFault>, AllocError>
-    requires read { HasReadTo place tokenizer.old }
+    requires read { HasReadTo (T.read tokenizer.old) place }
     requires room { place + length piece.now < 2 ^ 60 }
-    ensures { IfOk result (λ _. HasReadTo (place + length piece.now) tokenizer.new) }
+    ensures { IfOk result (λ _. HasReadTo (T.read tokenizer.new) (place + length piece.now)) }
 {
     let mut fault = None;
     for byte in piece {
@@ -225,15 +227,15 @@ fn keep(settled: &Settled, tokens: &mut Vec<PlacedToken>) -> Result<(), AllocErr
 
 // The places at which a tokenizer stops in a piece that begins at a place are put behind others;
 // the answer is its fault.
-fn pass(
-    tokenizer: &mut HoaTokenizer,
+fn pass<T: ByteTokenizer>(
+    tokenizer: &mut T,
     place: usize,
     piece: &[u8],
     stops: &mut Vec<usize>,
 ) -> Result<Option<TextFault>, AllocError>
-    requires read { HasReadTo place tokenizer.old }
+    requires read { HasReadTo (T.read tokenizer.old) place }
     requires room { place + length piece.now < 2 ^ 60 }
-    ensures { IfOk result (λ _. HasReadTo (place + length piece.now) tokenizer.new) }
+    ensures { IfOk result (λ _. HasReadTo (T.read tokenizer.new) (place + length piece.now)) }
 {
     let mut fault = None;
     let mut next = 0usize;

@@ -14,8 +14,9 @@ use omega_pg::write_solution;
 use omega_search::solve_by_search;
 use std::alloc::Global;
 
-/// The solution text of a game, found by a search and judged. Where the search gives nothing the game is solved by
-/// lifting, each player's run within the budget: then, and only then, 50 or 51. Else 60 alone.
+/// The solution text of a game, found by a search and judged. Where the search gives nothing, of which no contract says
+/// when, the game is solved by lifting, each player's run within the budget, and may be refused 50 or 51. Else 60
+/// alone.
 pub fn solve_by_judged_search<L, W: Watch<L>>(
     alloc: Global,
     game: &Game,

@@ -32,7 +32,8 @@ fn add_random(builder: &mut GameBuilder, nodes: u16, most: u16, seed: u64) -> Re
         let owner = if drawn(number, 2) == 0 { Zero } else { One };
         number = next(number);
         builder.add_node(id, priority, owner, drawn(number, count))?;
-        for _ in 0..drawn(next(number), 3) {
+        number = next(number);
+        for _ in 0..drawn(number, 3) {
             number = next(number);
             list(builder, drawn(number, count))?;
         }

@@ -2,7 +2,7 @@ ghost use Rattle.std.specs.Prelude.{IfErr, IfSome, refl};
 ghost use Rattle.omega_raw.specs.Grammar.{optional_row, sig_row};
 ghost use Rattle.omega_raw.specs.private.steps.First.{FirstIs};
 ghost use Rattle.omega_raw.specs.private.steps.Parts.{is_brace};
-ghost use Rattle.omega_raw.specs.private.steps.Reading.{EndsList, Finds, GivesRow, IsAny, IsKind, IsReadingRefusal};
+ghost use Rattle.omega_raw.specs.private.steps.Reading.{EndsList, Finds, GivesRow, IsAny, IsKind, IsSyntaxOrMemory};
 
 use crate::part::{Part, read_if, read_numbers};
 use crate::single::Int;
@@ -47,7 +47,7 @@ pub(crate) fn read_marks<'a, S: TokenSource<'a, HoaKind>>(
 ) -> Result<Marks, Refusal>
     ensures gives { GivesRow (λ it. IfSome it IsAny) (optional_row sig_row) (S.left source.old) (S.left source.new) result }
     ensures finds { Finds (λ it. IfSome it IsAny) (optional_row sig_row) (FirstIs (EndsList is_brace IsKind)) (S.left source.old) (S.left source.new) result }
-    ensures err { IfErr result IsReadingRefusal }
+    ensures err { IfErr result IsSyntaxOrMemory }
 {
     let sets = read_if::<Sig, S>(alloc, source)?;
     Ok(match sets {

@@ -1,7 +1,7 @@
 ghost use Rattle.std.specs.Prelude.{◌≡◌, IfErr};
 ghost use Rattle.omega_raw.specs.private.steps.Contents.{FindsNamed, GivesNamed, FindsUnknown, GivesUnknown};
 ghost use Rattle.omega_raw.specs.Grammar.{header_named};
-ghost use Rattle.omega_raw.specs.private.steps.Reading.{IsReadingRefusal};
+ghost use Rattle.omega_raw.specs.private.steps.Reading.{IsSyntaxOrMemory};
 ghost use Rattle.omega_raw.specs.declared.header.name.HeaderKind.TheVariants as header;
 
 use crate::header::known;
@@ -23,7 +23,7 @@ pub(crate) fn content<'a, S: TokenSource<'a, HoaKind>>(
 ) -> Result<RawItem, Refusal>
     ensures gives { GivesNamed name.now (S.left source.old) (S.left source.new) result }
     ensures finds { FindsNamed name.now (S.left source.old) (S.left source.new) result }
-    ensures err { IfErr result IsReadingRefusal }
+    ensures err { IfErr result IsSyntaxOrMemory }
 {
     match HeaderKind::of_name(name) {
         HeaderKind::Format | HeaderKind::State => Err(Refusal::Text(TextFault::Syntax { at })),
@@ -49,7 +49,7 @@ fn unknown<'a, S: TokenSource<'a, HoaKind>>(
     requires { header_named name.now ≡ header.Unknown }
     ensures gives { GivesUnknown name.now (S.left source.old) (S.left source.new) result }
     ensures finds { FindsUnknown name.now (S.left source.old) (S.left source.new) result }
-    ensures err { IfErr result IsReadingRefusal }
+    ensures err { IfErr result IsSyntaxOrMemory }
 {
     let name = copied(alloc, name)?;
     let values = read_each::<UnknownValue, S>(alloc, source)?;

@@ -2,7 +2,7 @@
 
 ghost use Rattle.std.specs.Prelude.{IfErr};
 ghost use Rattle.omega_raw.specs.private.steps.Contents.{FindsContent, GivesContent};
-ghost use Rattle.omega_raw.specs.private.steps.Reading.{IsReadingRefusal};
+ghost use Rattle.omega_raw.specs.private.steps.Reading.{IsSyntaxOrMemory};
 ghost use Rattle.omega_raw.specs.declared.header.name.HeaderKind.TheVariants as header;
 
 use crate::conj::conj;
@@ -21,7 +21,7 @@ pub(crate) fn state_count<'a, S: TokenSource<'a, HoaKind>>(
 ) -> Result<RawItem, Refusal>
     ensures gives { GivesContent header.States (S.left source.old) (S.left source.new) result }
     ensures finds { FindsContent header.States (S.left source.old) (S.left source.new) result }
-    ensures err { IfErr result IsReadingRefusal }
+    ensures err { IfErr result IsSyntaxOrMemory }
 {
     Ok(RawItem::States(take_int(source)?))
 }
@@ -33,7 +33,7 @@ pub(crate) fn start<'a, S: TokenSource<'a, HoaKind>>(
 ) -> Result<RawItem, Refusal>
     ensures gives { GivesContent header.Start (S.left source.old) (S.left source.new) result }
     ensures finds { FindsContent header.Start (S.left source.old) (S.left source.new) result }
-    ensures err { IfErr result IsReadingRefusal }
+    ensures err { IfErr result IsSyntaxOrMemory }
 {
     let states = conj(alloc, source)?;
     Ok(RawItem::Start(states))
@@ -46,7 +46,7 @@ pub(crate) fn propositions<'a, S: TokenSource<'a, HoaKind>>(
 ) -> Result<RawItem, Refusal>
     ensures gives { GivesContent header.Propositions (S.left source.old) (S.left source.new) result }
     ensures finds { FindsContent header.Propositions (S.left source.old) (S.left source.new) result }
-    ensures err { IfErr result IsReadingRefusal }
+    ensures err { IfErr result IsSyntaxOrMemory }
 {
     let count = take_int(source)?;
     let names = read_each::<Quoted, S>(alloc, source)?;
@@ -60,7 +60,7 @@ pub(crate) fn alias<'a, S: TokenSource<'a, HoaKind>>(
 ) -> Result<RawItem, Refusal>
     ensures gives { GivesContent header.Alias (S.left source.old) (S.left source.new) result }
     ensures finds { FindsContent header.Alias (S.left source.old) (S.left source.new) result }
-    ensures err { IfErr result IsReadingRefusal }
+    ensures err { IfErr result IsSyntaxOrMemory }
 {
     let token = take_kind(source, HoaKind::AliasName)?;
     let name = copied(alloc, token.text)?;
@@ -75,7 +75,7 @@ pub(crate) fn acceptance<'a, S: TokenSource<'a, HoaKind>>(
 ) -> Result<RawItem, Refusal>
     ensures gives { GivesContent header.Acceptance (S.left source.old) (S.left source.new) result }
     ensures finds { FindsContent header.Acceptance (S.left source.old) (S.left source.new) result }
-    ensures err { IfErr result IsReadingRefusal }
+    ensures err { IfErr result IsSyntaxOrMemory }
 {
     let count = take_int(source)?;
     let formula = acceptance_expression(alloc, source)?;
@@ -89,7 +89,7 @@ pub(crate) fn acc_name<'a, S: TokenSource<'a, HoaKind>>(
 ) -> Result<RawItem, Refusal>
     ensures gives { GivesContent header.AccName (S.left source.old) (S.left source.new) result }
     ensures finds { FindsContent header.AccName (S.left source.old) (S.left source.new) result }
-    ensures err { IfErr result IsReadingRefusal }
+    ensures err { IfErr result IsSyntaxOrMemory }
 {
     let name = take_word(alloc, source)?;
     let parameters = read_each::<NameParameter, S>(alloc, source)?;
@@ -103,7 +103,7 @@ pub(crate) fn tool<'a, S: TokenSource<'a, HoaKind>>(
 ) -> Result<RawItem, Refusal>
     ensures gives { GivesContent header.Tool (S.left source.old) (S.left source.new) result }
     ensures finds { FindsContent header.Tool (S.left source.old) (S.left source.new) result }
-    ensures err { IfErr result IsReadingRefusal }
+    ensures err { IfErr result IsSyntaxOrMemory }
 {
     let first = take_string(alloc, source)?;
     let second = read_if::<Quoted, S>(alloc, source)?;
@@ -117,7 +117,7 @@ pub(crate) fn title<'a, S: TokenSource<'a, HoaKind>>(
 ) -> Result<RawItem, Refusal>
     ensures gives { GivesContent header.Name (S.left source.old) (S.left source.new) result }
     ensures finds { FindsContent header.Name (S.left source.old) (S.left source.new) result }
-    ensures err { IfErr result IsReadingRefusal }
+    ensures err { IfErr result IsSyntaxOrMemory }
 {
     Ok(RawItem::Name(take_string(alloc, source)?))
 }
@@ -129,7 +129,7 @@ pub(crate) fn properties<'a, S: TokenSource<'a, HoaKind>>(
 ) -> Result<RawItem, Refusal>
     ensures gives { GivesContent header.Properties (S.left source.old) (S.left source.new) result }
     ensures finds { FindsContent header.Properties (S.left source.old) (S.left source.new) result }
-    ensures err { IfErr result IsReadingRefusal }
+    ensures err { IfErr result IsSyntaxOrMemory }
 {
     let words = read_each::<Word, S>(alloc, source)?;
     Ok(RawItem::Properties(words))

@@ -10,7 +10,7 @@ use Rattle.omega_text.specs.declared.hoa.mode.Mode.TheVariants.{Start, At, Alias
 use Rattle.omega_text.specs.declared.hoa.passing.Simple.TheVariants.{Begun, Ended}
 use Rattle.omega_text.specs.declared.hoa.pending.Pending.{Pending}
 use Rattle.omega_text.specs.hoa.Forms.{spelling}
-use Rattle.omega_text.specs.hoa.scanning.Modes.{BeginsAs, first_mode, next_mode, run}
+use Rattle.omega_text.specs.private.hoa.scanning.Modes.{BeginsAs, first_mode, next_mode, run}
 use Rattle.omega_text.specs.hoa.Pieces.{is_mark}
 use Rattle.omega_text.specs.private.hoa.scanning.Passing.{IsEndedBy, IsSimple, IsSingle}
 use Rattle.omega_text.specs.private.hoa.scanning.Unfinished.{IsTokenIn, fresh}

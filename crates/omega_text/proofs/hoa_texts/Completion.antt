@@ -7,9 +7,9 @@ use Rattle.omega_text.specs.declared.hoa.kind.HoaKind.TheVariants.{Identifier, A
 use Rattle.omega_text.specs.declared.hoa.mode.Mode.{Mode}
 use Rattle.omega_text.specs.declared.hoa.mode.Mode.TheVariants.{Start, Word, At, Alias, Digits, Quoted, Escaped, Slash, Comment, Star, Slashed, Dash, Dashes, Mark, Whole, Blank}
 use Rattle.omega_text.specs.hoa.Forms.{spelling}
-use Rattle.omega_text.specs.hoa.scanning.Modes.{IsWithin, run}
+use Rattle.omega_text.specs.private.hoa.scanning.Modes.{IsWithin, run}
 use Rattle.omega_text.specs.hoa.Pieces.{GoesOn}
-use Rattle.omega_text.specs.hoa.scanning.Reading.{IsUnfinishedUnit}
+use Rattle.omega_text.specs.private.hoa.scanning.Reading.{IsUnfinishedUnit}
 use Rattle.omega_text.proofs.hoa_texts.Read.{unit_read}
 use Rattle.omega_text.proofs.hoa_texts.Runs.{answer, run_append}
 use Rattle.omega_text.proofs.hoa_texts.Tests.{choose, pass}

@@ -10,7 +10,7 @@ use Rattle.omega_text.specs.private.hoa.Gaps.{IsGapTo}
 use Rattle.omega_text.specs.hoa.Cut.IsGap.{blank, nothing}
 use Rattle.omega_text.specs.hoa.Fault.{HasFaultFrom, IsFaultOf}
 use Rattle.omega_text.specs.hoa.Forms.{IsBlank}
-use Rattle.omega_text.specs.hoa.scanning.Modes.{IsFirstUnit}
+use Rattle.omega_text.specs.private.hoa.scanning.Modes.{IsFirstUnit}
 
 -- a gap with one part more
 pub gap_more : (gap text : List ℕ) → IsGap gap → IsBlank text → IsGap (gap ++ text)

@@ -5,7 +5,7 @@ use Rattle.omega_text.specs.declared.hoa.mode.Mode.{Mode}
 use Rattle.omega_text.specs.declared.hoa.mode.Mode.TheVariants.{Start, Word, Alias, Digits}
 use Rattle.omega_text.specs.declared.hoa.placed.PlacedToken.{PlacedToken}
 use Rattle.omega_text.specs.hoa.Laws.{is_closed}
-use Rattle.omega_text.specs.hoa.scanning.Modes.{run}
+use Rattle.omega_text.specs.private.hoa.scanning.Modes.{run}
 use Rattle.omega_text.specs.private.hoa.scanning.Unfinished.{IsTokenIn}
 use Rattle.omega_text.proofs.hoa_texts.Laws.{closed_run}
 use Rattle.omega_text.proofs.hoa_texts.Read.{unit_read}

@@ -11,7 +11,7 @@ use Rattle.omega_text.specs.hoa.Cut.{Follows, IsGap, IsLongest}
 use Rattle.omega_text.specs.hoa.Cut.IsGap.{blank, nothing}
 use Rattle.omega_text.specs.hoa.Forms.{IsAlias, IsForm, Spells}
 use Rattle.omega_text.specs.hoa.Laws.{is_closed}
-use Rattle.omega_text.specs.hoa.scanning.Modes.{run}
+use Rattle.omega_text.specs.private.hoa.scanning.Modes.{run}
 use Rattle.omega_text.specs.Bytes.{is_digit, is_white, is_word_byte}
 use Rattle.omega_text.specs.Forms.{IsDigits, IsWord}
 use Rattle.omega_text.proofs.pg_texts.Longest.{head}

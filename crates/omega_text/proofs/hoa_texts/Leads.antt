@@ -8,7 +8,7 @@ use Rattle.omega_text.specs.declared.hoa.lead.Lead.{Lead}
 use Rattle.omega_text.specs.declared.hoa.lead.Lead.TheVariants.{White, Sign, Digit, Letter, Quote, At, Other}
 use Rattle.omega_text.specs.declared.hoa.mode.Mode.TheVariants.{Whole}
 use Rattle.omega_text.specs.private.hoa.scanning.Leads.{lead_of, sign_lead}
-use Rattle.omega_text.specs.hoa.scanning.Modes.{first_mode, sign_kind}
+use Rattle.omega_text.specs.private.hoa.scanning.Modes.{first_mode, sign_kind}
 use Rattle.omega_text.specs.hoa.Pieces.{is_mark}
 use Rattle.omega_text.specs.private.hoa.scanning.Passing.{IsSingle}
 use Rattle.omega_text.proofs.hoa_texts.Tests.{either}

@@ -7,7 +7,7 @@ use Rattle.omega_text.specs.declared.hoa.mode.Mode.TheVariants.{Start, Word, Ali
 use Rattle.omega_text.specs.hoa.Cut.{IsLongest}
 use Rattle.omega_text.specs.hoa.Fault.{BeginsNoUnit}
 use Rattle.omega_text.specs.hoa.Forms.{IsBlank, IsUnit}
-use Rattle.omega_text.specs.hoa.scanning.Modes.{IsStuck, next_mode, run, unit_of}
+use Rattle.omega_text.specs.private.hoa.scanning.Modes.{IsStuck, next_mode, run, unit_of}
 use Rattle.omega_text.specs.Bytes.{is_digit, is_word_byte}
 use Rattle.omega_text.proofs.hoa_texts.Runs.{answer, answer_none, run_append, run_none}
 use Rattle.omega_text.proofs.hoa_texts.Tests.{either}

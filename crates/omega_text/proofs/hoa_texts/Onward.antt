@@ -10,7 +10,7 @@ use Rattle.omega_text.specs.hoa.Cut.{Ends, Follows, IsGap, IsLongest}
 use Rattle.omega_text.specs.hoa.Cut.IsGap.{blank, nothing}
 use Rattle.omega_text.specs.hoa.Fault.{HasFaultFrom, IsFaultOf}
 use Rattle.omega_text.specs.hoa.Forms.{IsBlank, Spells}
-use Rattle.omega_text.specs.hoa.scanning.Modes.{IsStuck, next_mode, run, unit_of}
+use Rattle.omega_text.specs.private.hoa.scanning.Modes.{IsStuck, next_mode, run, unit_of}
 use Rattle.omega_text.proofs.hoa_texts.Longest.{stuck_longest, stuck_no_unit}
 use Rattle.omega_text.proofs.hoa_texts.Numbers.{spelled_or_wrong}
 use Rattle.omega_text.proofs.hoa_texts.Read.{unit_read}

@@ -21,10 +21,10 @@ use Rattle.omega_text.specs.declared.hoa.tokenizer.HoaTokenizer.{HoaTokenizer}
 use Rattle.omega_text.specs.declared.refusal.text.TextFault.{TextFault}
 use Rattle.omega_text.specs.hoa.Format.{hoa_format}
 use Rattle.omega_text.specs.hoa.Laws.{is_closed}
-use Rattle.omega_text.specs.hoa.Pieces.{IsNoneMark, IsPlain, NoneMarks, SettlesFault, StopsBefore, is_mark, lexeme_in, lexemes_in, settled_lexemes}
-use Rattle.omega_text.specs.hoa.scanning.Modes.{first_mode, letter_kind, next_mode, quoted_mode, run, word_mode}
-use Rattle.omega_text.specs.private.hoa.scanning.Passing.{EndsWord, IsCourse, IsEndedBy, IsOnWayFor, IsSimple, IsSingle, IsStop, Passed, Passes, PassesAs, is_quoted}
-use Rattle.omega_text.specs.hoa.scanning.Reading.{HasPassed, HasRoom, Any, HasRead, IsAt, IsKept, IsOnWay, IsUnfinishedUnit, With, IsValueOf}
+use Rattle.omega_text.specs.hoa.Pieces.{HasPassed, HasRoom, IsNoneMark, IsPlain, NoneMarks, SettlesFault, StopsBefore, is_mark, lexeme_in, lexemes_in, settled_lexemes}
+use Rattle.omega_text.specs.private.hoa.scanning.Modes.{first_mode, letter_kind, next_mode, quoted_mode, run, word_mode}
+use Rattle.omega_text.specs.private.hoa.scanning.Passing.{EndsWord, IsCourse, IsEndedBy, IsOnWayFor, IsSimple, IsSingle, Passed, Passes, PassesAs, is_quoted}
+use Rattle.omega_text.specs.private.hoa.scanning.Reading.{Any, HasRead, IsAt, IsKept, IsOnWay, IsUnfinishedUnit, With, IsValueOf}
 use Rattle.omega_text.specs.private.hoa.scanning.Unfinished.{IsPlaced, IsTokenIn, fresh}
 use Rattle.omega_text.proofs.hoa_texts.Last.{last_unclosed}
 use Rattle.omega_text.proofs.hoa_texts.Pieces.{at_with, fault_stays, grown, judged, kept_settled, parts, split_more}
@@ -462,12 +462,12 @@ pub way_on : (bytes : List ℕ) (place start : ℕ) (pending : Pending) → plac
 way_on bytes place start pending inside way = (way.0, way.1, way.2, way.3, omega (arith, way.4, inside))
 
 -- what a tokenizer has read
-pub way_read : (tokenizer : HoaTokenizer) (count : ℕ) → tokenizer.fault ≡ None → HasRoom count tokenizer → IsOnWayFor count tokenizer.pending tokenizer.place
+pub way_read : (tokenizer : HoaTokenizer) (count : ℕ) → tokenizer.fault ≡ None → HasRoom (λ seen lexemes. HasRead seen lexemes tokenizer) count → IsOnWayFor count tokenizer.pending tokenizer.place
 way_read tokenizer count sound room =
     (room.0, room.1, room.2.place, subst (λ fault. IsKept fault room.0 room.1 tokenizer.pending) sound room.2.kept, omega (arith, room.2.place, room.3))
 
 pub has_passed : (bytes : List ℕ) (from to : ℕ) (before after : HoaTokenizer) → Passes before.place bytes from to before.pending after.pending → before.fault ≡ None → after.fault ≡ None
-    → after.place ≡ before.place + (to - from) → (seen : List ℕ) (lexemes : List (Lexeme HoaKind)) → HasRead seen lexemes before → HasPassed seen lexemes (take (to - from) (drop from bytes)) after
+    → after.place ≡ before.place + (to - from) → (seen : List ℕ) (lexemes : List (Lexeme HoaKind)) → HasRead seen lexemes before → HasPassed (λ read settled. HasRead read settled after) seen lexemes (take (to - from) (drop from bytes))
 has_passed bytes from to before after passes sound sound_after place seen lexemes read =
     let part = take (to - from) (drop from bytes) in
     let passed = passes.reads seen lexemes read.place (subst (λ fault. IsKept fault seen lexemes before.pending) sound read.kept) in
@@ -483,10 +483,10 @@ has_passed bytes from to before after passes sound sound_after place seen lexeme
 
 -- nothing more was read
 pub has_passed_none : (bytes : List ℕ) (from : ℕ) (tokenizer : HoaTokenizer) (seen : List ℕ) (lexemes : List (Lexeme HoaKind)) → HasRead seen lexemes tokenizer
-    → HasPassed seen lexemes (take (from - from) (drop from bytes)) tokenizer
+    → HasPassed (λ read settled. HasRead read settled tokenizer) seen lexemes (take (from - from) (drop from bytes))
 has_passed_none bytes from tokenizer seen lexemes read =
     let none : from - from ≡ 0 = omega arith in
-    subst (λ n. HasPassed seen lexemes (take n (drop from bytes)) tokenizer) (sym none) (record {
+    subst (λ n. HasPassed (λ read settled. HasRead read settled tokenizer) seen lexemes (take n (drop from bytes))) (sym none) (record {
       passed = [];
       read = subst (λ ls. HasRead (seen ++ []) ls tokenizer) (sym (append-nil lexemes)) (subst (λ bs. HasRead bs lexemes tokenizer) (sym (append-nil seen)) read);
       plain = tt;

@@ -19,9 +19,9 @@ use Rattle.omega_text.specs.hoa.Cut.IsGap.{nothing}
 use Rattle.omega_text.specs.hoa.Fault.{HasFaultFrom, IsFaultOf}
 use Rattle.omega_text.specs.hoa.Format.{hoa_format}
 use Rattle.omega_text.specs.hoa.Forms.{Spells}
-use Rattle.omega_text.specs.hoa.scanning.Modes.{IsStuck, IsWithin, next_mode, run, unit_of}
+use Rattle.omega_text.specs.private.hoa.scanning.Modes.{IsStuck, IsWithin, next_mode, run, unit_of}
 use Rattle.omega_text.specs.hoa.Pieces.{FaultsBehind, IsSettled, SettlesFault, lexeme_in, lexemes_in, settled_lexemes}
-use Rattle.omega_text.specs.hoa.scanning.Reading.{Any, IsAt, IsKept, IsUnfinishedUnit, With, IsValueOf}
+use Rattle.omega_text.specs.private.hoa.scanning.Reading.{Any, IsAt, IsKept, IsUnfinishedUnit, With, IsValueOf}
 use Rattle.omega_text.specs.private.hoa.scanning.Unfinished.{Continues, IsFaultIn, IsGrown, IsPlaced, IsTokenIn, ValueGrows, fresh}
 use Rattle.omega_text.specs.Forms.{IsDigits}
 use Rattle.omega_text.proofs.formats.Cutting.{cuts_more}

@@ -9,7 +9,7 @@ use Rattle.omega_text.specs.declared.hoa.kind.HoaKind.{HoaKind}
 use Rattle.omega_text.specs.declared.hoa.mode.Mode.TheVariants.{Start, Alias, Digits, Quoted, Whole}
 use Rattle.omega_text.specs.Limits.{most_number}
 use Rattle.omega_text.specs.hoa.Forms.{Spells, spelling}
-use Rattle.omega_text.specs.hoa.scanning.Modes.{BeginsAs, IsFirstUnit, IsScanned, first_mode, next_mode, run}
+use Rattle.omega_text.specs.private.hoa.scanning.Modes.{BeginsAs, IsFirstUnit, IsScanned, first_mode, next_mode, run}
 use Rattle.omega_text.specs.hoa.Pieces.{is_mark}
 use Rattle.omega_text.specs.private.hoa.scanning.Passing.{IsSimple, IsSingle, is_quoted}
 use Rattle.omega_text.specs.declared.hoa.passing.Simple.TheVariants.{Ended}

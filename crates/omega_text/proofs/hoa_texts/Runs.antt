@@ -2,7 +2,7 @@
 use Rattle.std.proofs.Common.{◌≡◌, ℕ, Option, Some, None, List, [], ◌∷◌, ◌++◌, refl, ap}
 use Rattle.omega_text.specs.declared.hoa.kind.HoaKind.{HoaKind}
 use Rattle.omega_text.specs.declared.hoa.mode.Mode.{Mode}
-use Rattle.omega_text.specs.hoa.scanning.Modes.{run, step, unit_of}
+use Rattle.omega_text.specs.private.hoa.scanning.Modes.{run, step, unit_of}
 
 -- a run over two parts
 pub run_append : (state : Option Mode) (one other : List ℕ) → run state (one ++ other) ≡ run (run state one) other

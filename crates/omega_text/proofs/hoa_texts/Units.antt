@@ -10,7 +10,7 @@ use Rattle.omega_text.specs.declared.hoa.mode.Mode.{Mode}
 use Rattle.omega_text.specs.declared.hoa.mode.Mode.TheVariants.{Start, Word, Digits, Whole, Blank}
 use Rattle.omega_text.specs.hoa.Fault.{BeginsNoUnit, BeginsWrongDigits}
 use Rattle.omega_text.specs.hoa.Forms.{IsForm, IsUnit, Spells}
-use Rattle.omega_text.specs.hoa.scanning.Modes.{IsFirstUnit, IsScanned, IsStuck, SpellsUnit, first_mode, letter_kind, next_mode, run, unit_of}
+use Rattle.omega_text.specs.private.hoa.scanning.Modes.{IsFirstUnit, IsScanned, IsStuck, SpellsUnit, first_mode, letter_kind, next_mode, run, unit_of}
 use Rattle.omega_text.specs.Bytes.{is_digit, is_letter, is_white, is_word_byte}
 use Rattle.omega_text.specs.Forms.{IsDigits, IsWord}
 use Rattle.omega_text.proofs.pg_texts.Classes.{both_ways}

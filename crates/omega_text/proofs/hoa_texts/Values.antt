@@ -8,7 +8,7 @@ use Rattle.omega_text.specs.Limits.{most_number}
 use Rattle.omega_text.specs.declared.hoa.kind.HoaKind.TheVariants.{Int}
 use Rattle.omega_text.specs.declared.pg.kind.PgKind.TheVariants.{Number}
 use Rattle.omega_text.specs.hoa.Forms.{Spells}
-use Rattle.omega_text.specs.hoa.scanning.Reading.{IsValueOf}
+use Rattle.omega_text.specs.private.hoa.scanning.Reading.{IsValueOf}
 use Rattle.omega_text.specs.Bytes.{is_digit}
 use Rattle.omega_text.specs.Forms.{IsDigits}
 use Rattle.omega_text.proofs.hoa_texts.Numbers.{IsNoNumber}

@@ -5,7 +5,7 @@ use Rattle.omega_text.specs.declared.hoa.kind.HoaKind.{HoaKind}
 use Rattle.omega_text.specs.declared.hoa.mode.Mode.{Mode}
 use Rattle.omega_text.specs.declared.hoa.mode.Mode.TheVariants.{Start, Word, At, Alias, Digits, Quoted, Escaped, Slash, Comment, Star, Slashed, Dash, Dashes, Mark, Whole, Blank}
 use Rattle.omega_text.specs.hoa.Forms.{spelling}
-use Rattle.omega_text.specs.hoa.scanning.Modes.{IsWithin, closed_mode, first_mode, next_mode, run, sign_kind, whole}
+use Rattle.omega_text.specs.private.hoa.scanning.Modes.{IsWithin, closed_mode, first_mode, next_mode, run, sign_kind, whole}
 use Rattle.omega_text.specs.Bytes.{is_digit, is_letter, is_white, is_word_byte}
 use Rattle.omega_text.proofs.hoa_texts.Runs.{run_none}
 use Rattle.omega_text.proofs.hoa_texts.Tests.{either}

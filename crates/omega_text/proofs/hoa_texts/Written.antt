@@ -9,7 +9,7 @@ use Rattle.omega_text.specs.declared.hoa.mode.Mode.TheVariants.{Start, Word, Ali
 use Rattle.omega_text.specs.hoa.Forms.{Closes, IsBlank, IsNoMark, IsQuotable, IsUnit, spelling}
 use Rattle.omega_text.specs.hoa.Forms.Closes.{close, closed, nest, other}
 use Rattle.omega_text.specs.hoa.Forms.IsQuotable.{empty, escaped, plain}
-use Rattle.omega_text.specs.hoa.scanning.Modes.{closed_mode, comment_mode, first_mode, letter_kind, run, sign_kind, slashed_mode, star_mode, whole}
+use Rattle.omega_text.specs.private.hoa.scanning.Modes.{closed_mode, comment_mode, first_mode, letter_kind, run, sign_kind, slashed_mode, star_mode, whole}
 use Rattle.omega_text.specs.Bytes.{is_digit, is_letter, is_white, is_word_byte}
 use Rattle.omega_text.specs.Forms.{IsDigits, IsWord}
 use Rattle.omega_text.proofs.hoa_texts.Runs.{answer, run_append}

@@ -1,5 +1,5 @@
 -- What is settled of a text that comes byte by byte: what is so in whichever way the text goes on.
-use Rattle.std.specs.Prelude.{◌≡◌, ℕ, ◌-◌, ◌<◌, Bool, true, false, Option, Some, None, List, [], ◌∷◌, ◌++◌, length, take, drop}
+use Rattle.std.specs.Prelude.{◌≡◌, ℕ, ◌+◌, ◌-◌, ◌<◌, ◌^◌, Bool, true, false, Option, Some, None, List, [], ◌∷◌, ◌++◌, length, take, drop}
 use Rattle.omega_text.specs.Cut.{Cuts, IsCut}
 use Rattle.omega_text.specs.Lexeme.{Lexeme}
 use Rattle.omega_text.specs.declared.hoa.kind.HoaKind.{HoaKind}
@@ -91,3 +91,17 @@ pub record IsPlain (settled : Settled) : Type 0 where
 -- behind these tokens, a mark or a fault is settled by the next byte
 abbrev pub StopsBefore : List ℕ → List (Lexeme HoaKind) → ℕ → Type 0
 StopsBefore seen lexemes byte = (settled : Settled) × IsSettled settled.fault (seen ++ byte ∷ []) (lexemes ++ settled_lexemes (seen ++ byte ∷ []) settled) × (IsPlain settled → ⊥)
+
+-- what is so of bytes that a tokenizer may have read and tokens that it may have settled of them
+abbrev pub Reading : Type 1
+Reading = List ℕ → List (Lexeme HoaKind) → Type 0
+
+-- some bytes were read, and behind them places can be counted further by so many
+abbrev pub HasRoom : Reading → ℕ → Type 0
+HasRoom IsRead count = (seen : List ℕ) × (lexemes : List (Lexeme HoaKind)) × IsRead seen lexemes × (length seen + count < 2 ^ 64)
+
+-- these bytes more were read, and the tokens that they settled are no marks
+pub record HasPassed (IsRead : Reading) (seen : List ℕ) (lexemes : List (Lexeme HoaKind)) (bytes : List ℕ) : Type 0 where
+  pub passed : List (Lexeme HoaKind)
+  pub read : IsRead (seen ++ bytes) (lexemes ++ passed)
+  pub plain : NoneMarks passed

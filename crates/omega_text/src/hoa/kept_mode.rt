@@ -55,7 +55,7 @@ impl Model for KeptMode {
 }
 
 impl KeptMode {
-    ghost use Rattle.omega_text.specs.hoa.scanning.Modes.{IsWithin, next_mode};
+    ghost use Rattle.omega_text.specs.private.hoa.scanning.Modes.{IsWithin, next_mode};
 
     #[inline(always)]
     pub(crate) fn new(mode: Mode) -> KeptMode

@@ -2,7 +2,7 @@
 
 ghost use Rattle.std.specs.Prelude.{◌≡◌, length, true, IfSome, IsTrue};
 ghost use Rattle.omega_text.specs.hoa.Forms.{spelling};
-ghost use Rattle.omega_text.specs.hoa.scanning.Modes.{BeginsAs};
+ghost use Rattle.omega_text.specs.private.hoa.scanning.Modes.{BeginsAs};
 ghost use Rattle.omega_text.specs.hoa.Pieces.{is_mark};
 
 use super::kind::{HoaKind, spelling};

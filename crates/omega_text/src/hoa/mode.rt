@@ -1,6 +1,6 @@
 ghost use Rattle.std.specs.Prelude.{◌≡◌, ◌^◌, ◌-◌, ◌<◌, length};
 ghost use Rattle.omega_text.specs.hoa.Forms.{spelling};
-ghost use Rattle.omega_text.specs.hoa.scanning.Modes.{alias_mode, bracket_kind, closed_mode, comment_mode, dash_mode, dashes_mode, digits_mode, first_mode, letter_kind, mark_mode, mode_in_mark, next_mode, quoted_mode, sign_kind, slash_mode, slashed_mode, star_mode, whole, word_mode};
+ghost use Rattle.omega_text.specs.private.hoa.scanning.Modes.{alias_mode, bracket_kind, closed_mode, comment_mode, dash_mode, dashes_mode, digits_mode, first_mode, letter_kind, mark_mode, mode_in_mark, next_mode, quoted_mode, sign_kind, slash_mode, slashed_mode, star_mode, whole, word_mode};
 
 use super::kept_mode::KeptMode;
 use super::kind::{HoaKind, spelling};
@@ -44,7 +44,7 @@ pub(crate) enum Mode {
 }
 
 impl Mode {
-    ghost use Rattle.omega_text.specs.hoa.scanning.Modes.{unit_of};
+    ghost use Rattle.omega_text.specs.private.hoa.scanning.Modes.{unit_of};
 
     /// The unit that has been read, if it may end here: a token of a kind, or a part of a gap.
     pub(crate) fn unit(self) -> Option<Option<HoaKind>>

@@ -4,7 +4,7 @@ ghost use Rattle.std.specs.Prelude.{◌≡◌, ◌+◌, ◌-◌, ◌<◌, ◌≤
 ghost use Rattle.omega_text.specs.Bytes.{is_digit, is_letter};
 ghost use Rattle.omega_text.specs.hoa.Pieces.{IsNoneMark, IsPlain};
 ghost use Rattle.omega_text.specs.private.hoa.scanning.Passing.{EndsWord, IsCourse, IsOnWayFor, IsSimple, IsSingle, IsStop, Passes, PassesAs};
-ghost use Rattle.omega_text.specs.hoa.scanning.Reading.{IsOnWay};
+ghost use Rattle.omega_text.specs.private.hoa.scanning.Reading.{IsOnWay};
 ghost use Rattle.omega_text.specs.private.hoa.scanning.Unfinished.{fresh};
 ghost use Rattle.omega_text.specs.declared.hoa.passing.Simple.TheVariants.{Begun};
 

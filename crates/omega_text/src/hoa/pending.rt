@@ -1,6 +1,6 @@
 ghost use Rattle.std.specs.Prelude.{◌≡◌, ◌<◌, ◌≤◌, ◌∷◌, ◌++◌, [], ℕ, List, true, ◌^◌, IfErr, IfOk};
 ghost use Rattle.omega_text.specs.private.hoa.scanning.Unfinished.{IsFaultIn, IsGrown, IsTokenIn, fresh};
-ghost use Rattle.omega_text.specs.hoa.scanning.Reading.{IsValueOf};
+ghost use Rattle.omega_text.specs.private.hoa.scanning.Reading.{IsValueOf};
 ghost use Rattle.omega_text.specs.Bytes.{is_digit};
 ghost use Rattle.omega_text.specs.Forms.{IsDigits};
 ghost use Rattle.omega_text.specs.Limits.{most_number};

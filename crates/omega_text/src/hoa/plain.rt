@@ -2,7 +2,7 @@
 
 ghost use Rattle.std.specs.Prelude.{◌≡◌, ◌<◌, length, slice_index, true, IfSome};
 ghost use Rattle.omega_text.specs.Bytes.{is_digit, is_letter};
-ghost use Rattle.omega_text.specs.hoa.scanning.Modes.{IsFirstUnit};
+ghost use Rattle.omega_text.specs.private.hoa.scanning.Modes.{IsFirstUnit};
 
 use super::kind::HoaKind;
 use super::lead::{Lead, lead_of};

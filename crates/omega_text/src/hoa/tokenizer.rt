@@ -1,24 +1,21 @@
-ghost use Rattle.std.specs.Prelude.{◌≡◌, ◌<◌, ◌-◌, ◌^◌, [], ◌∷◌, ◌++◌, false, ℕ, IfSome, List, None, Some, drop, length, slice_index, take, ◌≤◌};
+ghost use Rattle.std.specs.Prelude.{◌≡◌, ◌<◌, ◌-◌, ◌^◌, [], ◌∷◌, ◌++◌, false, ℕ, IfSome, List, None, length};
 ghost use Rattle.omega_text.specs.Lexeme.{Lexeme};
 ghost use Rattle.omega_text.specs.declared.hoa.kind.HoaKind.{HoaKind};
 ghost use Rattle.omega_text.specs.hoa.Laws.{is_closed};
-ghost use Rattle.omega_text.specs.hoa.scanning.Modes.{next_mode};
-ghost use Rattle.omega_text.specs.hoa.Pieces.{IsCutUpToFault, IsSettled, StopsBefore, settled_lexemes};
-ghost use Rattle.omega_text.specs.hoa.scanning.Reading.{Any, IsAt, IsKept, IsOnWay};
+ghost use Rattle.omega_text.specs.private.hoa.scanning.Modes.{next_mode};
+ghost use Rattle.omega_text.specs.hoa.Pieces.{IsCutUpToFault, settled_lexemes};
+ghost use Rattle.omega_text.specs.private.hoa.scanning.Reading.{Any, IsAt, IsKept, IsOnWay};
 
+use super::byte_tokenizer::ByteTokenizer;
 use super::mode::{Mode, first_mode};
 use super::passing::pass_bytes;
 use super::pending::Pending;
 use super::placed::{PlacedToken, Settled};
 use crate::refusal::TextFault;
 
-/// Cuts a Hanoi text that comes byte by byte, in pieces of any length,
-/// into the tokens that `hoa_tokens` gives of the whole.
+/// The tokens of a Hanoi text that comes byte by byte, as `ByteTokenizer` gives them.
 ///
-/// It keeps a few words and takes no memory. A token is settled by the first byte that is not part of it, or at the
-/// end; signs, marks, header names and strings by their last byte. A fault is settled by the first byte that rules out
-/// a token, that of a number when its digits have ended, that of a string or comment without end at the end. Behind a
-/// fault nothing more is settled.
+/// It keeps a few words and takes no memory.
 #[derive(Clone, Copy, Debug, PartialEq, Eq)]
 pub struct HoaTokenizer {
     pending: Pending,
@@ -27,14 +24,14 @@ pub struct HoaTokenizer {
     fault: Option<TextFault>,
 }
 
-impl HoaTokenizer {
-    ghost use Rattle.omega_text.specs.hoa.scanning.Reading.{HasRead, IsReading, HasPassed, HasRoom};
+impl ByteTokenizer for HoaTokenizer {
+    ghost use Rattle.omega_text.specs.private.hoa.scanning.Reading.{HasRead};
 
-    /// Before the first byte.
-    pub fn new() -> HoaTokenizer
-        ensures reads { HasRead [] [] result }
-        ensures sound { result.fault ≡ None }
-    {
+    ghost read = { λ tokenizer seen lexemes. HasRead seen lexemes tokenizer };
+
+    ghost fault = { λ tokenizer. tokenizer.fault };
+
+    fn new() -> HoaTokenizer {
         HoaTokenizer {
             pending: Pending::new(0),
             place: 0,
@@ -42,16 +39,8 @@ impl HoaTokenizer {
         }
     }
 
-    /// Reads one byte, and gives what it settles.
     #[inline(always)]
-    pub fn step(&mut self, byte: u8) -> Settled
-        requires { IsReading self.old }
-        ensures reads { (seen : List ℕ) (lexemes : List (Lexeme HoaKind)) → HasRead seen lexemes self.old
-            → HasRead (seen ++ byte ∷ []) (lexemes ++ settled_lexemes (seen ++ byte ∷ []) result) self.new }
-        ensures settles { (seen : List ℕ) (lexemes : List (Lexeme HoaKind)) → HasRead seen lexemes self.old
-            → IsSettled result.fault (seen ++ byte ∷ []) (lexemes ++ settled_lexemes (seen ++ byte ∷ []) result) }
-        ensures fault { result.fault ≡ self.new.fault }
-    {
+    fn step(&mut self, byte: u8) -> Settled {
         let place = self.place;
         self.place = place + 1;
         match self.fault {
@@ -65,22 +54,7 @@ impl HoaTokenizer {
         }
     }
 
-    /// Reads the bytes from a place on, up to one that settles a mark or a fault, and gives the place of that one, or
-    /// the end. The tokens that are settled before it are not given.
-    ///
-    /// It does what as many steps do, in a fraction of their time: each byte is looked at once, or a few times where it
-    /// ends a word or a number, or stands in a mark or a number of many digits.
-    pub fn pass(&mut self, bytes: &[u8], from: usize) -> usize
-        requires within { from ≤ length bytes.now }
-        requires room { HasRoom (length bytes.now - from) self.old }
-        ensures forward { from ≤ result }
-        ensures end { result ≤ length bytes.now }
-        ensures reads { (seen : List ℕ) (lexemes : List (Lexeme HoaKind)) → HasRead seen lexemes self.old
-            → HasPassed seen lexemes (take (result - from) (drop from bytes.now)) self.new }
-        ensures stops { result < length bytes.now → (seen : List ℕ) (lexemes : List (Lexeme HoaKind)) → HasRead seen lexemes self.new
-            → StopsBefore seen lexemes (slice_index bytes.now result) }
-        ensures sound { self.new.fault ≡ self.old.fault }
-    {
+    fn pass(&mut self, bytes: &[u8], from: usize) -> usize {
         match self.fault {
             Some(_fault) => from,
             None => {
@@ -92,19 +66,14 @@ impl HoaTokenizer {
         }
     }
 
-    /// What is settled where the text ends: at most one token, and none that its own last byte settles.
-    pub fn finish(&self) -> Settled
-        ensures finishes { (seen : List ℕ) (lexemes : List (Lexeme HoaKind)) → HasRead seen lexemes self.now
-            → IsCutUpToFault result.fault seen (lexemes ++ settled_lexemes seen result) }
-        ensures second { result.second ≡ None }
-        ensures unclosed { (seen : List ℕ) (lexemes : List (Lexeme HoaKind)) → HasRead seen lexemes self.now
-            → IfSome result.first (λ token. is_closed token.kind ≡ false) }
-    {
+    fn finish(&self) -> Settled {
         match self.fault {
             Some(fault) => settled(None, None, Some(fault)),
             None => end_of_text(self.pending, self.place),
         }
     }
+
+    fn read_is_settled(&self) {}
 }
 
 #[inline(always)]

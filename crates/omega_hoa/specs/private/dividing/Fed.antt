@@ -1,7 +1,7 @@
 -- What a stream always is: fed with some bytes, which its tokenizer has read unless they are refused.
 use Rattle.std.specs.Prelude.{◌≡◌, ℕ, None, List, MatchOption}
 use Rattle.omega_text.specs.Lexeme.{Lexeme}
-use Rattle.omega_text.specs.hoa.scanning.Reading.{HasRead}
+use Rattle.omega_text.specs.private.hoa.scanning.Reading.{HasRead}
 use Rattle.omega_text.specs.declared.hoa.kind.HoaKind.{HoaKind}
 use Rattle.omega_text.specs.declared.hoa.tokenizer.HoaTokenizer.{HoaTokenizer}
 use Rattle.omega_text.specs.declared.refusal.Refusal.{Refusal}

@@ -5,7 +5,7 @@ use Rattle.omega_text.specs.Lexeme.{Lexeme}
 use Rattle.omega_text.specs.Limits.{most_text}
 use Rattle.omega_text.specs.hoa.Format.{hoa_format}
 use Rattle.omega_text.specs.hoa.Pieces.{IsSettled, lexemes_in, settled_lexemes}
-use Rattle.omega_text.specs.hoa.scanning.Reading.{HasRead}
+use Rattle.omega_text.specs.private.hoa.scanning.Reading.{HasRead}
 use Rattle.omega_text.specs.declared.hoa.kind.HoaKind.{HoaKind}
 use Rattle.omega_text.specs.declared.hoa.placed.PlacedToken.{PlacedToken}
 use Rattle.omega_text.specs.declared.hoa.placed.Settled.{Settled}

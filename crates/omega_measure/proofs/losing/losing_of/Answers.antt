@@ -1,7 +1,7 @@
 -- A count that loses is listed, and all counts are seen at the end.
 use Rattle.std.proofs.Common.{sym, subst, ap, arith, ◌∙◌}
 use Rattle.omega_game.specs.Game.{priorities}
-use Rattle.omega_measure.specs.private.layout.Falling.{IsStrictlyFalling}
+use Rattle.omega_game.specs.private.priorities.Tally.{IsStrictlyFalling}
 use Rattle.omega_game.specs.Player.{loses}
 use Rattle.omega_measure.proofs.Listed.{limits_is, listed_more, listed_same, losing-falls, losing_is}
 use Rattle.omega_measure.proofs.losing.losing_of.Goals as goal

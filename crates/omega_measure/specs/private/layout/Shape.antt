@@ -3,7 +3,8 @@ use Rattle.std.specs.Prelude.{◌≡◌, ℕ, ◌*◌, ◌≤◌, List, length, 
 use Rattle.omega_game.specs.declared.player.Player.{Player}
 use Rattle.omega_game.specs.Bound.{losing_priorities}
 use Rattle.omega_lift.specs.Least.{limits_of}
-use Rattle.omega_measure.specs.private.layout.Falling.{IsStrictlyFalling, count_from}
+use Rattle.omega_game.specs.private.priorities.Tally.{IsStrictlyFalling}
+use Rattle.omega_measure.specs.private.layout.Falling.{count_from}
 use Rattle.omega_game.specs.Limits.{most_nodes}
 use Rattle.omega_measure.specs.Limits.{most_cells}
 

@@ -21,10 +21,11 @@ FindsWhere Is old new result =
     (it : RawItem) (others : List AutomatonSymbol) (rest : Tokens) → Is it → IsRawItem it → FirstIs EndsItem others → ReadsSymbols old (content_row it others) rest
     → Found result it (ReadsSymbols new others rest)
 
--- an item of this header
+-- an item of this header was read
 abbrev pub GivesContent : HeaderKind → (old new : Tokens) → Result RawItem Refusal → Type 0
 GivesContent header = GivesWhere (λ it. item_header it ≡ header)
 
+-- where one is written it is found
 abbrev pub FindsContent : HeaderKind → (old new : Tokens) → Result RawItem Refusal → Type 0
 FindsContent header = FindsWhere (λ it. item_header it ≡ header)
 
@@ -33,15 +34,18 @@ pub record IsUnknownItem (name : List ℕ) (it : RawItem) : Type 0 where
   pub unknown : item_header it ≡ named.Unknown
   pub called : item_name it ≡ name
 
+-- such an item was read
 abbrev pub GivesUnknown : List ℕ → (old new : Tokens) → Result RawItem Refusal → Type 0
 GivesUnknown name = GivesWhere (IsUnknownItem name)
 
+-- where one is written it is found
 abbrev pub FindsUnknown : List ℕ → (old new : Tokens) → Result RawItem Refusal → Type 0
 FindsUnknown name = FindsWhere (IsUnknownItem name)
 
--- an item whose header has this name
+-- an item whose header has this name was read
 abbrev pub GivesNamed : List ℕ → (old new : Tokens) → Result RawItem Refusal → Type 0
 GivesNamed name = GivesWhere (λ it. item_name it ≡ name)
 
+-- where one is written it is found
 abbrev pub FindsNamed : List ℕ → (old new : Tokens) → Result RawItem Refusal → Type 0
 FindsNamed name = FindsWhere (λ it. item_name it ≡ name)

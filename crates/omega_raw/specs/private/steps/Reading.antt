@@ -7,11 +7,6 @@ use Rattle.omega_text.specs.declared.hoa.kind.HoaKind.{HoaKind}
 use Rattle.omega_text.specs.declared.refusal.Refusal.{Refusal}
 use Rattle.omega_raw.specs.Symbols.{ReadsSymbols, AutomatonSymbol, Tokens}
 
--- the next token is not of this kind
-abbrev pub NextIsNot : HoaKind → Tokens → Type 0
-NextIsNot kind [] = Unit {0}
-NextIsNot kind (lexeme ∷ rest) = lexeme.kind ≡ kind → ⊥
-
 -- there is a next token, and this holds of its kind
 abbrev pub NextIs : (HoaKind → Type 0) → Tokens → Type 0
 NextIs Holds [] = ⊥
@@ -23,8 +18,8 @@ NextMayBe Holds [] = Unit {0}
 NextMayBe Holds (lexeme ∷ rest) = Holds lexeme.kind
 
 -- want of memory, or the fault of a syntax
-abbrev pub IsReadingRefusal : Refusal → Type 0
-IsReadingRefusal = IsUnread (Unit {0})
+abbrev pub IsSyntaxOrMemory : Refusal → Type 0
+IsSyntaxOrMemory = IsUnread (Unit {0})
 
 -- the result is this value, and this holds; or memory is wanting
 abbrev pub Found : {X : Type 0} → Result X Refusal → X → Type 0 → Type 0

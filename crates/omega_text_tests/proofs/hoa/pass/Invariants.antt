@@ -4,7 +4,7 @@ use Rattle.omega_text_tests.specs.Read.{HasReadTo}
 use Rattle.omega_text_tests.proofs.hoa.pass.Given as goal
 
 abbrev pub invariant-loop-next : goal.invariant-loop-next
-invariant-loop-next l = record { read : HasReadTo (l.place + l.next) l.tokenizer; within : l.next ≤ length l.piece }
+invariant-loop-next g l = record { read : HasReadTo (g.T.ByteTokenizer.read l.tokenizer) (l.place + l.next); within : l.next ≤ length l.piece }
 
 abbrev pub decreases-loop-next : goal.decreases-loop-next
-decreases-loop-next l = length l.piece - l.next
+decreases-loop-next g l = length l.piece - l.next

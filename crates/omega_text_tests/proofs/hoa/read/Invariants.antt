@@ -4,4 +4,4 @@ use Rattle.omega_text_tests.specs.Read.{HasReadTo}
 use Rattle.omega_text_tests.proofs.hoa.read.Given as goal
 
 abbrev pub invariant-loop-byte : goal.invariant-loop-byte
-invariant-loop-byte l = HasReadTo (l.place + l.byte-index) l.tokenizer
+invariant-loop-byte g l = HasReadTo (g.T.ByteTokenizer.read l.tokenizer) (l.place + l.byte-index)

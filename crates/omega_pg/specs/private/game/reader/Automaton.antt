@@ -114,6 +114,7 @@ IsReadyAt Listed specs = 0 < length specs
 IsReadyAt Comma specs = 0 < length specs
 IsReadyAt Named specs = 0 < length specs
 
+-- a reader may rely on what the state's stage and specifications say
 abbrev pub IsReady : GameReaderState → Type 0
 IsReady state = IsReadyAt state.stage state.specs
 

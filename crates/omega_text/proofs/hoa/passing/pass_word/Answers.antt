@@ -3,7 +3,7 @@ use Rattle.std.proofs.Common.{◌≡◌, ◌≢◌, length, get_or, refl, ap, �
 use Rattle.std.proofs.lemmas.List.Sums.{prefix_len-le-length}
 use Rattle.omega_text.specs.Bytes.{is_word_byte}
 use Rattle.omega_text.specs.declared.hoa.kind.HoaKind.TheVariants.{Identifier}
-use Rattle.omega_text.specs.hoa.scanning.Modes.{letter_kind}
+use Rattle.omega_text.specs.private.hoa.scanning.Modes.{letter_kind}
 use Rattle.omega_text.proofs.hoa_texts.Passing.{word_passes, word_simple}
 use Rattle.omega_text.proofs.hoa.passing.pass_word.Goals as goal
 use Rattle.omega_text.proofs.hoa.passing.pass_word.Goals.{then-count-eq1, else-count-eq1}

@@ -1,6 +1,6 @@
 -- The value of one digit.
 use Rattle.std.proofs.Common.{[], ◌∷◌, sym, subst, ◌∙◌}
-use Rattle.omega_text.specs.hoa.scanning.Reading.{IsValueOf}
+use Rattle.omega_text.specs.private.hoa.scanning.Reading.{IsValueOf}
 use Rattle.omega_text.proofs.hoa_texts.Values.{one_digit}
 use Rattle.omega_text.proofs.hoa.pending.first_value.Goals as goal
 

@@ -1,6 +1,6 @@
 -- The value of digits with one digit more.
 use Rattle.std.proofs.Common.{◌+◌, ◌*◌, inl, inr, [], ◌∷◌, ◌++◌, sym, subst, ◌∙◌, arith}
-use Rattle.omega_text.specs.hoa.scanning.Reading.{IsValueOf}
+use Rattle.omega_text.specs.private.hoa.scanning.Reading.{IsValueOf}
 use Rattle.omega_text.proofs.hoa_texts.Values.{no_more, one_more}
 use Rattle.omega_text.proofs.hoa.pending.more_value.Goals as goal
 

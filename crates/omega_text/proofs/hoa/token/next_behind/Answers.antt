@@ -2,7 +2,7 @@
 use Rattle.std.proofs.Common.{◌++◌, drop, take, sym, subst, arith, length-drop, None, Some}
 use Rattle.omega_text.specs.Lexeme.{lexeme_at}
 use Rattle.omega_text.specs.hoa.Cut.{Follows}
-use Rattle.omega_text.specs.hoa.scanning.Modes.{IsFirstUnit}
+use Rattle.omega_text.specs.private.hoa.scanning.Modes.{IsFirstUnit}
 use Rattle.omega_text.proofs.hoa_texts.Gaps.{blank_passed, blank_place, blank_split, gap_here, unit_follows}
 use Rattle.omega_text.proofs.hoa.token.next_behind.Goals as goal
 

@@ -2,7 +2,7 @@
 use Rattle.std.proofs.Common.{take, sym, ◌∙◌, subst, Some}
 use Rattle.omega_text.specs.Lexeme.{lexeme_at}
 use Rattle.omega_text.specs.hoa.Cut.{Follows}
-use Rattle.omega_text.specs.hoa.scanning.Modes.{IsFirstUnit}
+use Rattle.omega_text.specs.private.hoa.scanning.Modes.{IsFirstUnit}
 use Rattle.omega_text.proofs.hoa_texts.Gaps.{gap_here, unit_follows, white_more}
 use Rattle.omega_text.proofs.hoa.token.plain_hoa_token.Goals as goal
 

@@ -2,7 +2,7 @@
 use Rattle.std.proofs.Common.{◌+◌, [], ◌++◌, ◌∷◌, length, None, Some, sym, subst, ◌∙◌, append-nil, append_assoc, ap}
 use Rattle.omega_text.specs.declared.refusal.text.TextFault.TheVariants.{Lex}
 use Rattle.omega_text.specs.hoa.Pieces.{SettlesFault, lexeme_in, lexemes_in}
-use Rattle.omega_text.specs.hoa.scanning.Reading.{Any, IsAt, IsKept}
+use Rattle.omega_text.specs.private.hoa.scanning.Reading.{Any, IsAt, IsKept}
 use Rattle.omega_text.specs.private.hoa.scanning.Unfinished.{IsGrown, IsTokenIn, fresh}
 use Rattle.omega_text.proofs.hoa_texts.Pieces.{at_with, faulty, grown, judged, settled_as}
 use Rattle.omega_text.proofs.hoa.tokenizer.end_unit.Goals as goal

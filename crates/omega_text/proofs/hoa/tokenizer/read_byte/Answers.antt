@@ -1,6 +1,6 @@
 -- The unit with one byte more.
 use Rattle.std.proofs.Common.{◌+◌, [], ◌++◌, ◌∷◌, None, sym, subst, arith}
-use Rattle.omega_text.specs.hoa.scanning.Reading.{IsKept}
+use Rattle.omega_text.specs.private.hoa.scanning.Reading.{IsKept}
 use Rattle.omega_text.specs.private.hoa.scanning.Unfinished.{IsGrown}
 use Rattle.omega_text.proofs.hoa_texts.Pieces.{at_with, grown, mode_within, parts, settled_as}
 use Rattle.omega_text.proofs.hoa.tokenizer.read_byte.Goals as goal

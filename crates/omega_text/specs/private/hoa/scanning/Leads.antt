@@ -4,7 +4,7 @@ use Rattle.omega_text.specs.Bytes.{is_digit, is_letter, is_white}
 use Rattle.omega_text.specs.declared.hoa.kind.HoaKind.{HoaKind}
 use Rattle.omega_text.specs.declared.hoa.lead.Lead.{Lead}
 use Rattle.omega_text.specs.declared.hoa.lead.Lead.TheVariants.{White, Sign, Digit, Letter, Quote, At, Other}
-use Rattle.omega_text.specs.hoa.scanning.Modes.{sign_kind}
+use Rattle.omega_text.specs.private.hoa.scanning.Modes.{sign_kind}
 
 -- a sign, if there is one
 abbrev pub sign_lead : Option HoaKind → Lead

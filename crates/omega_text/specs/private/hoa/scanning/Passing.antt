@@ -4,14 +4,14 @@ use Rattle.omega_text.specs.Lexeme.{Lexeme}
 use Rattle.omega_text.specs.declared.hoa.kind.HoaKind.{HoaKind}
 use Rattle.omega_text.specs.declared.hoa.pending.Pending.{Pending}
 use Rattle.omega_text.specs.hoa.Pieces.{NoneMarks, StopsBefore, is_mark}
-use Rattle.omega_text.specs.hoa.scanning.Modes.{first_mode}
+use Rattle.omega_text.specs.private.hoa.scanning.Modes.{first_mode}
 use Rattle.omega_text.specs.declared.hoa.mode.Mode.{Mode}
 use Rattle.omega_text.specs.declared.hoa.mode.Mode.TheVariants.{Word, Blank, Whole}
 use Rattle.omega_text.specs.declared.hoa.passing.Course.{Course}
 use Rattle.omega_text.specs.declared.hoa.passing.Course.TheVariants.{GoesOn, Ends, Other}
 use Rattle.omega_text.specs.declared.hoa.passing.Simple.{Simple}
 use Rattle.omega_text.specs.declared.hoa.passing.Simple.TheVariants.{Ended, Begun}
-use Rattle.omega_text.specs.hoa.scanning.Reading.{Any, IsAt, IsUnfinishedUnit}
+use Rattle.omega_text.specs.private.hoa.scanning.Reading.{Any, IsAt, IsUnfinishedUnit}
 use Rattle.omega_text.specs.private.hoa.scanning.Unfinished.{fresh}
 
 -- a byte that is a whole unit, and no mark

@@ -11,7 +11,7 @@ use Rattle.omega_text.specs.declared.refusal.text.TextFault.{TextFault}
 use Rattle.omega_text.specs.declared.refusal.text.TextFault.TheVariants.{Lex, Number}
 use Rattle.omega_text.specs.Bytes.{is_digit}
 use Rattle.omega_text.specs.Forms.{IsDigits}
-use Rattle.omega_text.specs.hoa.scanning.Reading.{IsValueOf}
+use Rattle.omega_text.specs.private.hoa.scanning.Reading.{IsValueOf}
 
 -- nothing of a unit
 abbrev pub fresh : ℕ → Pending

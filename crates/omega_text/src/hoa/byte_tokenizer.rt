@@ -1,0 +1,68 @@
+ghost use Rattle.std.specs.Prelude.{◌≡◌, ◌<◌, ◌-◌, ◌≤◌, [], ◌∷◌, ◌++◌, false, IfSome, None, drop, length, slice_index, take};
+ghost use Rattle.omega_text.specs.hoa.Laws.{is_closed};
+ghost use Rattle.omega_text.specs.hoa.Pieces.{HasPassed, HasRoom, IsCutUpToFault, IsSettled, StopsBefore, settled_lexemes};
+
+use super::placed::Settled;
+
+/// Cuts a Hanoi text that comes byte by byte, in pieces of any length,
+/// into the tokens that `hoa_tokens` gives of the whole.
+///
+/// A token is settled by the first byte that is not part of it, or at the end; signs, marks, header names and strings
+/// by their last byte. A fault is settled by the first byte that rules out a token, that of a number when its digits
+/// have ended, that of a string or comment without end at the end. Behind a fault nothing more is settled.
+///
+/// Contracts say what was read and settled so far, and not how it is kept. No call takes memory.
+pub trait ByteTokenizer {
+    ghost use Rattle.std.specs.Prelude.{ℕ, List, Option};
+    ghost use Rattle.omega_text.specs.Lexeme.{Lexeme};
+    ghost use Rattle.omega_text.specs.declared.hoa.kind.HoaKind.{HoaKind};
+    ghost use Rattle.omega_text.specs.declared.refusal.text.TextFault.{TextFault};
+
+    /// These bytes were read, and these tokens of them were settled.
+    ghost read: { Self → List ℕ → List (Lexeme HoaKind) → Type 0 };
+
+    /// The fault behind these tokens, once one is settled.
+    ghost fault: { Self → Option TextFault };
+
+    /// Before the first byte.
+    fn new() -> Self
+        ensures reads { read result [] [] }
+        ensures sound { fault result ≡ None };
+
+    /// Reads one byte, and gives what it settles.
+    fn step(&mut self, byte: u8) -> Settled
+        requires room { HasRoom (read self.old) 1 }
+        ensures reads { (seen : List ℕ) (lexemes : List (Lexeme HoaKind)) → read self.old seen lexemes
+            → read self.new (seen ++ byte ∷ []) (lexemes ++ settled_lexemes (seen ++ byte ∷ []) result) }
+        ensures settles { (seen : List ℕ) (lexemes : List (Lexeme HoaKind)) → read self.old seen lexemes
+            → IsSettled result.fault (seen ++ byte ∷ []) (lexemes ++ settled_lexemes (seen ++ byte ∷ []) result) }
+        ensures fault { result.fault ≡ fault self.new };
+
+    /// Reads the bytes from a place on, up to one that settles a mark or a fault, and gives the place of that one, or
+    /// the end. The tokens that are settled before it are not given.
+    ///
+    /// It does what as many steps do, in a fraction of their time: each byte is looked at once, or a few times where it
+    /// ends a word or a number, or stands in a mark or a number of many digits.
+    fn pass(&mut self, bytes: &[u8], from: usize) -> usize
+        requires within { from ≤ length bytes.now }
+        requires room { HasRoom (read self.old) (length bytes.now - from) }
+        ensures forward { from ≤ result }
+        ensures end { result ≤ length bytes.now }
+        ensures reads { (seen : List ℕ) (lexemes : List (Lexeme HoaKind)) → read self.old seen lexemes
+            → HasPassed (read self.new) seen lexemes (take (result - from) (drop from bytes.now)) }
+        ensures stops { result < length bytes.now → (seen : List ℕ) (lexemes : List (Lexeme HoaKind)) → read self.new seen lexemes
+            → StopsBefore seen lexemes (slice_index bytes.now result) }
+        ensures sound { fault self.new ≡ fault self.old };
+
+    /// What is settled where the text ends: at most one token, and none that its own last byte settles.
+    fn finish(&self) -> Settled
+        ensures finishes { (seen : List ℕ) (lexemes : List (Lexeme HoaKind)) → read self.now seen lexemes
+            → IsCutUpToFault result.fault seen (lexemes ++ settled_lexemes seen result) }
+        ensures second { result.second ≡ None }
+        ensures unclosed { (seen : List ℕ) (lexemes : List (Lexeme HoaKind)) → read self.now seen lexemes
+            → IfSome result.first (λ token. is_closed token.kind ≡ false) };
+
+    /// What was settled so far is settled in whichever way the text goes on: a law, which its proof states.
+    fn read_is_settled(&self)
+        ensures { (seen : List ℕ) (lexemes : List (Lexeme HoaKind)) → read self.now seen lexemes → IsSettled (fault self.now) seen lexemes };
+}
