@@ -1,4 +1,3 @@
 -- A search for closed walks that accept: what public contracts cite.
 pub mod Rows
-pub mod Shape
 pub mod private

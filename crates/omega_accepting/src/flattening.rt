@@ -1,10 +1,10 @@
 //! A formula as a list of nodes.
 ghost use Rattle.std.specs.Prelude.{◌≡◌, ◌<◌, ◌++◌, [], ◌∷◌, length, IfOk, OnOk, IsOkUnless};
-ghost use Rattle.omega_accepting.specs.Shape.{acc_tree_of_shape};
+ghost use Rattle.omega_acc.specs.formula.Shape.{acc_tree_of_shape};
 ghost use Rattle.omega_accepting.specs.private.Formulas.{Goes, IsFormula, IsMade, node_tree, tree_at};
 
 use crate::node::Node;
-use crate::shape::AccShape;
+use omega_acc::AccShape;
 use omega_text::Refusal;
 
 /// Puts a formula's nodes behind others, and gives the place of its root. 60 alone.

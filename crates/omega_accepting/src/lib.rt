@@ -7,12 +7,11 @@ mod flattening;
 mod meeting;
 mod node;
 mod search;
-mod shape;
 mod stepping;
 mod task;
 mod touring;
 mod valuing;
 
 pub use accepting::accepting_walk;
+pub use omega_acc::AccShape;
 pub use omega_components::{Graph, Refusal};
-pub use shape::AccShape;

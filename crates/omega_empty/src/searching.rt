@@ -1,7 +1,10 @@
 //! An accepting lasso of any acceptance formula, found by a search of the automaton itself.
-ghost use Rattle.std.specs.Prelude.{◌≡◌, ◌<◌, ◌^◌, ℕ, List, false, filter, length, map, All, IfErr, IfOk, IsOkUnless, OnOk, slice_index_or};
+ghost use Rattle.std.specs.Prelude.{◌≡◌, ◌<◌, ◌^◌, ◌↔◌, ◌++◌, [], ◌∷◌, ℕ, List, false, if◌then◌else◌, filter, length, map, All, IfErr, IfOk, IsOkUnless, IsTrue, OnOk, slice_index_or};
 ghost use Rattle.omega_automaton.specs.Automaton.{edges_of};
-ghost use Rattle.omega_components.specs.Graph.{AreEdges, edge_at};
+ghost use Rattle.omega_components.specs.Graph.{AreEdges, edge_at, listed, marked};
+ghost use Rattle.omega_components.specs.Reaching.{IsReached};
+ghost use Rattle.omega_walk.specs.Walks.{IsAccepting};
+ghost use Rattle.omega_accepting.specs.Rows.{row_at};
 ghost use Rattle.omega_empty.specs.EmptinessGame.{AreUsable, has_branch};
 ghost use Rattle.omega_empty.specs.Lasso.{marks_of};
 ghost use Rattle.omega_empty.specs.Searching.{IsSearchRefusal, IsSearchable};
@@ -10,7 +13,7 @@ ghost use Rattle.omega_empty.specs.private.layout.Numbering.{AreFlags, AreNumber
 
 use crate::branching::has_branch;
 use crate::edge_table::edge_table;
-use crate::numbering::{Numbered, numbered};
+use crate::numbering::numbered;
 use crate::turning::turned;
 use crate::usable::usable_edges;
 use crate::verdict::Verdict;
@@ -45,7 +48,15 @@ fn searched(alloc: Global, automaton: &Automaton, usable: &[bool]) -> Result<Ver
 {
     let table = edge_table(alloc, automaton)?;
     let numbered = numbered(alloc, automaton, table.ends.as_slice())?;
-    found_in(alloc, automaton, usable, table.marks.as_slice(), &numbered)
+    let verdict = found_in(
+        alloc,
+        automaton,
+        usable,
+        table.marks.as_slice(),
+        &numbered.graph,
+        numbered.sources.as_slice(),
+    )?;
+    Ok(verdict)
 }
 
 /// The verdict of an automaton whose graph is made. 60 alone.
@@ -54,34 +65,88 @@ fn found_in(
     automaton: &Automaton,
     usable: &[bool],
     marks: &[Numbers],
-    numbered: &Numbered,
+    graph: &Graph,
+    sources: &[u32],
 ) -> Result<Verdict, Refusal>
     requires plain { has_branch automaton.now ≡ false }
     requires usable { AreUsable automaton.now usable.now }
     requires marks { marks.now ≡ map marks_of (edges_of automaton.now) }
-    requires numbered { (names : List ℕ) × AreNumbered automaton.now names numbered.now.sources.items numbered.now.graph }
+    requires numbered { (names : List ℕ) × AreNumbered automaton.now names sources.now graph.now }
+    ensures verdict { IfOk result (IsVerdict automaton.now) }
+    ensures memory { IsOkUnless result Refusal.Memory }
+{
+    let _count = graph.len();
+    let numbers = chosen(alloc, usable)?;
+    let verdict = found_among(alloc, automaton, usable, marks, graph, sources, numbers.as_slice())?;
+    Ok(verdict)
+}
+
+/// The verdict of an automaton, the numbers of whose usable edges are told. 60 alone.
+fn found_among(
+    alloc: Global,
+    automaton: &Automaton,
+    usable: &[bool],
+    marks: &[Numbers],
+    graph: &Graph,
+    sources: &[u32],
+    numbers: &[u32],
+) -> Result<Verdict, Refusal>
+    requires plain { has_branch automaton.now ≡ false }
+    requires usable { AreUsable automaton.now usable.now }
+    requires marks { marks.now ≡ map marks_of (edges_of automaton.now) }
+    requires numbered { (names : List ℕ) × AreNumbered automaton.now names sources.now graph.now }
+    requires flags { AreFlags usable.now numbers.now }
+    requires edges { AreEdges graph.now numbers.now }
     ensures verdict { IfOk result (IsVerdict automaton.now) }
     ensures memory { IsOkUnless result Refusal.Memory }
 {
     automaton.keeps_limits();
-    let graph = &numbered.graph;
-    let _count = graph.len();
-    let sources = numbered.sources.as_slice();
-    let numbers = chosen(alloc, usable)?;
-    let numbers = numbers.as_slice();
     let states = reached(alloc, graph, numbers, sources)?;
-    let edges = leaving(alloc, graph, numbers, states.as_slice())?;
+    let flags = states.as_slice();
+    let edges = leaving(alloc, graph, numbers, flags)?;
+    let kept = edges.as_slice();
     let formula = automaton.acceptance().shape(alloc)?;
-    let found = accepting_walk(alloc, graph, marks, edges.as_slice(), &formula)?;
+    let found = accepting_walk(alloc, graph, marks, kept, &formula)?;
     match found {
         None => Ok(Verdict::Empty),
         Some(cycle) => {
-            let target = graph.from(cycle[0]);
-            match path(alloc, graph, numbers, sources, target)? {
-                None => unreachable!(),
-                Some(stem) => turned(alloc, stem.as_slice(), cycle.as_slice()),
-            }
+            let walk = cycle.as_slice();
+            with_stem(
+                alloc, automaton, usable, marks, graph, sources, numbers, flags, walk,
+            )
         }
+    }
+}
+
+/// The lasso of a closed walk that accepts, with a shortest stem. 60 alone.
+fn with_stem(
+    alloc: Global,
+    automaton: &Automaton,
+    usable: &[bool],
+    marks: &[Numbers],
+    graph: &Graph,
+    sources: &[u32],
+    numbers: &[u32],
+    states: &[bool],
+    cycle: &[u32],
+) -> Result<Verdict, Refusal>
+    requires plain { has_branch automaton.now ≡ false }
+    requires usable { AreUsable automaton.now usable.now }
+    requires marks { marks.now ≡ map marks_of (edges_of automaton.now) }
+    requires numbered { (names : List ℕ) × AreNumbered automaton.now names sources.now graph.now }
+    requires flags { AreFlags usable.now numbers.now }
+    requires edges { AreEdges graph.now numbers.now }
+    requires states { (state : ℕ) → IsTrue (slice_index_or states.now state false) ↔ IsReached (marked graph.now (row_at marks.now)) (listed numbers.now) sources.now state }
+    requires accepting { IsAccepting (marked graph.now (row_at marks.now)) (listed (filter (λ number. slice_index_or states.now (edge_at graph.now number).from false) numbers.now)) automaton.now.acceptance cycle.now }
+    ensures verdict { IfOk result (IsVerdict automaton.now) }
+    ensures memory { IsOkUnless result Refusal.Memory }
+{
+    automaton.keeps_limits();
+    let _lengths = (usable.len(), marks.len(), states.len());
+    let target = graph.from(cycle[0]);
+    match path(alloc, graph, numbers, sources, target)? {
+        None => unreachable!(),
+        Some(stem) => turned(alloc, stem.as_slice(), cycle),
     }
 }
 
@@ -94,11 +159,20 @@ fn chosen(alloc: Global, flags: &[bool]) -> Result<Vec<u32>, Refusal>
 {
     let mut numbers = Vec::new(alloc);
     for number in 0..flags.len() {
-        if flags[number] {
-            numbers.push(number as u32)?;
-        }
+        add_chosen(&mut numbers, flags[number], number as u32)?;
     }
     Ok(numbers)
+}
+
+/// Puts a number last if its flag is set. 60 alone.
+fn add_chosen(numbers: &mut Vec<u32>, flag: bool, number: u32) -> Result<(), Refusal>
+    ensures numbers { OnOk result (numbers.new.items ≡ (if flag then numbers.old.items ++ number ∷ [] else numbers.old.items)) }
+    ensures memory { IsOkUnless result Refusal.Memory }
+{
+    if flag {
+        numbers.push(number)?;
+    }
+    Ok(())
 }
 
 /// Those of some edges that leave a state with a flag. 60 alone.

@@ -7,6 +7,7 @@ use Rattle.std.proofs.lemmas.List.Elements.{All-contains, Contains-get_or}
 use Rattle.omega_acc.specs.formula.Acceptance.{accepts}
 use Rattle.omega_automaton.specs.Automaton.{AreTargets, Description, IsAutomaton, edges_of}
 use Rattle.omega_components.specs.Graph.{Shape, edge_at as graph_edge, listed, marked}
+use Rattle.omega_components.specs.declared.edge.Edge.{Edge}
 use Rattle.omega_components.specs.Reaching.{IsReached, IsWalkFrom}
 use Rattle.omega_walk.specs.Walks.{HasAccepting, IsAccepting, IsClosedEdgeWalk, IsEdgeWalk, MarkedGraph, marks_on}
 use Rattle.omega_walk.proofs.Walking.{on_edges, walk_in}
@@ -14,7 +15,7 @@ use Rattle.omega_accepting.specs.Rows.{row_at}
 use Rattle.omega_accepting.proofs.Listing.{filter_has, listed_from, listed_has}
 use Rattle.omega_empty.specs.EmptinessGame.{AreUsable, has_branch, state_branches}
 use Rattle.omega_empty.specs.Lasso.{IsAcceptingLasso, IsStart, Leads, marks_at, marks_of}
-use Rattle.omega_empty.specs.private.layout.Numbering.{AreFlags, AreNumbered, first_of, name_in}
+use Rattle.omega_empty.specs.private.layout.Numbering.{AreFlags, AreNumbered, ends_in, ends_of, first_of, name_in}
 use Rattle.omega_empty.proofs.tracing.Walks.{TracedWalk, leads_from, leads_to, same_marks, traced, walk_reached}
 
 -- a start lists one state
@@ -159,3 +160,8 @@ module _ (a : Description) (automaton : IsAutomaton a) (plain : has_branch a ≡
       (reached (graph_edge graph (get_or cycle 0 0)).from).0
       (filter_has (λ n. get_or states (graph_edge graph n).from false) numbers (get_or cycle 0 0)
       (listed_has (filter (λ n. get_or states (graph_edge graph n).from false) numbers) (get_or cycle 0 0) (on_edges seen chosen knot cycle knot accepting.closed.leads (get_or cycle 0 0) first))).1
+
+-- the graph has as many edges as the automaton
+pub counted : (a : Description) (names sources : List ℕ) (graph : Shape) → AreNumbered a names sources graph → length graph.edges ≡ length (edges_of a)
+counted a names sources graph numbered =
+    sym (length-map graph.edges (ends_in names)) ∙ ap (λ (list : List Edge). length list) numbered.ends ∙ length-map (edges_of a) ends_of

@@ -2,12 +2,12 @@
 use Rattle.std.proofs.Common.{◌≡◌, ◌⊎◌, ℕ, ◌+◌, ◌<◌, ◌≤◌, Bool, true, false, cond, eqb, inl, inr, List, [], ◌∷◌, ◌++◌, length, get_or, map, take, All, Option, Some, refl, sym, ap, subst, ◌∙◌, arith, append_assoc, eq-eqb, length-append, nat_eq}
 use Rattle.std.specs.List.{IsDistinct, list_any}
 use Rattle.std.proofs.lemmas.Bool.{cases_order, false≢true}
-use Rattle.std.proofs.lemmas.List.{append-nil, get_or_append_left}
-use Rattle.std.proofs.lemmas.List.Elements.{All-head, All-tail, All-weaker}
+use Rattle.std.proofs.lemmas.List.{append-nil, get_or_append_left, map_push, take_more}
+use Rattle.std.proofs.lemmas.List.Elements.{All-head, All-push, All-tail, All-weaker}
 use Rattle.std.proofs.lemmas.Map.Keys.{apart_from_distinct}
 use Rattle.indexmap.specs.IndexSet.{insert_key}
 use Rattle.omega_components.specs.declared.edge.Edge.{Edge}
-use Rattle.omega_empty.specs.private.layout.Numbering.{AreApart, Grows, IsNamed, ends_in, name_in}
+use Rattle.omega_empty.specs.private.layout.Numbering.{AreApart, Grows, IsNamed, ends_in, first_of, name_in}
 
 -- nothing more
 pub grows_not : (names : List ℕ) → Grows 0 names names
@@ -86,3 +86,42 @@ apart names distinct p q low high same = elim (cases_order p q) [
   | inr (inl less) ↦ absurd (false≢true (sym (apart_from_distinct nat_eq names p q 0 distinct less high) ∙ eq-eqb (name_in names p) (name_in names q) same))
   | inr (inr more) ↦ absurd (false≢true (sym (apart_from_distinct nat_eq names q p 0 distinct more low) ∙ eq-eqb (name_in names q) (name_in names p) (sym same)))
 ]
+
+-- the first of a list, read by its index
+pub first_is : (states : List ℕ) → get_or states 0 0 ≡ first_of states
+first_is [] = refl
+first_is (state ∷ states) = refl
+
+-- one start more
+pub sources_more : (keys keys' sources : List ℕ) (starts : List (List ℕ)) (index source : ℕ) (start : List ℕ) → Grows 1 keys keys'
+    → All (λ number. number < length keys) sources → map (name_in keys) sources ≡ map first_of (take index starts)
+    → index < length starts → start ≡ get_or starts index start → name_in keys' source ≡ first_of start
+    → map (name_in keys') (sources ++ source ∷ []) ≡ map first_of (take (index + 1) starts)
+sources_more keys keys' sources starts index source start grows within so_far below here name =
+    map_push (name_in keys') sources source
+    ∙ ap (λ xs. xs ++ name_in keys' source ∷ []) (names_kept 1 keys keys' sources grows within ∙ so_far)
+    ∙ ap (λ n. map first_of (take index starts) ++ n ∷ []) (name ∙ ap first_of here)
+    ∙ sym (map_push first_of (take index starts) (get_or starts index start))
+    ∙ ap (map first_of) (sym (take_more starts index start below))
+
+-- one edge more
+pub ends_more : (keys keys' keys'' : List ℕ) (edges ends : List Edge) (index from to : ℕ) (end : Edge) → Grows 1 keys keys' → Grows 1 keys' keys''
+    → All (IsNamed keys) edges → map (ends_in keys) edges ≡ take index ends → index < length ends → end ≡ get_or ends index end
+    → from < length keys' → name_in keys' from ≡ end.from → name_in keys'' to ≡ end.to
+    → map (ends_in keys'') (edges ++ record { from = from; to = to } ∷ []) ≡ take (index + 1) ends
+ends_more keys keys' keys'' edges ends index from to end one two named so_far below here low is_from is_to =
+    let edge : Edge = record { from = from; to = to } in
+    let kept : name_in keys'' from ≡ end.from = name_kept 1 keys' keys'' from two low ∙ is_from in
+    let same : ends_in keys'' edge ≡ end = cc in
+    map_push (ends_in keys'') edges edge
+    ∙ ap (λ (xs : List Edge). xs ++ ends_in keys'' edge ∷ []) (ends_kept 2 keys keys'' edges (grows_on 1 1 keys keys' keys'' one two) named ∙ so_far)
+    ∙ ap (λ (e : Edge). take index ends ++ e ∷ []) (same ∙ here)
+    ∙ sym (take_more ends index end below)
+
+pub all_named_more : (keys keys' keys'' : List ℕ) (edges : List Edge) (from to : ℕ) → Grows 1 keys keys' → Grows 1 keys' keys''
+    → All (IsNamed keys) edges → from < length keys' → to < length keys'' → All (IsNamed keys'') (edges ++ record { from = from; to = to } ∷ [])
+all_named_more keys keys' keys'' edges from to one two named low high =
+    let more = length_grows 1 keys' keys'' two in
+    All-push (IsNamed keys'') edges (record { from = from; to = to })
+    (All-weaker (IsNamed keys) (IsNamed keys'') (λ edge is. named_kept 2 keys keys'' edge (grows_on 1 1 keys keys' keys'' one two) is) edges named)
+    (omega arith, high)
