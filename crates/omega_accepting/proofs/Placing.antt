@@ -57,7 +57,7 @@ IsNode-kept nodes more place (And left right) below is =
       l,
       r,
       tree_at-append nodes more place below ∙ is.2
-      ∙ sym (joined conjunction _ _ _ _ (tree_at-append nodes more left (omega arith)) (tree_at-append nodes more right (omega arith))),
+          ∙ sym (joined conjunction _ _ _ _ (tree_at-append nodes more left (omega arith)) (tree_at-append nodes more right (omega arith))),
     )
 IsNode-kept nodes more place (Or left right) below is =
     let l : left < place = is.0 in
@@ -65,7 +65,7 @@ IsNode-kept nodes more place (Or left right) below is =
       l,
       r,
       tree_at-append nodes more place below ∙ is.2
-      ∙ sym (joined disjunction _ _ _ _ (tree_at-append nodes more left (omega arith)) (tree_at-append nodes more right (omega arith))),
+          ∙ sym (joined disjunction _ _ _ _ (tree_at-append nodes more left (omega arith)) (tree_at-append nodes more right (omega arith))),
     )
 
 IsNode-push : (nodes : List Node) (node : Node) → IsMade (length nodes) node → IsNode (tree_at (nodes ++ node ∷ [])) (length nodes) node
@@ -76,13 +76,13 @@ IsNode-push nodes (And left right) made = (
   made.0,
   made.1,
   tree_at-push nodes (And left right)
-  ∙ sym (joined conjunction _ _ _ _ (tree_at-append nodes (And left right ∷ []) left made.0) (tree_at-append nodes (And left right ∷ []) right made.1)),
+      ∙ sym (joined conjunction _ _ _ _ (tree_at-append nodes (And left right ∷ []) left made.0) (tree_at-append nodes (And left right ∷ []) right made.1)),
 )
 IsNode-push nodes (Or left right) made = (
   made.0,
   made.1,
   tree_at-push nodes (Or left right)
-  ∙ sym (joined disjunction _ _ _ _ (tree_at-append nodes (Or left right ∷ []) left made.0) (tree_at-append nodes (Or left right ∷ []) right made.1)),
+      ∙ sym (joined disjunction _ _ _ _ (tree_at-append nodes (Or left right ∷ []) left made.0) (tree_at-append nodes (Or left right ∷ []) right made.1)),
 )
 
 -- one more node makes a formula

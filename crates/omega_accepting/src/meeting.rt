@@ -26,12 +26,7 @@ fn holds(marks: &[u32], set: u32) -> bool
 }
 
 /// The first of some edges that meets a set of marks. Linear in the marks of the edges up to it.
-pub(crate) fn meeting(
-    search: &Search<'_>,
-    edges: &[u32],
-    negated: bool,
-    set: u32,
-) -> Option<u32>
+pub(crate) fn meeting(search: &Search<'_>, edges: &[u32], negated: bool, set: u32) -> Option<u32>
     requires edges { All (λ edge. edge < length search.now.marks.now) edges.now }
     ensures none { IfNone result (occurs (marks_on (marked search.now.graph.now (row_at search.now.marks.now)) edges.now) negated set ≡ false) }
     ensures among { IfSome result (Contains edges.now) }

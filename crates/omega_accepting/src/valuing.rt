@@ -21,7 +21,11 @@ pub(crate) struct Value {
 }
 
 /// The value of each node. One pass over the edges for each atom at most. 60 alone.
-pub(crate) fn values(alloc: Global, search: &Search<'_>, edges: &[u32]) -> Result<Vec<Value>, Refusal>
+pub(crate) fn values(
+    alloc: Global,
+    search: &Search<'_>,
+    edges: &[u32],
+) -> Result<Vec<Value>, Refusal>
     requires formula { IsFormula search.now.nodes.now }
     requires edges { All (λ edge. edge < length search.now.marks.now) edges.now }
     ensures values { IfOk result (λ values. AreValues (marked search.now.graph.now (row_at search.now.marks.now)) (tree_at search.now.nodes.now) edges.now values.items) }

@@ -36,11 +36,7 @@ pub(crate) fn numbered(
 }
 
 /// The numbers of the first states of lists. 60 alone.
-fn sources(
-    alloc: Global,
-    starts: &[Numbers],
-    met: &mut IndexSet<u32>,
-) -> Result<Vec<u32>, Refusal>
+fn sources(alloc: Global, starts: &[Numbers], met: &mut IndexSet<u32>) -> Result<Vec<u32>, Refusal>
     requires starts { All (λ start. 0 < length start) starts.now }
     requires distinct { IsDistinct nat_eq met.old.keys }
     ensures distinct { OnOk result (IsDistinct nat_eq met.new.keys) }

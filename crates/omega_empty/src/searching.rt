@@ -77,7 +77,15 @@ fn found_in(
 {
     let _count = graph.len();
     let numbers = chosen(alloc, usable)?;
-    let verdict = found_among(alloc, automaton, usable, marks, graph, sources, numbers.as_slice())?;
+    let verdict = found_among(
+        alloc,
+        automaton,
+        usable,
+        marks,
+        graph,
+        sources,
+        numbers.as_slice(),
+    )?;
     Ok(verdict)
 }
 
