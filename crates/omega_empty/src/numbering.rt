@@ -18,7 +18,7 @@ pub(crate) struct Numbered {
 }
 
 /// The graph of an automaton whose edges have these ends. 60 alone.
-pub(crate) fn numbered(
+pub(crate) fn number_states(
     alloc: Global,
     automaton: &Automaton,
     ends: &[Edge],

@@ -13,7 +13,7 @@ ghost use Rattle.omega_empty.specs.private.layout.Numbering.{AreFlags, AreNumber
 
 use crate::branching::has_branch;
 use crate::edge_table::edge_table;
-use crate::numbering::numbered;
+use crate::numbering::number_states;
 use crate::turning::turned;
 use crate::usable::usable_edges;
 use crate::verdict::Verdict;
@@ -47,7 +47,7 @@ fn searched(alloc: Global, automaton: &Automaton, usable: &[bool]) -> Result<Ver
     ensures memory { IsOkUnless result Refusal.Memory }
 {
     let table = edge_table(alloc, automaton)?;
-    let numbered = numbered(alloc, automaton, table.ends.as_slice())?;
+    let numbered = number_states(alloc, automaton, table.ends.as_slice())?;
     let verdict = found_in(
         alloc,
         automaton,

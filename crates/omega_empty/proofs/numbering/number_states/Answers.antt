@@ -4,7 +4,7 @@ use Rattle.std.proofs.lemmas.List.Elements.{All-weaker}
 use Rattle.omega_automaton.specs.Automaton.{AreTargets}
 use Rattle.omega_empty.specs.private.layout.Numbering.{first_of, name_in}
 use Rattle.omega_empty.proofs.tracing.Names.{all_below, apart, length_grown, names_kept}
-use Rattle.omega_empty.proofs.numbering.numbered.Goals as goal
+use Rattle.omega_empty.proofs.numbering.number_states.Goals as goal
 
 pub sources-requires-clause-starts : goal.sources-requires-clause-starts
 sources-requires-clause-starts c =
