@@ -104,6 +104,10 @@ sources_more keys keys' sources starts index source start grows within so_far be
     ∙ sym (map_push first_of (take index starts) (get_or starts index start))
     ∙ ap (map first_of) (sym (take_more starts index start below))
 
+-- an edge of its ends
+abbrev made : ℕ → ℕ → Edge
+made from to = record { from = from; to = to }
+
 -- one edge more
 pub ends_more : (keys keys' keys'' : List ℕ) (edges ends : List Edge) (index from to : ℕ) (end : Edge) → Grows 1 keys keys' → Grows 1 keys' keys''
     → All (IsNamed keys) edges → map (ends_in keys) edges ≡ take index ends → index < length ends → end ≡ get_or ends index end
@@ -112,7 +116,7 @@ pub ends_more : (keys keys' keys'' : List ℕ) (edges ends : List Edge) (index f
 ends_more keys keys' keys'' edges ends index from to end one two named so_far below here low is_from is_to =
     let edge : Edge = record { from = from; to = to } in
     let kept : name_in keys'' from ≡ end.from = name_kept 1 keys' keys'' from two low ∙ is_from in
-    let same : ends_in keys'' edge ≡ end = cc in
+    let same : ends_in keys'' edge ≡ end = ap (λ (n : ℕ). made n (name_in keys'' to)) kept ∙ ap (made end.from) is_to in
     map_push (ends_in keys'') edges edge
     ∙ ap (λ (xs : List Edge). xs ++ ends_in keys'' edge ∷ []) (ends_kept 2 keys keys'' edges (grows_on 1 1 keys keys' keys'' one two) named ∙ so_far)
     ∙ ap (λ (e : Edge). take index ends ++ e ∷ []) (same ∙ here)

@@ -26,7 +26,7 @@ loop-end-preserved c =
     let here : end ≡ get_or ends index end = get_or_default ends index (record { from = 0; to = 0 }) end below in
     let keys : List ℕ = c.loop-end.met.keys in
     let keys' : List ℕ = c.number.new.met.keys in
-    let keys'' : List ℕ = c.number-2.new.met.keys in
+    let keys'' : List ℕ = c.number-in-loop-end.new.met.keys in
     let from : ℕ = c.in_ok-from.from in
     let to : ℕ = c.in_ok-to.to in
     let one = c.in_ok-from.ensures.grows in

@@ -9,7 +9,7 @@ pub chosen-requires : goal.chosen-requires
 chosen-requires c =
     let same = counted c.args.automaton.now c.requires.numbered.0 c.args.sources.now c.args.graph.now c.requires.numbered.1 in
     let all = c.requires.usable.entries in
-    omega (arith, c.len-_count.ensures.count, c.len-_count.ensures.numbered)
+    omega (arith, c.len-count.ensures.count, c.len-count.ensures.numbered)
 
 pub found_among-requires-clause-flags : goal.found_among-requires-clause-flags
 found_among-requires-clause-flags c =
