@@ -1,5 +1,5 @@
 -- Acceptance formulas over marks that stand among those of another automaton.
-use Rattle.std.proofs.Common.{◌≡◌, ◌==◌, ◌↔◌, ℕ, zero, suc, ◌+◌, ◌<◌, ◌≤◌, ◌⊎◌, inl, inr, Bool, true, false, not, if◌then◌else◌, List, [], ◌∷◌, ◌++◌, map, Contains, refl, sym, ap, subst, ◌∙◌, arith, eqb-true, eq-eqb, true≢false}
+use Rattle.std.proofs.Common.{◌≡◌, ◌==◌, ◌↔◌, ℕ, zero, suc, ◌+◌, ◌<◌, ◌≤◌, ◌⊎◌, inl, inr, Bool, true, false, not, ◌||◌, if◌then◌else◌, List, [], ◌∷◌, ◌++◌, map, Contains, refl, sym, ap, subst, ◌∙◌, arith, eqb-true, eq-eqb, true≢false}
 use Rattle.std.proofs.lemmas.List.Elements.{Contains-append_cases, Contains-append_left, Contains-append_right}
 use Rattle.omega_acc.specs.formula.Acceptance.{AccTree, conjunction, constant, disjunction, fin, holds, inf}
 use Rattle.omega_automaton.specs.Automaton.{sets_of}
@@ -14,7 +14,7 @@ holds_contains : (set : ℕ) (marks : List ℕ) → holds set marks ≡ true →
 holds_contains set [] h = absurd (true≢false (sym h))
 holds_contains set (x ∷ xs) h = go (x == set) refl h (λ e. holds_contains set xs e)
   where
-    go : (b : Bool) → (x == set) ≡ b → (if b then true else holds set xs) ≡ true → (holds set xs ≡ true → Contains xs set) → Contains (x ∷ xs) set
+    go : (b : Bool) → (x == set) ≡ b → (b || holds set xs) ≡ true → (holds set xs ≡ true → Contains xs set) → Contains (x ∷ xs) set
     go true e t rest = let P : ℕ → Type 0 = λ y. Contains (x ∷ xs) y in subst P (eqb-true x set e) (Contains-here x xs)
     go false e t rest = Contains-there x set xs (rest t)
 
@@ -22,12 +22,12 @@ contains_holds : (set : ℕ) (marks : List ℕ) → Contains marks set → holds
 contains_holds set [] h = absurd (Contains-nothing set h)
 contains_holds set (x ∷ xs) h = go (Contains-cases x set xs h) (λ e. contains_holds set xs e)
   where
-    either : (a b : Bool) → b ≡ true → (if a then true else b) ≡ true
+    either : (a b : Bool) → b ≡ true → (a || b) ≡ true
     either true b e = refl
     either false b e = e
 
     go : (x ≡ set) ⊎ Contains xs set → (Contains xs set → holds set xs ≡ true) → holds set (x ∷ xs) ≡ true
-    go (inl e) rest = ap (λ b. if b then true else holds set xs) (eq-eqb x set e)
+    go (inl e) rest = ap (λ b. b || holds set xs) (eq-eqb x set e)
     go (inr later) rest = either (x == set) (holds set xs) (rest later)
 
 same_truth : (a b : Bool) → (a ≡ true → b ≡ true) → (b ≡ true → a ≡ true) → a ≡ b
@@ -94,8 +94,8 @@ module _ (before : ℕ) (marks moved : ℕ → List ℕ) where
   -- then a formula holds of the one where the moved one holds of the other
   pub satisfies_moved : (f : AccTree) → ((set : ℕ) → Contains (sets_of f) set → IsAsHeld set) → Satisfies marks f → Satisfies moved (moved_behind before f)
   satisfies_moved (constant value) same h = h
-  satisfies_moved (inf negated set) same h i =
-      let at = h i in (at.0, at.1, sym (meets_same negated set (same set (Contains-here set [])) at.0) ∙ at.2)
+  satisfies_moved (inf negated set) same h =
+      λ i. (let at = h i in (at.0, at.1, sym (meets_same negated set (same set (Contains-here set [])) at.0) ∙ at.2))
   satisfies_moved (fin negated set) same h =
       (h.0, λ j late. sym (meets_same negated set (same set (Contains-here set [])) j) ∙ h.1 j late)
   satisfies_moved (conjunction left right) same h = (
@@ -107,8 +107,8 @@ module _ (before : ℕ) (marks moved : ℕ → List ℕ) where
 
   pub moved_satisfies : (f : AccTree) → ((set : ℕ) → Contains (sets_of f) set → IsAsHeld set) → Satisfies moved (moved_behind before f) → Satisfies marks f
   moved_satisfies (constant value) same h = h
-  moved_satisfies (inf negated set) same h i =
-      let at = h i in (at.0, at.1, meets_same negated set (same set (Contains-here set [])) at.0 ∙ at.2)
+  moved_satisfies (inf negated set) same h =
+      λ i. (let at = h i in (at.0, at.1, meets_same negated set (same set (Contains-here set [])) at.0 ∙ at.2))
   moved_satisfies (fin negated set) same h =
       (h.0, λ j late. meets_same negated set (same set (Contains-here set [])) j ∙ h.1 j late)
   moved_satisfies (conjunction left right) same h = (
