@@ -5,3 +5,5 @@ pub mod Joining
 pub mod Transitions
 pub mod Pairs
 pub mod Product
+pub mod Limits
+pub mod private

@@ -58,6 +58,7 @@ pub record IsProduct (one other a : Description) : Type 0 where
   pub states : a.states ≡ length pairs
   pub starts : a.starts ≡ map (λ pair. number_of pairs pair ∷ []) (start_pairs one other)
   pub propositions : a.propositions ≡ joined_names one.propositions other.propositions
+  pub acc_name : a.acc_name ≡ None
   pub sets : a.sets ≡ one.sets + other.sets
   pub acceptance : a.acceptance ≡ acc.conjunction one.acceptance (moved_behind one.sets other.acceptance)
   pub properties : a.properties ≡ []

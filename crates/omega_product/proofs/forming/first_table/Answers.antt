@@ -1,0 +1,15 @@
+use Rattle.std.proofs.Common.{◌≡◌, ℕ, List, ap₂, subst, ◌∙◌}
+use Rattle.std.specs.Prelude.{IfOk}
+use Rattle.omega_product.specs.Joining.{joined_names, places_among}
+use Rattle.omega_product.specs.Transitions.{Standing}
+use Rattle.omega_product.specs.private.Tables.{AreRows}
+use Rattle.omega_product.specs.declared.table.Table.{Table}
+use Rattle.omega_product.proofs.Formulas.{standing_first}
+use Rattle.omega_product.proofs.forming.first_table.Goals as goal
+
+pub returns : goal.returns
+returns c =
+    let places : c.as_slice.result.now ≡ places_among (joined_names c.args.one.now.propositions c.args._other.now.propositions) c.args.one.now.propositions =
+    c.as_slice.ensures.value ∙ c.in_ok-places.ensures.ok ∙ ap₂ places_among c.requires.named c.propositions.ensures in
+    subst (λ (s : Standing). IfOk c.of.result (λ (table : Table). AreRows s c.args.one.now.defined table.numbers.keys table.rows.items))
+    (standing_first c.args.one.now c.args._other.now c.as_slice.result.now places) c.of.ensures

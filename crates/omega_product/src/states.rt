@@ -1,0 +1,101 @@
+//! The states of a product.
+
+ghost use Rattle.std.specs.Prelude.{◌≡◌, ◌≤◌, ◌∷◌, ◌++◌, [], Some, length, map, IfOk, OnOk};
+ghost use Rattle.omega_product.specs.Limits.{most_edges, most_states};
+ghost use Rattle.omega_product.specs.Pairs.{first_standing, pair_name, second_standing};
+ghost use Rattle.omega_product.specs.private.Tables.{AreRows};
+ghost use Rattle.omega_product.specs.private.Written.{raw_state_of};
+
+use crate::edges::{joint_edges, number_of};
+use crate::fault::ProductFault;
+use crate::limits::MOST_EDGES;
+use crate::table::Table;
+use indexmap::IndexSet;
+use omega_automaton::Automaton;
+use omega_raw::{RawState, StateName};
+use omega_text::{ByteString, Marks, Refusal, write_number};
+use std::alloc::Global;
+
+/// The states of the pairs. 55 where they have too many edges.
+pub(crate) fn states_of(
+    alloc: Global,
+    one: &Automaton,
+    other: &Automaton,
+    firsts: &Table,
+    seconds: &Table,
+    found: &IndexSet<(u32, u32)>,
+) -> Result<Vec<RawState>, ProductFault>
+    requires firsts { AreRows (first_standing one.now other.now) one.now.defined firsts.now.numbers.keys firsts.now.rows.items }
+    requires seconds { AreRows (second_standing one.now other.now) other.now.defined seconds.now.numbers.keys seconds.now.rows.items }
+    requires few { length found.now.keys ≤ most_states }
+    ensures { IfOk result (λ states. states.items ≡ map (raw_state_of one.now other.now found.now.keys) found.now.keys) }
+{
+    let mut states = Vec::with_capacity(alloc, found.len())?;
+    let mut edges: usize = 0;
+    for pair in found.as_slice() {
+        let state = state_of(alloc, one, other, firsts, seconds, found, *pair)?;
+        edges = push_state(&mut states, state, edges)?;
+    }
+    Ok(states)
+}
+
+/// Puts a state last, and gives how many edges there are with its own. 55 where they are too many.
+fn push_state(
+    states: &mut Vec<RawState>,
+    state: RawState,
+    edges: usize,
+) -> Result<usize, ProductFault>
+    ensures pushed { OnOk result (states.new.items ≡ states.old.items ++ state ∷ []) }
+    ensures few { IfOk result (λ total. total ≤ most_edges) }
+{
+    let count = state.edges.len();
+    if MOST_EDGES < count || MOST_EDGES - count < edges {
+        return Err(ProductFault::TooLarge);
+    }
+    states.push(state)?;
+    Ok(edges + count)
+}
+
+/// The state of a pair. The automata are named for the contract alone.
+fn state_of(
+    alloc: Global,
+    _one: &Automaton,
+    _other: &Automaton,
+    firsts: &Table,
+    seconds: &Table,
+    found: &IndexSet<(u32, u32)>,
+    pair: (u32, u32),
+) -> Result<RawState, Refusal>
+    requires firsts { AreRows (first_standing _one.now _other.now) _one.now.defined firsts.now.numbers.keys firsts.now.rows.items }
+    requires seconds { AreRows (second_standing _one.now _other.now) _other.now.defined seconds.now.numbers.keys seconds.now.rows.items }
+    requires few { length found.now.keys ≤ most_states }
+    ensures { IfOk result (λ state. state ≡ raw_state_of _one.now _other.now found.now.keys pair) }
+{
+    let edges = joint_edges(
+        alloc,
+        found,
+        firsts.transitions(pair.0),
+        seconds.transitions(pair.1),
+    )?;
+    let name = name_of(alloc, pair)?;
+    Ok(RawState {
+        label: None,
+        number: number_of(found, pair),
+        name,
+        marks: Marks::absent(),
+        edges,
+    })
+}
+
+/// The name of a pair: its two numbers with a comma between them.
+fn name_of(alloc: Global, pair: (u32, u32)) -> Result<StateName, Refusal>
+    ensures { IfOk result (λ name. name ≡ Some (pair_name pair)) }
+{
+    let mut text = Vec::new(alloc);
+    write_number(u128::from(pair.0), &mut text)?;
+    text.push(b',')?;
+    write_number(u128::from(pair.1), &mut text)?;
+    let bytes = ByteString::from_slice(alloc, text.as_slice())?;
+    let name = StateName::of(alloc, bytes)?;
+    Ok(name)
+}
