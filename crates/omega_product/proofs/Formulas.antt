@@ -42,10 +42,13 @@ judged_ok label tree (Ok p) e is = judged_holds label p is ∙ ap can_hold e
 judged_ok label tree (Err f) e is = tt
 
 -- bits of numbers that are too small have none
-pub far_bit : (index p : ℕ) → 64 ≤ p → index < 2 ^ 64 → false ≡ ((index / 2 ^ p) % 2 == 1)
+not_below : (k n : ℕ) → n ≤ k → nat_lt k n ≡ false
+not_below k n least = grind arith
+
+pub far_bit : (index p : ℕ) → 64 ≤ p → index < 2 ^ 64 → nat_lt p 64 ≡ ((index / 2 ^ p) % 2 == 1)
 far_bit index p far small =
     let e : index / 2 ^ p ≡ 0 = div-eq_of_lt (omega (arith, small, pow_mono far)) in
-    ap (λ (n : ℕ). n % 2 == 1) (sym e)
+    not_below p 64 far ∙ ap (λ (n : ℕ). n % 2 == 1) (sym e)
 
 -- a place that is not found is behind the last
 place_within : {X : Type 0} (p : X → Bool) (xs : List X) → position_or_len p xs ≤ length xs

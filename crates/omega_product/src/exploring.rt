@@ -1,6 +1,6 @@
 //! The pairs of states that are reached, breadth first.
 
-ghost use Rattle.std.specs.Prelude.{◌≡◌, ◌<◌, ◌≤◌, ◌^◌, [], length, map, IfOk, OnOk};
+ghost use Rattle.std.specs.Prelude.{◌≡◌, ◌<◌, ◌≤◌, get_or, length, map, IfOk, OnOk};
 ghost use Rattle.std.specs.List.{flat_map};
 ghost use Rattle.indexmap.specs.IndexSet.{insert_all};
 ghost use Rattle.omega_product.specs.Limits.{most_states};
@@ -18,7 +18,7 @@ use omega_text::{Numbers, Refusal};
 use std::alloc::Global;
 
 /// The pairs that are reached, as they are found. 55 where there are too many.
-#[tactic(auto, using(crate::proofs::Reaching::begun, crate::proofs::Reaching::gone_on, crate::proofs::Reaching::done_with))]
+#[tactic(auto, using(crate::proofs::Reaching::begun, crate::proofs::Reaching::done_with))]
 pub(crate) fn explore(
     alloc: Global,
     one: &Automaton,
@@ -38,11 +38,20 @@ pub(crate) fn explore(
         if MOST_STATES < found.len() {
             return Err(ProductFault::TooLarge);
         }
-        let pair = found.as_slice()[at];
+        let pair = pair_at(&found, at);
         visit(alloc, one, other, firsts, seconds, &mut found, pair)?;
         at += 1;
     }
     Ok(found)
+}
+
+/// The pair of a number.
+#[tactic(auto, using(crate::proofs::Formulas::same_default))]
+pub(crate) fn pair_at(found: &IndexSet<(u32, u32)>, number: usize) -> (u32, u32)
+    requires { number < length found.now.keys }
+    ensures { result ≡ get_or found.now.keys number result }
+{
+    found.as_slice()[number]
 }
 
 /// Adds the pairs that a pair leads to. The automata are named for the contract alone.

@@ -7,6 +7,7 @@ ghost use Rattle.omega_product.specs.private.Tables.{AreRows};
 ghost use Rattle.omega_product.specs.private.Written.{raw_state_of};
 
 use crate::edges::{joint_edges, number_of};
+use crate::exploring::pair_at;
 use crate::fault::ProductFault;
 use crate::limits::MOST_EDGES;
 use crate::table::Table;
@@ -32,8 +33,9 @@ pub(crate) fn states_of(
 {
     let mut states = Vec::with_capacity(alloc, found.len())?;
     let mut edges: usize = 0;
-    for pair in found.as_slice() {
-        let state = state_of(alloc, one, other, firsts, seconds, found, *pair)?;
+    for at in 0..found.len() {
+        let pair = pair_at(found, at);
+        let state = state_of(alloc, one, other, firsts, seconds, found, pair)?;
         edges = push_state(&mut states, state, edges)?;
     }
     Ok(states)

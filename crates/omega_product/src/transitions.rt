@@ -16,7 +16,6 @@ use omega_text::{Numbers, Refusal, Seq};
 use std::alloc::Global;
 
 /// The edges of a state, by the places of the propositions and the count of sets before its own.
-#[tactic(auto, using(crate::proofs::Rows::transitions_more))]
 pub(crate) fn transitions_of(
     alloc: Global,
     state: &State,
