@@ -13,5 +13,6 @@ pub mod RawLemmas
 pub mod ReadingLemmas
 pub mod ReadingUniqueness
 pub mod ReplacedAtLemmas
+pub mod ShapeLemmas
 pub mod Valuations
 pub mod WordLemmas

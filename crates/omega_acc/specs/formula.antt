@@ -6,3 +6,4 @@ pub mod Meaning
 pub mod Names
 pub mod Raw
 pub mod Reading
+pub mod Shape

@@ -4,3 +4,4 @@ pub mod Label
 pub mod Raw
 pub mod Reading
 pub mod Satisfiable
+pub mod Shape

@@ -12,6 +12,8 @@ pub(crate) mod priorities;
 pub(crate) mod raw;
 pub(crate) mod reading;
 pub(crate) mod recognition;
+pub(crate) mod shape;
+pub(crate) mod shapes;
 pub(crate) mod unfinished;
 
 use crate::depth::deeper;

@@ -13,6 +13,8 @@ pub(crate) mod notation;
 pub(crate) mod raw;
 pub(crate) mod reading;
 pub(crate) mod satisfying;
+pub(crate) mod shape;
+pub(crate) mod shapes;
 pub(crate) mod unfinished;
 pub(crate) mod words;
 
@@ -64,8 +66,8 @@ impl Model for Label {
 }
 
 impl Label {
-    ghost use Rattle.omega_acc.specs.label.Label.{label_size};
-    ghost use Rattle.omega_acc.specs.private.layout.label.Label.{label_depth, IsLabelInPostfix, postfix, tree_of};
+    ghost use Rattle.omega_acc.specs.label.Label.{label_depth, label_size};
+    ghost use Rattle.omega_acc.specs.private.layout.label.Label.{IsLabelInPostfix, postfix, tree_of};
     ghost use Rattle.omega_acc.specs.Limits.{most_depth};
 
     /// The count of its atoms and operators.

@@ -1,10 +1,20 @@
 //! What holds of every kind and of all tokens: each call does nothing and states one law.
 
+ghost use Rattle.std.specs.Prelude.{◌≡◌};
+ghost use Rattle.std.specs.Bool.{Decides};
+ghost use Rattle.omega_acc.specs.formula.Acceptance.{AccTree};
+ghost use Rattle.omega_acc.specs.formula.Raw.{RawAccTree};
 ghost use Rattle.omega_acc.specs.formula.Reading.{FormulasAreOne};
 ghost use Rattle.omega_acc.specs.formula.KindLaws.{BuchiIsEverySet, ParityIsPriority};
+ghost use Rattle.omega_acc.specs.label.Label.{LabelTree};
+ghost use Rattle.omega_acc.specs.label.Raw.{RawLabelTree};
 ghost use Rattle.omega_acc.specs.label.Reading.{LabelsAreOne};
 ghost use Rattle.omega_acc.specs.WritingLaws.{AccTextsAreFormulas, LabelTextsAreLabels, WrittenFormulasAreShallowest, WrittenFormulasMean, WrittenLabelsAreShallowest, WrittenLabelsMean};
 
+use crate::formula::Acc;
+use crate::formula::raw::RawAcc;
+use crate::label::Label;
+use crate::label::raw::RawLabel;
 use omega_text::HoaKind;
 use omega_text::hoa::laws::{
     closed_are_longest, numbers_are_longest, numbers_are_plain, words_are_longest,
@@ -73,4 +83,16 @@ pub fn written_formulas_mean()
 /// No expression that means an acceptance formula is less deep than that formula as it is written.
 pub fn written_formulas_are_shallowest()
     ensures { WrittenFormulasAreShallowest }
+{}
+
+/// `==` of two labels, expanded or as they are written, says whether they are the same tree.
+pub fn equal_labels_are_equal_trees()
+    ensures labels { (one other : LabelTree) → Decides (⟦<Label as PartialEq>⟧.eq one other) (one ≡ other) }
+    ensures raw_labels { (one other : RawLabelTree) → Decides (⟦<RawLabel as PartialEq>⟧.eq one other) (one ≡ other) }
+{}
+
+/// `==` of two acceptance formulas, with their meaning or as they are written, says whether they are the same tree.
+pub fn equal_formulas_are_equal_trees()
+    ensures formulas { (one other : AccTree) → Decides (⟦<Acc as PartialEq>⟧.eq one other) (one ≡ other) }
+    ensures raw_formulas { (one other : RawAccTree) → Decides (⟦<RawAcc as PartialEq>⟧.eq one other) (one ≡ other) }
 {}

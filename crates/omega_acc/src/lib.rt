@@ -25,15 +25,18 @@ pub use formula::priorities::priority;
 pub use formula::raw::RawAcc;
 pub use formula::reading::{read_acc, read_raw_acc};
 pub use formula::recognition::{acceptance_kind, parity_of};
+pub use formula::shape::AccShape;
 pub use label::Label;
 pub use label::aliases::Aliases;
 pub use label::expansion::{expand, expand_in_place, expanded_size};
 pub use label::raw::RawLabel;
 pub use label::reading::{read_label, read_raw_label};
 pub use label::satisfying::satisfiable;
+pub use label::shape::LabelShape;
 pub use laws::{
-    acc_texts_are_formulas, buchi_is_every_set, formulas_are_one, label_texts_are_labels,
-    labels_are_one, parity_is_priority, written_formulas_are_shallowest, written_formulas_mean,
+    acc_texts_are_formulas, buchi_is_every_set, equal_formulas_are_equal_trees,
+    equal_labels_are_equal_trees, formulas_are_one, label_texts_are_labels, labels_are_one,
+    parity_is_priority, written_formulas_are_shallowest, written_formulas_mean,
     written_labels_are_shallowest, written_labels_mean,
 };
 pub use limits::{

@@ -1,6 +1,6 @@
 -- Acceptance formulas in postfix order: what makes nodes a formula.
-use Rattle.std.proofs.Common.{◌≡◌, ℕ, ◌≤◌, List, [], ◌∷◌, ◌++◌, ap, append_assoc, sym, ◌∙◌}
-use Rattle.omega_acc.specs.formula.Acceptance.{AccTree, acc_depth, conjunction, disjunction}
+use Rattle.std.proofs.Common.{◌≡◌, ℕ, ◌≤◌, List, [], ◌∷◌, ◌++◌, ap, append_assoc, arith, sym, ◌∙◌}
+use Rattle.omega_acc.specs.formula.Acceptance.{AccTree, acc_depth, conjunction, constant, disjunction, fin, inf}
 use Rattle.omega_acc.specs.Limits.{most_depth}
 use Rattle.omega_acc.specs.private.layout.formula.Acceptance.{IsAcc, acc_postfix, acc_tree_of, acc_tree_of-postfix}
 use Rattle.omega_acc.specs.declared.formula.AccNode.{AccNode}
@@ -34,6 +34,14 @@ pub acc_nodes-disjunction : (left right : AccTree) (one other both all : List Ac
     → all ≡ acc_postfix (disjunction left right)
 acc_nodes-disjunction left right one other both all is_left is_right joined ended =
     let regrouped = append_assoc (acc_postfix left) (acc_postfix right) (Or ∷ []) in cc
+
+-- a formula has a depth
+pub acc_depth-positive : (tree : AccTree) → 1 ≤ acc_depth tree
+acc_depth-positive (constant value) = omega arith
+acc_depth-positive (inf negated set) = omega arith
+acc_depth-positive (fin negated set) = omega arith
+acc_depth-positive (conjunction left right) = omega arith
+acc_depth-positive (disjunction left right) = omega arith
 
 -- formulas with the same nodes are the same
 pub acc_postfix-same : (one other : AccTree) → acc_postfix one ≡ acc_postfix other → one ≡ other

@@ -7,8 +7,8 @@ use Rattle.std.proofs.lemmas.List.Folds.{list_any-append}
 use Rattle.std.proofs.lemmas.List.Sums.{sum_by-append}
 use Rattle.omega_acc.specs.Depth.{counted}
 use Rattle.omega_acc.specs.label.Expanding.{Defined, Entry, IsExpansion, Meaning, both, entries_of, expansion, fault_of_meaning, in_parentheses, negated, replaced}
-use Rattle.omega_acc.specs.label.Label.{LabelTree, label_size}
-use Rattle.omega_acc.specs.private.layout.label.Label.{label_depth, IsLabelInPostfix, postfix, tree_of, tree_of-postfix}
+use Rattle.omega_acc.specs.label.Label.{LabelTree, label_size, label_depth}
+use Rattle.omega_acc.specs.private.layout.label.Label.{IsLabelInPostfix, postfix, tree_of, tree_of-postfix}
 use Rattle.omega_acc.specs.label.Label as label
 use Rattle.omega_acc.specs.label.Raw.{RawLabelTree, alias, conjunction, constant, disjunction, group, negation, proposition, raw_depth}
 use Rattle.omega_acc.specs.private.layout.label.Bare.{bare, is_alias, is_bare}

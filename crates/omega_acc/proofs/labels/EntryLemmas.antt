@@ -5,8 +5,7 @@ use Rattle.std.proofs.lemmas.List.{length-map}
 use Rattle.std.specs.Str.{bytes_eq}
 use Rattle.omega_acc.specs.label.Expanding.{Defined, Entry, Meaning, both, entries_of, in_parentheses, negated, place_among, replaced, stands_for}
 use Rattle.omega_acc.specs.private.layout.label.Emitting.{IsBodyAt}
-use Rattle.omega_acc.specs.label.Label.{LabelTree}
-use Rattle.omega_acc.specs.private.layout.label.Label.{label_depth}
+use Rattle.omega_acc.specs.label.Label.{LabelTree, label_depth}
 use Rattle.omega_acc.specs.label.Label as label
 use Rattle.omega_acc.specs.label.Raw.{RawLabelTree, alias, conjunction, constant, disjunction, group, negation, proposition}
 use Rattle.omega_acc.specs.private.layout.label.Extents.{extent_named, extent_of}

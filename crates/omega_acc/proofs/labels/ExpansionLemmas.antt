@@ -4,8 +4,8 @@ use Rattle.std.proofs.lemmas.Bool.{ltb-false}
 use Rattle.omega_text.specs.declared.refusal.automaton.AutomatonFault.{AutomatonFault}
 use Rattle.omega_text.specs.declared.refusal.automaton.AutomatonFault.TheVariants.{Expansion, TooDeep}
 use Rattle.omega_acc.specs.label.Expanding.{Meaning, fault_of_meaning}
-use Rattle.omega_acc.specs.label.Label.{label_size}
-use Rattle.omega_acc.specs.private.layout.label.Label.{label_depth, IsLabelInPostfix, postfix, tree_of, tree_of-postfix}
+use Rattle.omega_acc.specs.label.Label.{label_size, label_depth}
+use Rattle.omega_acc.specs.private.layout.label.Label.{IsLabelInPostfix, postfix, tree_of, tree_of-postfix}
 use Rattle.omega_acc.specs.private.layout.label.Emitting.{nodes_of}
 use Rattle.omega_acc.proofs.labels.EntryLemmas.{IsShallow}
 use Rattle.omega_acc.specs.declared.label.LabelNode.{LabelNode}

@@ -2,8 +2,8 @@
 use Rattle.std.proofs.Common.{◌≡◌, ℕ, ◌+◌, ◌-◌, ◌%◌, ◌^◌, ◌<◌, ◌≤◌, zero, suc, Bool, true, false, not, ◌&&◌, ◌||◌, eqb, List, [], ◌∷◌, ◌++◌, length, max, min, ap, append-nil, append_assoc, refl, sym, ◌∙◌, arith, eq-eqb, drop, drop-cons, get_or, w64}
 use Rattle.std.specs.Int.{bit_at, trailing_zeros}
 use Rattle.std.proofs.lemmas.Nat.Bits.{bit_at-trailing_zeros, bit_at-lt, bit_at-zero, bit_at_and, bit_at_ones, bit_at_or, bit_at_xor}
-use Rattle.omega_acc.specs.label.Label.{LabelTree, conjunction, constant, disjunction, negation, proposition, propositions, truth}
-use Rattle.omega_acc.specs.private.layout.label.Label.{label_depth, postfix}
+use Rattle.omega_acc.specs.label.Label.{LabelTree, conjunction, constant, disjunction, negation, proposition, propositions, truth, label_depth}
+use Rattle.omega_acc.specs.private.layout.label.Label.{postfix}
 use Rattle.omega_acc.specs.private.layout.Joins.{regrouped}
 use Rattle.omega_acc.specs.private.layout.label.Words.{height_with, ones, peak, propositions_of, word_of, word_of_truth, top_word, words_behind, words_below}
 use Rattle.omega_acc.specs.declared.label.LabelNode.{LabelNode}
@@ -29,7 +29,7 @@ words_behind-postfix words (disjunction left right) stack rest =
 pub words_behind-label : (words : ℕ → ℕ) (tree : LabelTree) → words_behind words [] (postfix tree) ≡ word_of words tree ∷ []
 words_behind-label words tree = ap (words_behind words []) (sym (append-nil (postfix tree))) ∙ words_behind-postfix words tree [] []
 
-depth-positive : (tree : LabelTree) → 1 ≤ label_depth tree
+pub depth-positive : (tree : LabelTree) → 1 ≤ label_depth tree
 depth-positive (constant value) = omega arith
 depth-positive (proposition number) = omega arith
 depth-positive (negation part) = omega arith

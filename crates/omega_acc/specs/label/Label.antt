@@ -1,5 +1,5 @@
 -- Labels as trees, once aliases are replaced and parentheses gone: depth, size and truth (HOA v1, label expressions).
-use Rattle.std.specs.Prelude.{ℕ, ◌+◌, Bool, not, ◌&&◌, ◌||◌, List, [], ◌∷◌, ◌++◌}
+use Rattle.std.specs.Prelude.{ℕ, ◌+◌, max, Bool, not, ◌&&◌, ◌||◌, List, [], ◌∷◌, ◌++◌}
 
 -- a label
 pub data LabelTree : Type 0 where
@@ -8,6 +8,14 @@ pub data LabelTree : Type 0 where
   negation : LabelTree → LabelTree
   conjunction : LabelTree → LabelTree → LabelTree
   disjunction : LabelTree → LabelTree → LabelTree
+
+-- an atom has depth 1, and an operator one more than its deeper part
+abbrev pub label_depth : LabelTree → ℕ
+label_depth (constant value) = 1
+label_depth (proposition number) = 1
+label_depth (negation part) = label_depth part + 1
+label_depth (conjunction left right) = max (label_depth left) (label_depth right) + 1
+label_depth (disjunction left right) = max (label_depth left) (label_depth right) + 1
 
 -- the tree nodes of a label: its atoms and operators
 abbrev pub label_size : LabelTree → ℕ

@@ -1,6 +1,7 @@
 -- A label's nodes are those of its tree, which is not too deep.
 use Rattle.std.proofs.Common.{ap, sym, ◌∙◌, arith}
-use Rattle.omega_acc.specs.private.layout.label.Label.{label_depth, postfix}
+use Rattle.omega_acc.specs.label.Label.{label_depth}
+use Rattle.omega_acc.specs.private.layout.label.Label.{postfix}
 use Rattle.omega_acc.proofs.label.Label.nodes.Goals as goal
 
 pub returns-clause-nodes : goal.returns-clause-nodes

@@ -1,21 +1,13 @@
 -- How a label lies in memory: its tree in postfix order.
-use Rattle.std.specs.Prelude.{◌≡◌, ◌≤◌, false, List, [], ◌∷◌, ◌++◌, ℕ, ◌+◌, max}
+use Rattle.std.specs.Prelude.{◌≡◌, ◌≤◌, false, List, [], ◌∷◌, ◌++◌}
 use Rattle.std.specs.Coded.{Coded, code_by, coded_list}
-use Rattle.omega_acc.specs.label.Label.{LabelTree, conjunction, constant, disjunction, negation, proposition}
+use Rattle.omega_acc.specs.label.Label.{LabelTree, conjunction, constant, disjunction, label_depth, negation, proposition}
 use Rattle.omega_acc.specs.Limits.{most_depth}
 use Rattle.omega_acc.specs.private.layout.Joins.{regrouped}
 use Rattle.omega_acc.specs.contracts.label.LabelNode as node
 use Rattle.omega_acc.specs.declared.label.LabelNode.{LabelNode}
 use Rattle.omega_acc.specs.declared.label.LabelNode.TheVariants.{Alias, And, Constant, Group, Not, Or, Proposition}
 use Rattle.std.proofs.Common.{append_assoc, append-nil, ap, refl, sym, ◌∙◌}
-
--- an atom has depth 1, and an operator one more than its deeper part
-abbrev pub label_depth : LabelTree → ℕ
-label_depth (constant value) = 1
-label_depth (proposition number) = 1
-label_depth (negation part) = label_depth part + 1
-label_depth (conjunction left right) = max (label_depth left) (label_depth right) + 1
-label_depth (disjunction left right) = max (label_depth left) (label_depth right) + 1
 
 -- a tree in postfix order: its parts, and then its operator
 abbrev pub postfix : LabelTree → List LabelNode

@@ -1,0 +1,97 @@
+ghost use Rattle.std.specs.Prelude.{◌≡◌, ◌∷◌, [], IfErr, OnOk};
+ghost use Rattle.omega_acc.specs.Depth.{IsMemory};
+ghost use Rattle.omega_acc.specs.label.Label.{conjunction, disjunction, negation};
+ghost use Rattle.omega_acc.specs.label.Shape.{label_tree_of_shape};
+ghost use Rattle.omega_acc.specs.private.layout.label.Label.{below, top};
+
+use crate::label::shape::LabelShape;
+use omega_text::Refusal;
+use std::alloc::Global;
+use std::marker::Model;
+
+/// A stack of labels as trees of boxes.
+#[derive(Drop)]
+pub(crate) struct LabelShapes {
+    items: Vec<LabelShape>,
+    alloc: Global,
+}
+
+impl Model for LabelShapes {
+    ghost use Rattle.std.specs.Prelude.{List, map, reverse};
+    ghost use Rattle.std.specs.Coded.{coded_list};
+    ghost use Rattle.omega_acc.specs.label.Shape.{label_tree_of_shape};
+    ghost use Rattle.omega_acc.specs.label.Label.{LabelTree};
+    ghost use Rattle.omega_acc.specs.private.layout.label.Label.{label_code};
+
+    ghost Value = { List LabelTree };
+
+    ghost coded = { coded_list label_code };
+
+    ghost view = { λ s. map label_tree_of_shape (reverse s.items.items) };
+}
+
+impl LabelShapes {
+    /// No labels.
+    pub(crate) fn new(alloc: Global) -> Self
+        ensures { result ≡ [] }
+    {
+        LabelShapes {
+            items: Vec::new(alloc),
+            alloc,
+        }
+    }
+
+    /// Puts a label on top.
+    pub(crate) fn push(&mut self, shape: LabelShape) -> Result<(), Refusal>
+        ensures ok { OnOk result (self.new ≡ label_tree_of_shape shape ∷ self.old) }
+        ensures err { IfErr result IsMemory }
+    {
+        self.items.push(shape)?;
+        Ok(())
+    }
+
+    /// Takes the label on top, a constant where there is none.
+    pub(crate) fn pop(&mut self) -> LabelShape
+        ensures shape { label_tree_of_shape result ≡ top self.old }
+        ensures rest { self.new ≡ below self.old }
+    {
+        match self.items.pop() {
+            Some(shape) => shape,
+            None => LabelShape::Constant(false),
+        }
+    }
+
+    /// Puts `!` before the label on top.
+    pub(crate) fn negate(&mut self) -> Result<(), Refusal>
+        ensures ok { OnOk result (self.new ≡ negation (top self.old) ∷ below self.old) }
+        ensures err { IfErr result IsMemory }
+    {
+        let part = self.pop();
+        let part = Box::new(self.alloc, part)?;
+        self.push(LabelShape::Not(part))
+    }
+
+    /// Joins the two labels on top by `&`.
+    pub(crate) fn join_by_and(&mut self) -> Result<(), Refusal>
+        ensures ok { OnOk result (self.new ≡ conjunction (top (below self.old)) (top self.old) ∷ below (below self.old)) }
+        ensures err { IfErr result IsMemory }
+    {
+        let right = self.pop();
+        let left = self.pop();
+        let right = Box::new(self.alloc, right)?;
+        let left = Box::new(self.alloc, left)?;
+        self.push(LabelShape::And(left, right))
+    }
+
+    /// Joins the two labels on top by `|`.
+    pub(crate) fn join_by_or(&mut self) -> Result<(), Refusal>
+        ensures ok { OnOk result (self.new ≡ disjunction (top (below self.old)) (top self.old) ∷ below (below self.old)) }
+        ensures err { IfErr result IsMemory }
+    {
+        let right = self.pop();
+        let left = self.pop();
+        let right = Box::new(self.alloc, right)?;
+        let left = Box::new(self.alloc, left)?;
+        self.push(LabelShape::Or(left, right))
+    }
+}

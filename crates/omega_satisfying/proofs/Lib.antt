@@ -1,0 +1,4 @@
+-- Lemmas, by what they are about.
+pub mod Branching
+pub mod Leading
+pub mod Parts

@@ -1,0 +1,46 @@
+ghost use Rattle.std.specs.Prelude.{◌↔◌, IfErr, IfOk, IfSome, IsTrue};
+ghost use Rattle.omega_acc.specs.Depth.{IsMemory};
+ghost use Rattle.omega_acc.specs.label.Satisfiable.{IsSatisfiable};
+ghost use Rattle.omega_satisfying.specs.Undecided.{IsUndecided};
+
+use crate::search::search;
+use crate::steps::{DONE, STUCK, first_steps};
+use crate::taking::{Ways, put};
+use omega_acc::{Label, satisfiable};
+use omega_text::{Refusal, TaskFault};
+use std::alloc::Global;
+
+/// Whether some set of propositions makes a label true.
+///
+/// A label that mentions at most 12 propositions is judged by [`satisfiable`], without memory. For another one the
+/// search assumes the first literal that it needs and goes on; where this fails it tries what else the label offers.
+/// It visits at most [`MOST_VISITED`](crate::MOST_VISITED) steps, and a conjunction of literals or a disjunction of
+/// such takes no more than it has atoms and operators. Refusal 42 where they do not suffice.
+pub fn can_be_true(alloc: Global, label: &Label) -> Result<bool, Refusal>
+    ensures ok { IfOk result (λ possible. IsTrue possible ↔ IsSatisfiable label.now) }
+    ensures err { IfErr result (IsUndecided label.now) }
+{
+    match satisfiable(label) {
+        Ok(possible) => Ok(possible),
+        Err(_) => match searched(alloc, label)? {
+            Some(possible) => Ok(possible),
+            None => Err(Refusal::Task(TaskFault::TooManyPropositions)),
+        },
+    }
+}
+
+/// The answer of the search, none where it is given up.
+fn searched(alloc: Global, label: &Label) -> Result<Option<bool>, Refusal>
+    ensures ok { IfOk result (λ answer. IfSome answer (λ possible. IsTrue possible ↔ IsSatisfiable label.now)) }
+    ensures err { IfErr result IsMemory }
+{
+    let shape = label.shape(alloc)?;
+    let mut steps = first_steps(alloc)?;
+    let ways = Ways {
+        after: DONE,
+        otherwise: STUCK,
+        whole: true,
+    };
+    let start = put(&shape, true, ways, &mut steps)?;
+    search(alloc, steps.as_slice(), start)
+}

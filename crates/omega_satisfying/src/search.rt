@@ -1,0 +1,37 @@
+ghost use Rattle.std.specs.Prelude.{◌≡◌, ◌↔◌, ℕ, Bool, true, IfErr, IfOk, IfSome, IsTrue};
+ghost use Rattle.omega_acc.specs.Depth.{IsMemory};
+ghost use Rattle.omega_satisfying.specs.private.Leading.{ArePlanned, leads};
+
+use crate::branches::Branches;
+use crate::limits::MOST_VISITED;
+use crate::steps::{Step, step_at};
+use omega_text::Refusal;
+use std::alloc::Global;
+
+/// Whether some valuation leads from a place to the end, none where that takes too many steps.
+pub(crate) fn search(alloc: Global, steps: &[Step], start: usize) -> Result<Option<bool>, Refusal>
+    requires { ArePlanned steps.now }
+    ensures ok { IfOk result (λ answer. IfSome answer (λ possible. IsTrue possible ↔ ((held : ℕ → Bool) × (leads held steps.now start ≡ true)))) }
+    ensures err { IfErr result IsMemory }
+{
+    let mut branches = Branches::new(alloc);
+    let mut place = start;
+    for _visit in 0..MOST_VISITED {
+        place = match step_at(steps, place) {
+            Step::Done => {
+                branches.has_valuation();
+                return Ok(Some(true));
+            }
+            Step::Stuck => match branches.back()? {
+                Some(next) => next,
+                None => return Ok(Some(false)),
+            },
+            Step::Either(one, other) => {
+                branches.put_off(other, None)?;
+                one
+            }
+            Step::Try(literal) => branches.take(literal)?,
+        };
+    }
+    Ok(None)
+}
