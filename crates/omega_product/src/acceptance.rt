@@ -1,13 +1,12 @@
 //! The acceptance of a product, as it is written.
 
 ghost use Rattle.std.specs.Prelude.{◌≡◌, IfOk};
-ghost use Rattle.omega_product.specs.private.Shape.{acc_tree_of_shape};
+ghost use Rattle.omega_acc.specs.formula.Shape.{acc_tree_of_shape};
 ghost use Rattle.omega_product.specs.Product.{moved_behind};
 ghost use Rattle.omega_product.specs.private.Written.{raw_acc_tree, raw_acceptance};
 
 use crate::numbers::behind;
-use crate::shapes::{AccShape, acc_shape};
-use omega_acc::RawAcc;
+use omega_acc::{AccShape, RawAcc};
 use omega_automaton::Automaton;
 use omega_text::Refusal;
 use std::alloc::Global;
@@ -20,8 +19,8 @@ pub(crate) fn joint_acceptance(
 ) -> Result<RawAcc, Refusal>
     ensures { IfOk result (λ raw. raw ≡ raw_acceptance one.now other.now) }
 {
-    let first = acc_shape(one.acceptance())?;
-    let second = acc_shape(other.acceptance())?;
+    let first = one.acceptance().shape(alloc)?;
+    let second = other.acceptance().shape(alloc)?;
     let left = moved(alloc, &first, 0)?;
     left.and(moved(alloc, &second, one.set_count())?)
 }

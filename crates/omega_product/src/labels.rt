@@ -1,13 +1,12 @@
 //! Labels over the joined propositions, as they are written.
 
 ghost use Rattle.std.specs.Prelude.{◌≡◌, ◌==◌, ◌<◌, ◌/◌, ◌%◌, ◌^◌, length, IfOk};
-ghost use Rattle.omega_product.specs.private.Shape.{label_tree_of_shape};
+ghost use Rattle.omega_acc.specs.label.Shape.{label_tree_of_shape};
 ghost use Rattle.omega_product.specs.Joining.{number_among as number_of_joined, relabelled};
 ghost use Rattle.omega_product.specs.Transitions.{literal as literal_of, valuation_label};
 ghost use Rattle.omega_product.specs.private.Written.{IsMeantBy, raw_tree};
 
-use crate::shapes::LabelShape;
-use omega_acc::{Aliases, Label, RawLabel, expand_in_place};
+use omega_acc::{Aliases, Label, LabelShape, RawLabel, expand_in_place};
 use omega_text::Refusal;
 use std::alloc::Global;
 

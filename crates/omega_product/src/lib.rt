@@ -12,7 +12,6 @@ mod limits;
 mod meeting;
 mod names;
 mod numbers;
-mod shapes;
 mod states;
 mod table;
 mod transition;

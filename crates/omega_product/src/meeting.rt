@@ -6,7 +6,6 @@ ghost use Rattle.omega_product.specs.Pairs.{can_meet as meet};
 ghost use Rattle.omega_product.specs.private.Written.{raw_tree};
 
 use crate::labels::{meant, written};
-use crate::shapes::label_shape;
 use crate::transition::Transition;
 use omega_acc::{Label, RawLabel, satisfiable};
 use omega_text::Refusal;
@@ -42,6 +41,6 @@ pub(crate) fn joint_label(
 fn written_label(alloc: Global, label: &Label) -> Result<RawLabel, Refusal>
     ensures { IfOk result (λ raw. raw ≡ raw_tree label.now) }
 {
-    let shape = label_shape(label)?;
+    let shape = label.shape(alloc)?;
     written(alloc, &shape)
 }

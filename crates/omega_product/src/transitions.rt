@@ -8,7 +8,6 @@ ghost use Rattle.omega_product.specs.private.Written.{raw_tree};
 
 use crate::labels::{meant, renumbered, valuation};
 use crate::numbers::behind;
-use crate::shapes::label_shape;
 use crate::transition::Transition;
 use omega_acc::{Label, RawLabel};
 use omega_automaton::{EdgeRef, State};
@@ -75,7 +74,7 @@ fn label_of(
 fn renumbered_label(alloc: Global, label: &Label, places: &[u32]) -> Result<RawLabel, Refusal>
     ensures { IfOk result (λ raw. raw ≡ raw_tree (relabelled places.now label.now)) }
 {
-    let shape = label_shape(label)?;
+    let shape = label.shape(alloc)?;
     renumbered(alloc, &shape, places)
 }
 

@@ -3,7 +3,7 @@ use Rattle.std.specs.Prelude.{IfOk}
 use Rattle.omega_acc.specs.formula.Acceptance.{AccTree}
 use Rattle.omega_acc.specs.formula.Raw.{RawAccTree, conjunction}
 use Rattle.omega_product.specs.Product.{moved_behind}
-use Rattle.omega_product.specs.private.Shape.{acc_tree_of_shape}
+use Rattle.omega_acc.specs.formula.Shape.{acc_tree_of_shape}
 use Rattle.omega_product.specs.private.Written.{raw_acc_tree}
 use Rattle.omega_product.proofs.Formulas.{moved_nowhere}
 use Rattle.omega_product.proofs.acceptance.joint_acceptance.Goals as goal
