@@ -1,0 +1,103 @@
+ghost use Rattle.std.specs.Prelude.{◌≡◌, ◌++◌, codes, IfOk, OnOk};
+ghost use Rattle.std.specs.List.{flat_map};
+ghost use Rattle.omega_empty.specs.Lasso.{label_of};
+ghost use Rattle.omega_lasso_word.specs.Letters.{letter_text, text_of_letter};
+ghost use Rattle.omega_lasso_word.specs.WordText.{cycle_text, stem_text, word_text};
+
+use crate::finding::find;
+use crate::letters::{write_label, write_valuation};
+use omega_automaton::{Automaton, EdgeRef, State};
+use omega_text::{ByteString, Refusal};
+use std::alloc::Global;
+
+/// The word of a lasso, whose stem and cycle are the numbers of edges: the letters of the stem, a semicolon behind
+/// each, and those of the cycle in `cycle{..}`, as Spot writes words.
+///
+/// A letter is what the label of its edge demands, by the names of the propositions: a name stands in quotes where it is
+/// no identifier, and `1` where anything goes. An edge without a label has the valuation of its index. Each word that
+/// the letters admit is accepted, by `admitted_words_are_accepted`. 60 alone. Takes time by the length of the lasso
+/// times the count of states, and by the labels.
+pub fn word_of(
+    alloc: Global,
+    automaton: &Automaton,
+    stem: &[u32],
+    cycle: &[u32],
+) -> Result<Vec<u8>, Refusal>
+    ensures text { IfOk result (λ text. text.items ≡ word_text automaton.now stem.now cycle.now) }
+{
+    let mut out = Vec::new(alloc);
+    write_stem(automaton, stem, &mut out)?;
+    out.extend_from_slice(b"cycle{")?;
+    write_cycle(automaton, cycle, &mut out)?;
+    out.push(b'}')?;
+    Ok(out)
+}
+
+/// Appends the letters of a stem.
+fn write_stem(automaton: &Automaton, stem: &[u32], out: &mut Vec<u8>) -> Result<(), Refusal>
+    ensures { OnOk result (out.new.items ≡ out.old.items ++ stem_text automaton.now stem.now) }
+{
+    for number in stem {
+        write_letter(automaton, *number, out)?;
+        out.extend_from_slice(b"; ")?;
+    }
+    Ok(())
+}
+
+/// Appends the letters of a cycle.
+fn write_cycle(automaton: &Automaton, cycle: &[u32], out: &mut Vec<u8>) -> Result<(), Refusal>
+    ensures { OnOk result (out.new.items ≡ out.old.items ++ cycle_text automaton.now cycle.now) }
+{
+    if let [first, others @ ..] = cycle {
+        write_letter(automaton, *first, out)?;
+        write_others(automaton, others, out)?;
+    }
+    Ok(())
+}
+
+/// Appends letters, a semicolon before each.
+fn write_others(automaton: &Automaton, others: &[u32], out: &mut Vec<u8>) -> Result<(), Refusal>
+    ensures { OnOk result (out.new.items ≡ out.old.items ++ flat_map (λ number. codes "; " ++ letter_text automaton.now number) others.now) }
+{
+    for number in others {
+        out.extend_from_slice(b"; ")?;
+        write_letter(automaton, *number, out)?;
+    }
+    Ok(())
+}
+
+/// Appends the letter of the edge of a number.
+fn write_letter(automaton: &Automaton, number: u32, out: &mut Vec<u8>) -> Result<(), Refusal>
+    ensures { OnOk result (out.new.items ≡ out.old.items ++ letter_text automaton.now number) }
+{
+    match find(automaton, number) {
+        None => Ok(()),
+        Some(place) => {
+            let edge = place.state.edges.edge(place.index);
+            write_letter_of(
+                automaton.propositions(),
+                place.state,
+                &edge,
+                place.index,
+                out,
+            )
+        }
+    }
+}
+
+/// Appends the letter of an edge of a state by its index.
+fn write_letter_of(
+    names: &[ByteString],
+    state: &State,
+    edge: &EdgeRef<'_>,
+    index: usize,
+    out: &mut Vec<u8>,
+) -> Result<(), Refusal>
+    ensures { OnOk result (out.new.items ≡ out.old.items ++ text_of_letter names.now index (label_of (record { source = state.now; edge = edge.now }))) }
+{
+    match (&state.label, edge.label()) {
+        (Some(label), _) => write_label(names, label, out),
+        (None, Some(label)) => write_label(names, label, out),
+        (None, None) => write_valuation(names, index, out),
+    }
+}
