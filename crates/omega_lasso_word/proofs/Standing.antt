@@ -1,9 +1,9 @@
 -- Edges by their numbers, state by state.
-use Rattle.std.proofs.Common.{◌≡◌, ℕ, zero, suc, ◌+◌, ◌-◌, ◌<◌, ◌≤◌, nat_lt, if◌then◌else◌, List, [], ◌∷◌, ◌++◌, length, map, drop, get_or, slice_get, Option, Some, None, refl, sym, ap, ◌∙◌, arith, true, false}
+use Rattle.std.proofs.Common.{◌≡◌, ℕ, zero, suc, ◌+◌, ◌-◌, ◌<◌, ◌≤◌, nat_lt, if◌then◌else◌, List, [], ◌∷◌, ◌++◌, length, map, drop, get_or, slice_get, Some, None, refl, sym, ap, ◌∙◌, arith, false}
 use Rattle.std.specs.List.{flat_map}
 use Rattle.std.proofs.lemmas.Bool.{lt-ltb}
 use Rattle.std.proofs.lemmas.List.{length-map}
-use Rattle.omega_automaton.specs.Automaton.{BodyEdge, Description, edge_at, edges_from}
+use Rattle.omega_automaton.specs.Automaton.{BodyEdge, edges_from}
 use Rattle.omega_automaton.specs.declared.edge.Edge.{Edge}
 use Rattle.omega_automaton.specs.declared.state.State.{State}
 use Rattle.omega_empty.specs.Words.{index_in}

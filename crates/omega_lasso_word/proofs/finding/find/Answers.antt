@@ -1,6 +1,6 @@
-use Rattle.std.proofs.Common.{◌≡◌, ℕ, ◌+◌, ◌-◌, ◌<◌, List, length, drop, get_or, Some, sym, ap, subst, ◌∙◌, arith}
+use Rattle.std.proofs.Common.{◌≡◌, ℕ, ◌+◌, ◌-◌, ◌<◌, List, length, drop, get_or, sym, ap, subst, arith}
 use Rattle.omega_automaton.specs.declared.state.State.{State}
-use Rattle.omega_lasso_word.proofs.Standing.{StandsFrom, found_here, found_nowhere, index_here, split_at, stands_later}
+use Rattle.omega_lasso_word.proofs.Standing.{StandsFrom, found_here, split_at, stands_later}
 use Rattle.omega_lasso_word.proofs.finding.find.Goals as goal
 
 pub loop-state-preserved : goal.loop-state-preserved

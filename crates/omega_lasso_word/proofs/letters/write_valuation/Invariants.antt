@@ -1,6 +1,6 @@
 -- the literals so far
 use Rattle.std.proofs.Common.{◌≡◌, ◌++◌, take}
-use Rattle.omega_lasso_word.specs.Letters.{literal_text, literals_behind}
+use Rattle.omega_lasso_word.specs.Letters.{literals_behind}
 use Rattle.omega_lasso_word.proofs.letters.write_valuation.Given as goal
 
 abbrev pub invariant-loop-at : goal.invariant-loop-at
