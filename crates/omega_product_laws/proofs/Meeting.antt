@@ -173,7 +173,7 @@ module _ (one other a : Description) (automaton : IsAutomaton one) (automaton' :
         marks_of f.1,
         f.2.marks,
         λ m h. All-contains (λ s. s < one.sets) (marks_of f.1) m
-        (All-append (λ s. s < one.sets) f.1.source.marks f.1.edge.marks kept.0.marks.below kept.1.marks.below) h,
+            (All-append (λ s. s < one.sets) f.1.source.marks f.1.edge.marks kept.0.marks.below kept.1.marks.below) h,
       )
 
   -- the marks of both hold what each does
@@ -370,11 +370,11 @@ module _ (one other a : Description) (automaton : IsAutomaton one) (automaton' :
           let P : AccTree → Type 0 = λ f. Satisfies (λ i. marks_at a (put i).0) f in (
             subst P (moved_nowhere one.acceptance) first,
             satisfies_moved one.sets (λ i. marks_at other (accepted'.edges i)) (λ i. marks_at a (put i).0) other.acceptance
-            (λ set within i.
-            ap (holds set) (marks_are other (accepted'.edges i) (second_edge i) (accepted'.taken i).numbered)
-            ∙ second_moved (accepted.states i) (accepted'.states i) (first_at i).0 (second_at i).0 (marks_at a (put i).0) (first_in i) (second_in i) (put_marks i)
-            (marks_of (second_edge i)) (second_at i).2.marks set (All-contains (λ s. s < other.sets) (sets_of other.acceptance) set automaton'.sets within))
-            accepted'.accepting.accepted,
+                (λ set within i.
+                ap (holds set) (marks_are other (accepted'.edges i) (second_edge i) (accepted'.taken i).numbered)
+                ∙ second_moved (accepted.states i) (accepted'.states i) (first_at i).0 (second_at i).0 (marks_at a (put i).0) (first_in i) (second_in i) (put_marks i)
+                (marks_of (second_edge i)) (second_at i).2.marks set (All-contains (λ s. s < other.sets) (sets_of other.acceptance) set automaton'.sets within))
+                accepted'.accepting.accepted,
           )
 
       both_accepted : IsAccepted a word

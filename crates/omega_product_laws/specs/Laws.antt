@@ -14,4 +14,4 @@ ProductsMeet =
     (one other a : Description) (word : ℕ → ℕ → Bool) → IsAutomaton one → IsAutomaton other
     → has_branch one ≡ false → has_branch other ≡ false → IsProduct one other a
     → IsAccepted a word ↔ (IsAccepted one (part_of_word (first_standing one other).places word)
-        × IsAccepted other (part_of_word (second_standing one other).places word))
+    × IsAccepted other (part_of_word (second_standing one other).places word))
