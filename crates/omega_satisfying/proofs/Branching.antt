@@ -79,7 +79,7 @@ nothing-left true = refl
 nothing-left false = refl
 
 -- a value that is assumed
-fits-value : (held : ℕ → Bool) (assumed : List (ℕ × Bool)) (proposition : ℕ) (value : Bool)
+pub fits-value : (held : ℕ → Bool) (assumed : List (ℕ × Bool)) (proposition : ℕ) (value : Bool)
     → lookup (nat_eq proposition) assumed ≡ Some value → fits held assumed ≡ true → is_as value (held proposition) ≡ true
 fits-value held [] proposition value found fit = cc
 fits-value held (one ∷ rest) proposition value found fit =
@@ -96,11 +96,11 @@ fits-value held (one ∷ rest) proposition value found fit =
           (sym (ap (λ here. cond here (Some one.1) (lookup (nat_eq proposition) rest)) told.0) ∙ found) others
     ]
 
-where-fitting : (fitting one other others : Bool) → (fitting ≡ true → one ≡ other) → ((fitting && one) || others) ≡ ((fitting && other) || others)
+pub where-fitting : (fitting one other others : Bool) → (fitting ≡ true → one ≡ other) → ((fitting && one) || others) ≡ ((fitting && other) || others)
 where-fitting true one other others same = ap (λ now. now || others) (same refl)
 where-fitting false one other others same = refl
 
-as-both : (sign value truth : Bool) → is_as value truth ≡ true → is_as sign truth ≡ is_as sign value
+pub as-both : (sign value truth : Bool) → is_as value truth ≡ true → is_as sign truth ≡ is_as sign value
 as-both sign true true is = refl
 as-both sign false false is = refl
 as-both sign true false is = cc
@@ -112,6 +112,12 @@ as-another true true apart = cc
 as-another true false apart = refl
 as-another false true apart = refl
 as-another false false apart = cc
+
+pub as-apart : (sign value : Bool) → beq value sign ≡ false → is_as sign value ≡ false
+as-apart true true apart = cc
+as-apart true false apart = refl
+as-apart false true apart = refl
+as-apart false false apart = cc
 
 pub as-same : (sign value : Bool) → not (beq value sign) ≡ false → is_as sign value ≡ true
 as-same true true same = refl

@@ -1,5 +1,5 @@
 -- Steps of a search: what one more of them changes, and what stands at a place.
-use Rattle.std.proofs.Common.{◌≡◌, ◌≢◌, ℕ, ◌<◌, ◌≤◌, Bool, false, ◌&&◌, ◌||◌, cond, List, [], ◌∷◌, ◌++◌, length, get_or, reverse, inl, inr, ap, refl, subst, sym, ◌∙◌, arith, eq-eqb, length-append}
+use Rattle.std.proofs.Common.{◌≡◌, ◌≢◌, ℕ, zero, suc, ◌<◌, ◌≤◌, Bool, true, false, ◌&&◌, ◌||◌, cond, List, [], ◌∷◌, ◌++◌, length, get_or, reverse, inl, inr, ap, refl, subst, sym, ◌∙◌, arith, eq-eqb, length-append}
 use Rattle.std.proofs.lemmas.Bool.{ne_eqb}
 use Rattle.std.proofs.lemmas.Bool.Decides.{eqb_tells}
 use Rattle.std.proofs.lemmas.List.{get_or_append_left, length-reverse, reverse-append, reverse-reverse}
@@ -158,3 +158,12 @@ IsKept-both old mid new first second = record {
 
 pub IsKept-same : (steps : List Step) → IsKept steps steps
 IsKept-same steps = record { longer = omega arith; same = λ held place before. refl }
+
+-- one more place is known, open or not
+pub known-more : (open_places : List Bool) (next : Bool) (leading : ℕ → Bool)
+    → ((at : ℕ) → get_or open_places at true ≡ false → leading at ≡ false) → (next ≡ false → leading (length open_places) ≡ false)
+    → (at : ℕ) → get_or (open_places ++ next ∷ []) at true ≡ false → leading at ≡ false
+known-more [] next leading known last zero e = last e
+known-more [] next leading known last (suc at) e = cc
+known-more (one ∷ rest) next leading known last zero e = known zero e
+known-more (one ∷ rest) next leading known last (suc at) e = known-more rest next (λ n. leading (suc n)) (λ n. known (suc n)) last at e

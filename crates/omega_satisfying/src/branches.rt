@@ -1,7 +1,7 @@
 ghost use Rattle.std.specs.Prelude.{◌≡◌, ◌&&◌, ◌||◌, ℕ, Bool, false, true, not, if◌then◌else◌, nat_eq, IfErr, IfNone, IfOk, IfSome, OnOk};
 ghost use Rattle.std.specs.HashMap.{get};
 ghost use Rattle.omega_acc.specs.Depth.{IsMemory};
-ghost use Rattle.omega_satisfying.specs.private.Waiting.{IsFree, fits_one};
+ghost use Rattle.omega_satisfying.specs.private.Waiting.{IsFree, fits, fits_one};
 
 use crate::steps::Literal;
 use indexmap::IndexMap;
@@ -102,6 +102,16 @@ impl Branches {
             self.assume(proposition, value)?;
         }
         Ok(Some(next.place))
+    }
+
+    /// Whether a literal may hold under what is assumed.
+    pub(crate) fn may_hold(&self, literal: Literal) -> bool
+        ensures { result ≡ false → (held : ℕ → Bool) → fits held self.now.assumed.entries ≡ true → is_as literal.sign (held literal.proposition) ≡ false }
+    {
+        match self.value_of(literal.proposition) {
+            Some(value) => value == literal.sign,
+            None => true,
+        }
     }
 
     /// Some valuation has what is assumed.

@@ -7,6 +7,7 @@
 mod answer;
 mod branches;
 mod limits;
+mod outlook;
 mod search;
 mod steps;
 mod taking;

@@ -90,6 +90,15 @@ fn pairs(alloc: Global, first: u32, count: u32) -> Result<LabelShape, Refusal> {
     and(alloc, left, right)
 }
 
+// So many literals joined by `&`, each behind those before it.
+fn chain(alloc: Global, count: u32) -> Result<LabelShape, Refusal> {
+    let mut all = LabelShape::Constant(true);
+    for number in 0..count {
+        all = and(alloc, all, literal(alloc, number)?)?;
+    }
+    Ok(all)
+}
+
 // Whether a label can be true, 0 or 1, or the number of the refusal.
 fn judged(alloc: Global, shape: &LabelShape) -> u32 {
     match judged_shape(alloc, shape) {
@@ -140,6 +149,13 @@ fn cubes_are_judged(rt: HostRuntime) -> Result<(), Refusal> {
     Ok(())
 }
 
+#[test]
+fn deep_labels_are_judged(rt: HostRuntime) -> Result<(), Refusal> {
+    assert!(rt; judged(rt.alloc(), &chain(rt.alloc(), 254)?) == 1);
+    assert!(rt; judged(rt.alloc(), &chain(rt.alloc(), 256)?) == 32);
+    Ok(())
+}
+
 // So many cubes and their negation, which the search tries in turn.
 fn denied(alloc: Global, count: u32) -> Result<u32, Refusal> {
     let some = rows(alloc, 0, count, 5, false)?;
@@ -150,6 +166,7 @@ fn denied(alloc: Global, count: u32) -> Result<u32, Refusal> {
 #[test]
 fn denied_cubes_are_judged(rt: HostRuntime) -> Result<(), Refusal> {
     assert!(rt; denied(rt.alloc(), 5)? == 0);
+    assert!(rt; denied(rt.alloc(), 60)? == 0);
     Ok(())
 }
 
@@ -164,7 +181,7 @@ fn fruitless(alloc: Global, count: u32) -> Result<u32, Refusal> {
 
 #[test]
 fn fuel_is_spent(rt: HostRuntime) -> Result<(), Refusal> {
-    assert!(rt; fruitless(rt.alloc(), 18)? == 0);
+    assert!(rt; fruitless(rt.alloc(), 15)? == 0);
     assert!(rt; fruitless(rt.alloc(), 21)? == 42);
     Ok(())
 }
