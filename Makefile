@@ -13,6 +13,7 @@ all:
 
 check:
 	rt ci
+	python3 make/library.py --left-by-ci
 	checks/run
 
 libomega:

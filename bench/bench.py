@@ -1,12 +1,12 @@
 #!/usr/bin/env python3
-"""Runs commands side by side on families of parity games and prints medians, rates, memory and ratios.
+"""Runs commands side by side on families of parity games and automata and prints medians, rates, memory and ratios.
 
     bench/bench.py --quick                                   omega alone, small games
     bench/bench.py                                           omega alone, large games
     bench/bench.py --against old=path/to/another/omega       both, on the same inputs in one run
     bench/bench.py --only random2 --only sparse --runs 9
 
-A command is called as `COMMAND solve --player 0`, `COMMAND check --format pg` and so on, with the game on standard
+A command is called as `COMMAND solve --player 0`, `COMMAND check --format pg` and so on, with the text on standard
 input; the commands take turns. The first run of each warms up, and its output is compared with that of the first
 command: a difference is printed as DIFFERS, and like a refusal or a run that takes too long it makes the exit status
 1. Times differ from run to run and machine to machine, so that only the ratios within one run mean something.
@@ -23,6 +23,7 @@ import tempfile
 import threading
 import time
 
+from automata import AUTOMATA
 from explaining import EXPLAINED
 from families import FAMILIES
 
@@ -32,9 +33,15 @@ GNU_TIME = shutil.which("time")
 NOT_WON = 6
 OMEGA = os.path.join(ROOT, "crates", "omega_tool", "out", "omega_tool")
 TASKS = {
-    "solve": [["solve"], ["solve", "--player", "0"], ["solve", "--player", "1"]],
+    "solve": [["solve"], ["solve", "--player", "0"], ["solve", "--player", "1"], ["solve", "--search"]],
     "read": [["check", "--format", "pg"], ["canon", "--format", "pg"]],
+    "automata": [["check", "--format", "hoa"], ["canon", "--format", "hoa"]],
+    "emptiness": [["check", "--format", "hoa"], ["canon", "--format", "hoa"], ["empty"], ["empty", "--search"]],
+    # Automata whose acceptance the search alone decides.
+    "search": [["check", "--format", "hoa"], ["empty", "--search"]],
 }
+# Of these any right answer does, and two programs may give two.
+ANY_ANSWER = (["solve", "--search"], ["empty", "--search"])
 
 
 def measured(command, words, path, seconds):
@@ -124,8 +131,8 @@ def compared(figures, words, path, options):
             one.run(words, path, options.seconds)
     wanted = figures[0].output
     for one in figures:
-        differs = one.output is not None and wanted is not None and without_lifts(one.output) != without_lifts(wanted)
-        if differs:
+        there = one.output is not None and wanted is not None
+        if there and words not in ANY_ANSWER and without_lifts(one.output) != without_lifts(wanted):
             one.fault = "DIFFERS"
         print(one.line(words, path))
     return [one for one in figures if not one.fault]
@@ -167,7 +174,7 @@ def main():
     options = parser.parse_args()
     if options.runs < 1:
         parser.error("at least one run is counted")
-    names = [*FAMILIES, *EXPLAINED]
+    names = [*FAMILIES, *AUTOMATA, *EXPLAINED]
     if options.only and not set(options.only) <= set(names):
         parser.error("the families are " + ", ".join(names))
     if not options.omega and not os.path.exists(OMEGA):
@@ -176,14 +183,15 @@ def main():
     commands += [(name, shlex.split(words)) for name, words in (pair.split("=", 1) for pair in options.against)]
     ratios = {name: [] for name, _ in commands[1:]}
     all_well = True
-    for family, (kind, quick, full) in FAMILIES.items():
+    for family, (kind, quick, full) in [*FAMILIES.items(), *AUTOMATA.items()]:
         if options.only and family not in options.only:
             continue
         text = (quick if options.quick else full)()
-        with tempfile.NamedTemporaryFile("w", suffix=".pg") as file:
+        with tempfile.NamedTemporaryFile("w") as file:
             file.write(text)
             file.flush()
-            print(f"{family}: {len(text):,} bytes, {text.count(';'):,} nodes")
+            size = f"{text.count('State:'):,} states" if family in AUTOMATA else f"{text.count(';'):,} nodes"
+            print(f"{family}: {len(text):,} bytes, {size}")
             for words in TASKS[kind]:
                 print(f"  {' '.join(words)}")
                 figures = compared([Figures(name, command) for name, command in commands], words, file.name, options)
@@ -191,9 +199,10 @@ def main():
                 if len(figures) < 2 or figures[0].name != "omega":
                     continue
                 ours = statistics.median(figures[0].times)
+                task = words[0] if "--search" not in words else " ".join(words)
                 for other in figures[1:]:
                     ratio = ours / statistics.median(other.times)
-                    ratios[other.name].append((words[0], ratio))
+                    ratios[other.name].append((task, ratio))
                     print(f"    omega / {other.name}: {ratio:.2f}")
     all_well = explained(commands, options) and all_well
     for name, found in ratios.items():

@@ -58,6 +58,97 @@ def component(nodes, priorities, stretch=4096, seed=DEFAULT_SEED):
     )
 
 
+def solitaire(nodes, priorities, degree=3, seed=DEFAULT_SEED):
+    """Random, and player 0 owns every node."""
+    draw = random.Random(seed)
+    return text_of(
+        (v, draw.randrange(priorities), 0, [draw.randrange(nodes) for _ in range(1 + draw.randrange(degree))])
+        for v in range(nodes)
+    )
+
+
+def counting(levels, size):
+    """A ring of each odd priority, which player 0 may leave for the next ring, and after the last a path to an even
+    loop. Player 0 wins everywhere, and a measure counts up to that of the way out (after Jurdziński 2000)."""
+    nodes = []
+    for level in range(levels):
+        base = level * size
+        for at in range(size):
+            ahead = [base + at + 1] if level + 1 == levels else [base + (at + 1) % size, base + size]
+            nodes.append((base + at, 2 * level + 1, 0, ahead))
+    return text_of(nodes + [(levels * size, 0, 1, [levels * size])])
+
+
+def lost_loop(levels, size):
+    """A loop of the least odd priority beside nodes of each odd priority: it counts through all measures."""
+    last = levels * size + 1
+    priorities = [1] + [2 * level + 1 for level in range(levels) for _ in range(size - (level == 0))]
+    nodes = [(v, priority, 0, [v and v + 1]) for v, priority in enumerate(priorities)]
+    return text_of(nodes + [(v, 0, 0, [last]) for v in range(len(nodes), last + 1)])
+
+
+def model_checking(rungs, depth):
+    """A formula of so many alternating fixed points on a ladder: for some j, proposition j holds here and X_j next, in
+    some state after one on the left rail, in all states after one on the right."""
+    states, each = 2 * rungs, 1 + 2 * depth
+    true, false = states * each, states * each + 1
+    nodes = []
+    for state in range(states):
+        rung, right, base = state // 2, state % 2, state * each
+        after = (rung + 1) % rungs
+        ahead = [2 * after + 1, 2 * after] if right else [2 * after, 2 * rung + 1]
+        nodes.append((base, 0, 0, [base + 1 + at for at in range(depth)]))
+        nodes += [(base + 1 + at, 0, 1, [true if rung % depth == at else false, base + 1 + depth + at])
+                  for at in range(depth)]
+        nodes += [(base + 1 + depth + at, at, right, [to * each for to in ahead]) for at in range(depth)]
+    greatest = depth + depth % 2
+    return text_of(nodes + [(true, greatest, 0, [true]), (false, greatest + 1, 0, [false])])
+
+
+def pursuit(width, goal):
+    """One who flees and one who pursues move in turn on a square of cells. Player 0 flees: for ever, to a corner, or
+    there again and again."""
+    cells = width * width
+
+    def steps(cell):
+        row, column = divmod(cell, width)
+        near = [(row > 0, cell - width), (row + 1 < width, cell + width), (column > 0, cell - 1),
+                (column + 1 < width, cell + 1)]
+        return [to for inside, to in near if inside]
+
+    def place(flees, pursues, turn):
+        return (flees * cells + pursues) * 2 + turn
+
+    nodes = []
+    for flees in range(cells):
+        for pursues in range(cells):
+            for turn in range(2):
+                caught, home, here = flees == pursues, flees == cells - 1, place(flees, pursues, turn)
+                # The pursuer may not stand still.
+                ahead = ([place(flees, to, 0) for to in steps(pursues)] if turn
+                         else [place(to, pursues, 1) for to in [flees, *steps(flees)]])
+                ends = caught if goal == "safety" else goal == "reach" and home
+                priority = {"safety": caught, "reach": 1 + home, "buchi": 1 + (home and not caught)}[goal]
+                nodes.append((here, int(priority), turn, [here] if ends else ahead))
+    return text_of(nodes)
+
+
+def layered(nodes, width=64, priorities=4, seed=DEFAULT_SEED):
+    """Layers whose edges lead to the layer below; the first bears the two greatest priorities and leads to the last."""
+    draw = random.Random(seed)
+    layers, greatest = nodes // width, priorities + priorities % 2
+    return text_of(
+        (
+            layer * width + at,
+            draw.randrange(priorities) if layer else greatest + draw.randrange(2),
+            draw.randrange(2),
+            [(layer - 1) % layers * width + draw.randrange(width) for _ in range(2)],
+        )
+        for layer in range(layers)
+        for at in range(width)
+    )
+
+
 def grid(width, height, seed=DEFAULT_SEED):
     """A torus of two priorities: steps right and down, owners like a chess board."""
     draw = random.Random(seed)
@@ -111,6 +202,16 @@ FAMILIES = {
     "chain-up": ("solve", lambda: chain_up(2000), lambda: chain_up(16000)),
     "chain-down": ("solve", lambda: chain_down(50000), lambda: chain_down(400000)),
     "component": ("solve", lambda: component(8192, 32), lambda: component(65536, 64)),
+    "solitaire": ("solve", lambda: solitaire(10000, 2), lambda: solitaire(40000, 2)),
+    "counting3": ("solve", lambda: counting(3, 40), lambda: counting(3, 160)),
+    "counting5": ("solve", lambda: counting(5, 6), lambda: counting(5, 13)),
+    "lost-loop": ("solve", lambda: lost_loop(3, 100), lambda: lost_loop(3, 400)),
+    "checking2": ("solve", lambda: model_checking(300, 2), lambda: model_checking(1200, 2)),
+    "checking3": ("solve", lambda: model_checking(100, 3), lambda: model_checking(400, 3)),
+    "pursuit": ("solve", lambda: pursuit(5, "safety"), lambda: pursuit(7, "safety")),
+    "pursuit-home": ("solve", lambda: pursuit(6, "reach"), lambda: pursuit(10, "reach")),
+    "pursuit-again": ("solve", lambda: pursuit(6, "buchi"), lambda: pursuit(10, "buchi")),
+    "layered": ("solve", lambda: layered(40000), lambda: layered(600000)),
     "grid": ("solve", lambda: grid(60, 30), lambda: grid(240, 60)),
     "sparse": ("read", lambda: sparse(40000), lambda: sparse(320000)),
     "most-nodes": ("read", lambda: most_nodes(131072), lambda: most_nodes()),

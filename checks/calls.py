@@ -15,6 +15,8 @@ GAMES = (TWO, GAPS, CARRY, CHOICE, DENSE)
 AUTOMATA = (BUCHI, ALIASES, WRITTEN, TWO_SETS)
 LABEL = b"!(0 & @a) | (t | !!f) & 2"
 FORMULA = b"(Inf(0) & Fin(!1)) | t & (f | Inf(2))"
+# Over more propositions than a table of valuations is made for.
+MANY = b"&".join(b"%d" % n for n in range(20))
 STREAM = ABORTED + b" " + BUCHI + WRITTEN
 
 # Calls, the two texts that they are given, and the status and the beginning of the output with ample memory, which are
@@ -34,18 +36,29 @@ RUNS = [
     *((call, b"@b|!@a", b"0|1", 0, b"<(0|1)&!(0|1)|!(0|1)") for call in ("expand", "expand_in_place")),
     ("expand", b"@c", b"0|1", 27, b""),
     ("expanded_size", b"@b|!@a", b"0|1", 0, b"13 "),
+    ("shape of a label", b"!(0 & 2) | (t | !!f) & 2", b"", 0, b"<!(0&2)|(t|!!f)&2"),
+    ("shape of a formula", FORMULA, b"", 0, b"<Inf(0)&Fin(!1)|t&(f|Inf(2))"),
+    *(("can_be_true", label, b"", 0, answer) for label, answer in
+      ((b"0&!0|1&2", b"+"), (b"0&!0", b"-"), (MANY, b"+"), (MANY + b"&!7", b"-"))),
+    ("components", b"", b"", 0, b""),
+    ("reached", b"", b"", 0, b"--+"),
+    ("path", b"", b"", 0, b"0 2 ;"),
+    *(("accepting_walk", formula, b"", 0, walk) for formula, walk in
+      ((b"Fin(0)&Inf(1)", b"3 ;"), (b"Inf(0)&Fin(1)", b"none"), (b"Inf(0)|Fin(!1)", b""))),
     *((call, FORMULA, b"", 0, b"<Inf(0)&Fin(!1)|t&(f|Inf(2))") for call in ("read_acc", "read_raw_acc")),
     ("read_acc", b"Inf(", b"", 3, b""),
     *((call, b"", b"", 0, b"<Inf(0)&t|Fin(!1)") for call in ("RawAcc", "Acc")),
     *((call, text, b"", 0, b"HOA: v1\n") for call in ("read_raw", "automaton_of", "read_one", "write_canonical")
       for text in AUTOMATA),
+    ("RawEdges", b"", b"", 0, b"1 ;-2 ;-3 ;+"),
+    ("StateName", b"n" * 40, b"", 0, b"n" * 40),
     *((call, b"HOA: v2 --BODY-- --END--", b"", 20, b"") for call in ("automaton_of", "read_one")),
     *((call, text, b"", 0, b"digraph automaton {\n") for call in ("draw_automaton", "draw_lasso") for text in AUTOMATA),
     *((call, STREAM, b"", 0, b"aborted\nHOA: v1\n") for call in ("read_stream", "feed")),
     *((call, BUCHI + b"x", b"", 3, b"") for call in ("read_stream", "feed")),
     *((call, text, b"", 0, b"parity ") for call in ("read_game", "GameBuilder", "part") for text in GAMES),
     ("read_game", b"0 0 0 1;", b"", 11, b""),
-    ("build", b"", b"", 0, b"parity 7;\n7 1 1 7,7;\n"),
+    ("build", b"", b"", 0, b"parity 7;\n3 2 0 7 \"n\";\n7 1 1 7,3;\n"),
     *(("draw_game", text, b"", 0, b"digraph game {\n") for text in GAMES),
     ("read_solution", CHOICE, b"paritysol 2; 0 0 2; 1 0; 2 0;", 0, b"paritysol 2;\n0 0 2;\n1 0;\n2 0;\n"),
     ("read_solution", CHOICE, b"paritysol 2; 0 0;", 53, b""),

@@ -10,7 +10,7 @@ import subprocess
 
 from automata import BINDS, Aliases, bare, binds, read_one, written
 from automaton_texts import ABORTED, ALIAS, BUCHI, EVERYTHING, Maker
-from emptiness import judge, read_lasso
+from emptiness import judge_search, read_lasso
 from games import Refused, read_game, read_solution
 from parts import made_at_random, solution_at_random
 from parts import written as solution_text
@@ -124,12 +124,13 @@ def game_fault(text):
 
 
 def solution_fault(text, solution):
-    words = ["draw", "--format", "pg", "--solution"]
+    words, judged = ["draw", "--format", "pg", "--solution"], "game"
     try:
         nodes = read_game(text)
+        judged = "solution"
         read = read_solution(nodes, solution)
     except Refused as refused:
-        return fault_with_file(words, solution, text, 1, b"", f"omega: {refused}\n".encode())
+        return fault_with_file(words, solution, text, 1, b"", f"omega: {refused}\nomega: in the {judged}\n".encode())
     return fault_with_file(words, solution, text, 0, game_drawing(nodes, read))
 
 
@@ -147,7 +148,7 @@ def lasso_fault(text):
     words = ["draw", "--format", "hoa", "--lasso"]
     try:
         automaton = read_one(text)
-        judge(automaton)
+        judge_search(automaton)
     except Refused as refused:
         return fault_of(words, text, 1, b"", f"omega: {refused}\n".encode())
     stem, cycle = read_lasso(output_of(["empty", "--search"], text)) or ((), ())
@@ -174,9 +175,12 @@ def drawing_checks():
         yield f"the drawing of {shown(text)} with a lasso", lasso_fault(text)
     for held, status, line in ((b"0 0 0 0;" + b" " * 16_777_216, 1, b"omega: 4 TooLong\n"), (b"\xff", 1, b"omega: 1 Lex at 0\n")):
         words = ["draw", "--format", "pg", "--solution"]
-        yield f"a solution file of {len(held)} bytes", fault_with_file(words, held, GAMES[0], status, b"", line)
-    missing = ["draw", "--format", "pg", "--solution", os.path.join(ROOT, "no", "such", "solution")]
-    yield "a solution file that is not there", fault_of(missing, GAMES[0], 5, b"", b"omega: 61 Io\n")
+        yield f"a solution file of {len(held)} bytes", fault_with_file(
+            words, held, GAMES[0], status, b"", line + b"omega: in the solution\n")
+    missing = os.path.join(ROOT, "no", "such", "solution")
+    said = f"omega: 61 Io\nomega: cannot read '{missing}'\n".encode()
+    yield "a solution file that is not there", fault_of(
+        ["draw", "--format", "pg", "--solution", missing], GAMES[0], 5, b"", said)
     if shutil.which("dot"):
         yield from picture_checks()
 

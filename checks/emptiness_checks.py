@@ -4,7 +4,7 @@ import subprocess
 
 from automata import Refused, read_one
 from automaton_texts import Maker
-from emptiness import game_text, has_accepting_lasso, judge, lasso_fault, read_lasso
+from emptiness import game_text, has_accepting_lasso, judge, judge_search, lasso_fault, read_lasso
 from program import OMEGA, SECONDS, fault_of, refusal_fault, shown
 
 ONE_STATE = b'HOA: v1 States: 1 Start: 0 AP: 1 "a" acc-name: %s Acceptance: %s --BODY-- State: 0 %s --END--'
@@ -20,7 +20,7 @@ KINDS = [
     (b"generalized-Buchi 3", b"3 Inf(0)&Inf(1)&Inf(2)"),
 ]
 
-# Acceptances that are none of the rows.
+# Acceptances that are none of the rows: a search alone decides them.
 REFUSED = [
     (b"Buchi", b"1 Fin(0)"), (b"Buchi", b"2 Inf(0)"), (b"Buchi 1", b"1 Inf(0)"), (b"parity max even 2", b"1 Inf(0)"),
     (b"generalized-Buchi 2", b"2 Inf(1)&Inf(0)"), (b"generalized-Buchi 0", b"0 t"), (b"Rabin 1", b"2 Fin(0)&Inf(1)"),
@@ -86,8 +86,8 @@ def fault_of_game(text):
     return fault_of(["game"], text, 0, game_text(automaton)) or solution_fault(automaton)
 
 
-# The two ways in which emptiness is decided.
-WAYS = (["empty"], ["empty", "--search"])
+# The two ways in which emptiness is decided, each with what refuses an automaton.
+WAYS = ((["empty"], judge), (["empty", "--search"], judge_search))
 
 
 def verdict_fault(automaton, output):
@@ -98,11 +98,11 @@ def verdict_fault(automaton, output):
     return f"no verdict: {shown(output)}" if lasso is None else lasso_fault(automaton, *lasso)
 
 
-def fault_of_emptiness(words, text):
+def fault_of_emptiness(words, judging, text):
     """What differs from what is wanted of `empty`, or nothing."""
     try:
         automaton = read_one(text)
-        judge(automaton)
+        judging(automaton)
     except Refused as refused:
         return refusal_fault(words, text, refused)
     ran = subprocess.run([OMEGA, *words], input=text, capture_output=True, timeout=SECONDS)
@@ -129,9 +129,9 @@ def one_component(states):
 
 def deciding_checks(texts):
     for text in texts:
-        for words in WAYS:
-            yield f"{' '.join(words)} of {shown(text)}", fault_of_emptiness(words, text)
-    for words in WAYS:
+        for words, judging in WAYS:
+            yield f"{' '.join(words)} of {shown(text)}", fault_of_emptiness(words, judging, text)
+    for words, _ in WAYS:
         yield f"{' '.join(words)} of 16 sets and 65,535 states", fault_of(words, sixteen_sets(65_535), 0, b"empty\n")
     # By lifting it would go through millions of measures; the search looks at each edge a few times.
     yield "empty --search of one component", fault_of(["empty", "--search"], one_component(160), 0, b"empty\n")
@@ -139,6 +139,48 @@ def deciding_checks(texts):
         words, text = ["empty", "--budget", str(budget)], ONE_STATE % (b"Buchi", b"1 Inf(0)", b"[0] 0 {0}")
         fault = fault_of(words, text, 0, wanted) if wanted else refusal_fault(words, text, "51 Budget", 3)
         yield f"empty with the budget {budget}", fault
+
+
+# Acceptances beyond parity: the rows of each kind, and every rule of the search once alone.
+FORMULAS = [
+    b"2 Fin(0)&Inf(1)", b"4 (Fin(0)&Inf(1))|(Fin(2)&Inf(3))", b"4 (Fin(0)|Inf(1))&(Fin(2)|Inf(3))",
+    b"3 Fin(0)&Inf(1)&Inf(2)", b"1 Inf(!0)", b"1 Fin(!0)", b"2 Fin(!0)&Inf(1)", b"2 Inf(!0)&Inf(!1)", b"2 Fin(0)|Fin(1)",
+    b"3 (Fin(0)|Fin(1))&Inf(2)", b"2 t&(Fin(0)|f)&(Inf(1)|f)", b"1 Inf(0)&Fin(0)", b"1 Inf(0)&Inf(!0)",
+    b"1 Fin(0)|Fin(!0)", b"6 (Fin(0)&Inf(1))|(Fin(2)&(Inf(3)|Fin(4)))|(Inf(5)&Fin(!5))",
+]
+
+
+def wide(count, label):
+    """An automaton of so many propositions with this label on a loop."""
+    names = b" ".join(b'"%d"' % number for number in range(count))
+    return (b"HOA: v1 States: 1 Start: 0 AP: %d %s Acceptance: 1 Inf(0) --BODY-- State: 0 [%s] 0 {0} --END--"
+            % (count, names, label))
+
+
+def wide_rows():
+    """Labels with many propositions, each with whether it can be true."""
+    numbers = [b"%d" % number for number in range(200)]
+    cube = b"&".join(numbers)
+    yield "a cube", cube, True
+    yield "a cube that denies itself", cube + b"&!7", False
+    yield "a clause", b"|".join(b"!" + number for number in numbers), True
+    yield "a cube and its clause", cube + b"&!(" + cube + b")", False
+    yield "200 cubes", b"|".join(b"%d&!%d" % (k, (k + 1) % 200) for k in range(200)), True
+
+
+def searching_checks():
+    maker = Emptied(2026)
+    acceptances = [(b"x", acceptance) for acceptance in FORMULAS for _ in range(16)]
+    for _ in range(600):
+        sets = maker.some(1, 6)
+        acceptances.append((b"x", b"%d %s" % (sets, maker.acceptance(sets, 4))))
+    words = ["empty", "--search"]
+    for acceptance in acceptances:
+        text = maker.automaton_of(*acceptance)
+        yield f"empty --search of {text!r}", fault_of_emptiness(words, judge_search, text)
+    for label, written, is_true in wide_rows():
+        wanted = b"stem\ncycle 0\n" if is_true else b"empty\n"
+        yield f"empty --search of a label that is {label}", fault_of(words, wide(200, written), 0, wanted)
 
 
 def emptiness_checks():
@@ -153,6 +195,7 @@ def emptiness_checks():
     for text in texts:
         yield f"the emptiness game of {shown(text)}", fault_of_game(text)
     yield from deciding_checks(texts)
+    yield from searching_checks()
     for text in (b"HOA: v1 States: 1048575 Start: 7 acc-name: all Acceptance: 0 t --BODY-- --END--", sixteen_sets(65_535)):
         # The game's text is too long to be solved.
         yield f"the largest emptiness game of {shown(text)}", fault_of(["game"], text, 0, game_text(read_one(text)))

@@ -258,7 +258,8 @@ def run_checks(omega):
     broken_line = (ctypes.c_uint8 * 2)(255, 0)
     none, room = (ctypes.c_uint8 * 0)(), (ctypes.c_uint8 * 99)()
     ran = omega._LIBRARY.omega_run(*[part for it in (broken_line, none, none, none, room) for part in omega._room(it)])
-    yield "words that are not UTF-8", differs((ran.status, bytes(room[:ran.errors])), (2, b"error: the command line is not UTF-8\n"))
+    fault = b"error: the command line is not UTF-8\n\nFor more information, try '--help'.\n"
+    yield "words that are not UTF-8", differs((ran.status, bytes(room[:ran.errors])), (FAULT, fault))
 
 
 def buffer_checks(omega):

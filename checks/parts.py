@@ -53,11 +53,13 @@ def solution_at_random(maker, part):
 def judged(game, start, text):
     """The fault of `verify --from`, which must say what the slow judge says of the part."""
     words = ["verify", "--from", str(start), "--game"]
+    judged_text = "game"
     try:
         part = part_of(read_game(game), start)
+        judged_text = "solution"
         solution = read_solution(part, text)
     except Refused as refused:
-        return fault_with_file(words, game, text, 1, b"", f"omega: {refused}\n".encode())
+        return fault_with_file(words, game, text, 1, b"", f"omega: {refused}\nomega: in the {judged_text}\n".encode())
     right = all(wins(part, solution, player) for player in (0, 1))
     return fault_with_file(words, game, text, 0 if right else 6, b"yes\n" if right else b"no\n")
 
@@ -71,7 +73,7 @@ def refused_checks():
             words = ["canon", "--format", "pg", "--from", "0"]
             yield f"canon --from of {shown(game)}", fault_of(words, game, 1, b"", wanted)
             yield f"verify --from of {shown(game)}", fault_with_file(
-                ["verify", "--from", "0", "--game"], game, b"nonsense", 1, b"", wanted)
+                ["verify", "--from", "0", "--game"], game, b"nonsense", 1, b"", wanted + b"omega: in the game\n")
 
 
 def game_checks(maker, game):

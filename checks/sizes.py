@@ -72,7 +72,8 @@ def most_nodes():
     yield "verify of one node given away", fault_with_file(["verify", "--game"], text, wrong.encode(), 6, b"no\n")
     missing = solution[: solution.rindex("\n", 0, -1) + 1]
     yield "verify of a solution without its last line", fault_with_file(
-        ["verify", "--game"], text, missing.encode(), 1, b"", b"omega: 53 BadSolution\n")
+        ["verify", "--game"], text, missing.encode(), 1, b"",
+        b"omega: 53 BadSolution\nomega: in the solution\n")
 
 
 def too_many_nodes():

@@ -7,6 +7,8 @@ from program import OMEGA, SECONDS, fault_of, fault_with_file, shown, subcommand
 
 CHOICE = b"0 0 0 1,2; 1 1 1 0; 2 2 1 0;"
 SOLUTION = b"paritysol 2; 0 0 2; 1 0; 2 0;"
+MISSING = os.path.join(tempfile.gettempdir(), "no", "such", "file")
+NO_TEXT = b"error: the command line is not UTF-8\n\nFor more information, try '--help'.\n"
 LIMITS = {
     "check": ("16777216", "1048576", "8388608"),
     "solve": ("67108864", "1099511627776"),
@@ -18,6 +20,11 @@ def run(words, text=b"", **given):
                           timeout=SECONDS, **given)
 
 
+def unread(name):
+    """What is told of a file that can't be read."""
+    return f"omega: 61 Io\nomega: cannot read '{name}'\n".encode()
+
+
 def statuses():
     yield "done", fault_of(["check", "--format", "pg"], CHOICE, 0, b"accepted\n")
     yield "a refused text", fault_of(["check", "--format", "pg"], b"", 1, b"", b"omega: 3 Syntax at 0\n")
@@ -27,9 +34,13 @@ def statuses():
     yield "a refused text of automata", fault_of(["check", "--format", "hoa"], b"x", 1, b"", b"omega: 3 Syntax at 0\n")
     yield "a solution verified", fault_with_file(["verify", "--game"], CHOICE, SOLUTION, 0, b"yes\n")
     yield "a game file that is not there", fault_of(
-        ["verify", "--game", os.path.join(tempfile.gettempdir(), "no", "such", "game")], SOLUTION, 5, b"", b"omega: 61 Io\n")
+        ["verify", "--game", MISSING], SOLUTION, 5, b"", unread(MISSING))
     yield "a game file that is a folder", fault_of(
-        ["verify", "--game", tempfile.gettempdir()], SOLUTION, 5, b"", b"omega: 61 Io\n")
+        ["verify", "--game", tempfile.gettempdir()], SOLUTION, 5, b"", unread(tempfile.gettempdir()))
+    yield "an operand", fault_with_file(["check", "--format", "pg"], CHOICE, b"", 0, b"accepted\n")
+    yield "an operand that is not there", fault_of(["check", "--format", "pg", MISSING], CHOICE, 5, b"", unread(MISSING))
+    yield "an operand that is a folder", fault_of(
+        ["check", "--format", "hoa", tempfile.gettempdir()], b"", 5, b"", unread(tempfile.gettempdir()))
 
 
 def command_lines():
@@ -38,7 +49,7 @@ def command_lines():
         good = came.returncode == 2 and not came.stdout and came.stderr.startswith(b"error: ")
         yield f"a fault of the command line: {words}", None if good else f"{came.returncode} {shown(came.stdout)} {shown(came.stderr)}"
     came = run([b"solve", b"\xff"])
-    good = came.returncode == 2 and not came.stdout and came.stderr == b"error: the command line is not UTF-8\n"
+    good = came.returncode == 2 and not came.stdout and came.stderr == NO_TEXT
     yield "a word that is no text", None if good else f"{came.returncode} {shown(came.stdout)} {shown(came.stderr)}"
 
 
@@ -90,7 +101,9 @@ def broken_streams():
         yield f"a closed stream, {closed}", None if good else f"{came}"
     long = b"0 0 0 0;" + b" " * 16_777_216
     for held, line in ((long, b"omega: 4 TooLong\n"), (b"\xff\xfe", b"omega: 1 Lex at 0\n"), (b"", b"omega: 3 Syntax at 0\n")):
-        yield f"a game file of {len(held)} bytes", fault_with_file(["verify", "--game"], held, SOLUTION, 1, b"", line)
+        yield f"a game file of {len(held)} bytes", fault_with_file(
+            ["verify", "--game"], held, SOLUTION, 1, b"", line + b"omega: in the game\n")
+        yield f"an operand of {len(held)} bytes", fault_with_file(["check", "--format", "pg"], held, b"", 1, b"", line)
 
 
 def stream_checks():

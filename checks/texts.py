@@ -32,7 +32,7 @@ def solution_fault(nodes, text):
     try:
         solution = read_solution(nodes, text)
     except Refused as refused:
-        return fault_with_file(words, CHOICE, text, 1, b"", f"omega: {refused}\n".encode())
+        return fault_with_file(words, CHOICE, text, 1, b"", f"omega: {refused}\nomega: in the solution\n".encode())
     if wins(nodes, solution, 0) and wins(nodes, solution, 1):
         return fault_with_file(words, CHOICE, text, 0, b"yes\n")
     return fault_with_file(words, CHOICE, text, 6, b"no\n")

@@ -120,9 +120,9 @@ omega_outcome omega_verify(const omega_game *game, const uint8_t *winners, size_
 omega_outcome omega_bound(const omega_game *game, omega_bounds *bounds);
 
 /* Does what the program does with a command line. Its words behind the program's name are each ended by a NUL, as in
- * "solve\0--search"; what stands behind the last NUL is not read. The input is standard input; where the words name a
- * file, its text is `file`, whatever the name. Copies what it writes as far as there is room for it; where a length
- * that it gives is greater than the room, ask again with more. */
+ * "solve\0--search"; what stands behind the last NUL is not read. The input is standard input; each file that the
+ * words name, the operand too, has the text `file`, whatever its name. Copies what it writes as far as there is room
+ * for it; where a length that it gives is greater than the room, ask again with more. */
 omega_ran omega_run(const uint8_t *words, size_t word_bytes, const uint8_t *input, size_t input_bytes,
                     const uint8_t *file, size_t file_bytes, uint8_t *output, size_t output_room, uint8_t *errors,
                     size_t error_room);

@@ -23,7 +23,8 @@ class Subcommand:
 
 
 def help_of(program: str, *words: str) -> str:
-    return subprocess.run([program, *words, "--help"], capture_output=True, text=True, check=True).stdout
+    """The short help, in which each option has one line."""
+    return subprocess.run([program, *words, "-h"], capture_output=True, text=True, check=True).stdout
 
 
 def section(text: str, title: str) -> list[str]:
@@ -74,7 +75,10 @@ _omega() {{
     case ${{COMP_WORDS[1]}} in
 {rows}
     esac
-    COMPREPLY=($(compgen -W "$options --help" -- "$word"))
+    case $word in
+        -*) COMPREPLY=($(compgen -W "$options --help" -- "$word")) ;;
+        *) COMPREPLY=($(compgen -f -- "$word")) ;;
+    esac
 }}
 complete -F _omega omega
 """
@@ -105,7 +109,7 @@ def zsh_completions(commands: list[Subcommand]) -> str:
             values = f":{one.value}:({' '.join(VALUES[one.value])})" if one.value in VALUES else ""
             values = ":file:_files" if one.value == "FILE" else values or (f":{one.value}:" if one.value else "")
             words.append(f"'--{one.name}[{plain(one.help)}]{values}'")
-        rows.append(f"        {it.name}) _arguments {' '.join(words)} '--help[Print help]' ;;")
+        rows.append(f"        {it.name}) _arguments {' '.join(words)} '--help[Print help]' '*:file:_files' ;;")
     table = "\n".join(rows)
     return f"""\
 #compdef omega
@@ -130,7 +134,7 @@ _omega "$@"
 
 
 def fish_completions(commands: list[Subcommand]) -> str:
-    lines = ["# Completions of omega for fish.", "complete -c omega -f"]
+    lines = ["# Completions of omega for fish.", "complete -c omega -n __fish_use_subcommand -f"]
     lines += [f"complete -c omega -n __fish_use_subcommand -a {it.name} -d '{plain(it.help)}'" for it in commands]
     for it in commands:
         for one in it.options:

@@ -1,9 +1,10 @@
 """Proves and builds the library for C and Python, `out/libomega.a` and `out/libomega.so`, where that is needed.
 
-    python3 make/library.py          crates side by side, as make/build.py does it
+    python3 make/library.py                 crates side by side, as make/build.py does it; what `make` proved is kept
+    python3 make/library.py --left-by-ci    over the statements that `rt ci`, which ran just before, left of the crates
 
-What `rt ci` or `rt lib` proved of the crates below is taken, where it is there; else what `make` kept. The archive has
-what it needs of the toolchain inside. `LIBRARY=FILE python3 make/library.py` packs an archive that was built elsewhere.
+The archive has what it needs of the toolchain inside. `LIBRARY=FILE python3 make/library.py` packs an archive that was
+built elsewhere.
 """
 
 import os
@@ -16,18 +17,12 @@ import time
 from build import FAILED, Build, lanes_here, lock
 from crates import ROOT, Crate, NotBuilt, crates_for, is_newer_than
 from kept import LIBRARIES
-from kit import Kit, said_by
+from kit import Kit
 from progress import say
 
 NAME = "omega"
 OUT = os.path.join(ROOT, "out")
 ARCHIVE, SHARED = os.path.join(OUT, "libomega.a"), os.path.join(OUT, "libomega.so")
-BY_RT = os.path.join(ROOT, "crates", NAME, "out", f"lib{NAME}.a")
-
-
-def has_libraries(below: list[Crate]) -> bool:
-    """Whether `rt` built each crate below. It sees by itself which of them are older than their sources."""
-    return all(os.path.isdir(os.path.join(it.folder, "out", "rlib", f"{it.name}.rlib")) for it in below)
 
 
 def ran_well(words: list[str], folder: str) -> str:
@@ -40,20 +35,30 @@ def ran_well(words: list[str], folder: str) -> str:
     return ran.stdout
 
 
-def built_by_rt(crate: Crate) -> str:
-    ran_well(["rt", "lib"], crate.folder)
-    return BY_RT
+def left_by_ci(crates: dict[str, Crate], into: str) -> str:
+    """A folder of links to the statements that `rt ci` left, each beside its crate."""
+    folder = os.path.join(into, "left")
+    os.mkdir(folder)
+    for name, crate in crates.items():
+        left = os.path.join(crate.folder, "out", "rlib", f"{name}.rlib")
+        if not os.path.isdir(left):
+            raise NotBuilt(f"rt ci left no statements of {name}")
+        os.symlink(left, os.path.join(folder, f"{name}.rlib"))
+    return folder
 
 
-def built_here(kit: Kit, crates: dict[str, Crate], into: str) -> str:
-    """Proves what is left of the crates below, and then this crate, which is compiled too."""
-    top = crates.pop(NAME)
-    lanes = lanes_here()
+def kept_by_make(kit: Kit, crates: dict[str, Crate]) -> str:
+    """The folder of the statements of the crates below, once what is left of them is proved."""
     os.makedirs(LIBRARIES, exist_ok=True)
-    if not Build(kit, crates, lanes, lock()).run():
+    if not Build(kit, crates, lanes_here(), lock()).run():
         raise NotBuilt(f"the crates below {NAME} are not proved")
+    return LIBRARIES
+
+
+def built_over(kit: Kit, top: Crate, libraries: str, into: str) -> str:
+    """Proves the crate of the library over the statements of those below, and compiles all."""
     made = os.path.join(into, f"lib{NAME}.a")
-    words = kit.reading(top, LIBRARIES, lanes)
+    words = kit.reading(top, libraries, lanes_here())
     for name in top.below:
         words += ["--links", f"{name}="]
     words += ["--crate-type", "staticlib", "--toolchain", f"{kit.folder}/toolchain", "--backend", "llvm", "-o", made]
@@ -79,28 +84,27 @@ def pack(kit_folder: str, made: str, room: str) -> None:
         os.replace(f"{target}.new", target)
 
 
-def build() -> None:
+def build(is_left_by_ci: bool) -> None:
     began = time.time_ns()
     given = os.environ.get("LIBRARY")
     if not given and not is_newer_than(SHARED) and os.path.exists(ARCHIVE):
         return
-    folder = os.path.dirname(said_by("rt", "doc"))
+    kit, crates = Kit.found(), crates_for(NAME)
+    top = crates.pop(NAME)
     with tempfile.TemporaryDirectory() as room, tempfile.TemporaryDirectory() as packing:
-        crates = crates_for(NAME)
         if given:
             made = os.path.abspath(given)
-        elif has_libraries([it for name, it in crates.items() if name != NAME]):
-            made = built_by_rt(crates[NAME])
         else:
-            made = built_here(Kit.found(), crates, room)
-        pack(folder, made, packing)
+            libraries = left_by_ci(crates, room) if is_left_by_ci else kept_by_make(kit, crates)
+            made = built_over(kit, top, libraries, room)
+        pack(kit.folder, made, packing)
     for file in (ARCHIVE, SHARED):
         os.utime(file, ns=(began, began))
 
 
 def main() -> int:
     try:
-        build()
+        build(sys.argv[1:] == ["--left-by-ci"])
     except (NotBuilt, OSError) as why:
         say(str(why))
         return FAILED

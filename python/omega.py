@@ -239,8 +239,8 @@ def bound(priorities: Numbers, owners: Numbers, successors: Successors) -> Bound
 
 
 def run(words: Sequence[str], input: bytes = b"", file: bytes = b"") -> Ran:
-    """What the program `omega` does with these words behind its name, with this standard input; where the words name a
-    file, its text is `file`, whatever the name."""
+    """What the program `omega` does with these words behind its name, with this standard input; each file that the
+    words name, the operand too, has the text `file`, whatever its name."""
     if any("\0" in word for word in words):
         raise ValueError("a word has a NUL")
     line = b"".join(word.encode("utf-8", "surrogateescape") + b"\0" for word in words)

@@ -3,7 +3,7 @@ use Rattle.std.proofs.Common.{◌≡◌, ℕ, List, [], Option, Some, Result, Ok
 use Rattle.omega_text.specs.declared.refusal.Refusal.{Refusal}
 use Rattle.omega_text.specs.declared.refusal.Refusal.TheVariants.{Memory}
 use Rattle.omega_command.specs.declared.line.Line.{Line}
-use Rattle.omega_run.specs.Obey.{streams}
+use Rattle.omega_run.specs.Perform.{streams}
 use Rattle.omega.specs.Running.{IsAsked, IsLineOf, IsObeyedSomehow}
 
 -- words that were read, or not for want of memory

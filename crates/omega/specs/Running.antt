@@ -7,7 +7,8 @@ use Rattle.omega_text.specs.declared.refusal.Refusal.TheVariants.{Memory}
 use Rattle.omega_command.specs.declared.line.Line.{Line}
 use Rattle.omega_command.specs.declared.line.Line.TheVariants.{Fault}
 use Rattle.omega_io.specs.Writing.{Tells}
-use Rattle.omega_run.specs.Obey.{IsObeyed, Streams, streams}
+use Rattle.omega_run.specs.Obey.{IsObeyed}
+use Rattle.omega_run.specs.Perform.{Streams, streams}
 use Rattle.omega_words.specs.Words.{IsLineAsked}
 use Rattle.omega_arrays.specs.Room.{laid_over}
 use Rattle.omega.specs.declared.running.Ran.{Ran}
@@ -36,7 +37,7 @@ pub record HasNoText (text : List ℕ) : Type 0 where
 
 -- the line tells that the command line is not UTF-8
 abbrev pub TellsNoText : Line → Type 0
-TellsNoText (Fault text) = string_bytes text ≡ codes "error: the command line is not UTF-8\n"
+TellsNoText (Fault text) = string_bytes text ≡ codes "error: the command line is not UTF-8\n\nFor more information, try '--help'.\n"
 TellsNoText line = ⊥
 
 -- the line that the words ask for, or where one is not UTF-8, the fault that tells of it

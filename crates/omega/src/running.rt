@@ -1,6 +1,6 @@
 //! The program as a function: a command line is obeyed over texts in memory.
 ghost use Rattle.std.specs.Prelude.{◌≡◌, ◌-◌, ◌^◌, ◌<◌, IfOk, IsOkUnless};
-ghost use Rattle.omega_run.specs.Obey.{streams};
+ghost use Rattle.omega_run.specs.Perform.{streams};
 ghost use Rattle.omega_text.specs.declared.refusal.Refusal.TheVariants.{Memory};
 ghost use Rattle.omega_command.specs.Line.{IsRunnable};
 ghost use Rattle.omega.specs.Running.{IsLineOf, IsObeyedSomehow, IsRun, IsRunOutcome};
@@ -28,8 +28,8 @@ pub struct Ran {
 }
 
 /// Does what the program does with a command line, whose words behind the program's name are each ended by a NUL; what
-/// stands behind the last NUL is not read. The input is its standard input, and the file is read where a word names
-/// one. What it writes is copied as far as there is room for it, and its whole length is given.
+/// stands behind the last NUL is not read. The input is its standard input, and each file that a word names, the operand
+/// too, has the text `file`. What it writes is copied as far as there is room for it, and its whole length is given.
 #[unsafe(no_mangle)]
 pub extern "C" fn omega_run(
     alloc: Global,
@@ -112,8 +112,8 @@ fn asked_of(alloc: Global, words: &[u8]) -> Result<Line, Refusal>
     match words_in(alloc, words)? {
         Some(words) => read_words(alloc, words.as_slice()),
         None => {
-            let fault = String::from_str(alloc, "error: the command line is not UTF-8\n")?;
-            Ok(Line::Fault(fault))
+            let fault = "error: the command line is not UTF-8\n\nFor more information, try '--help'.\n";
+            Ok(Line::Fault(String::from_str(alloc, fault)?))
         }
     }
 }

@@ -8,10 +8,6 @@ use Rattle.omega_text.specs.Cases.{never, or_automaton, or_memory}
 abbrev pub counted : ℕ → ℕ
 counted depth = min depth 257
 
--- want of memory alone
-abbrev pub IsMemory : Refusal → Type 0
-IsMemory = or_memory never
-
 -- want of memory, or a depth of which this holds
 abbrev pub IsDeeper : Type 0 → Refusal → Type 0
 IsDeeper deep = or_automaton (λ fault. (fault ≡ TooDeep) × deep) (or_memory never)

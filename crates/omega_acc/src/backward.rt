@@ -1,5 +1,5 @@
 ghost use Rattle.std.specs.Prelude.{◌≡◌, ◌∷◌, ◌++◌, [], Some, decimal, IfErr, List, OnErr, OnOk};
-ghost use Rattle.omega_acc.specs.Depth.{IsMemory};
+ghost use Rattle.omega_text.specs.Cases.{IsMemory};
 ghost use Rattle.omega_acc.specs.Writing.{Text, atom_text, joined_text, negated_text, set_text, truth_text};
 ghost use Rattle.omega_acc.specs.declared.signs.Sign.TheVariants.{Open};
 ghost use Rattle.omega_acc.specs.private.layout.Texts.{before_text, sign_byte, texts_below, top_text, whole_text};

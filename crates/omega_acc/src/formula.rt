@@ -2,7 +2,8 @@
 
 ghost use Rattle.std.specs.Prelude.{◌≡◌, ◌≤◌, max, IfErr, IfOk};
 ghost use Rattle.omega_acc.specs.formula.Acceptance.{acc_depth, conjunction, constant as constant_tree, disjunction, fin as fin_tree, inf as inf_tree};
-ghost use Rattle.omega_acc.specs.Depth.{IsDeeper, IsMemory};
+ghost use Rattle.omega_acc.specs.Depth.{IsDeeper};
+ghost use Rattle.omega_text.specs.Cases.{IsMemory};
 ghost use Rattle.omega_acc.specs.Limits.{most_depth};
 
 pub(crate) mod kind;
@@ -64,7 +65,7 @@ impl Model for Acc {
 impl Acc {
     ghost use Rattle.omega_acc.specs.private.layout.formula.Acceptance.{IsAcc, acc_postfix, acc_tree_of};
 
-    /// `t` or `f`.
+    /// `t` or `f`. Refusal 60.
     pub fn constant(alloc: Global, value: bool) -> Result<Acc, Refusal>
         ensures ok { IfOk result (λ formula. formula ≡ constant_tree value) }
         ensures err { IfErr result IsMemory }
@@ -75,7 +76,7 @@ impl Acc {
         })
     }
 
-    /// `Inf` of a set by its number, with `!` before it or without.
+    /// `Inf` of a set by its number, with `!` before it or without. Refusal 60.
     pub fn inf(alloc: Global, negated: bool, set: u32) -> Result<Acc, Refusal>
         ensures ok { IfOk result (λ formula. formula ≡ inf_tree negated set) }
         ensures err { IfErr result IsMemory }
@@ -86,7 +87,7 @@ impl Acc {
         })
     }
 
-    /// `Fin` of a set by its number, with `!` before it or without.
+    /// `Fin` of a set by its number, with `!` before it or without. Refusal 60.
     pub fn fin(alloc: Global, negated: bool, set: u32) -> Result<Acc, Refusal>
         ensures ok { IfOk result (λ formula. formula ≡ fin_tree negated set) }
         ensures err { IfErr result IsMemory }

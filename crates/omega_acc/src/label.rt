@@ -1,7 +1,7 @@
 //! Labels: read, expanded, held in little memory, and whether they can be true.
 
 ghost use Rattle.std.specs.Prelude.{◌≡◌, ◌<◌, ◌≤◌, Some, length, slice_get, IfErr, IfOk};
-ghost use Rattle.omega_acc.specs.Depth.{IsMemory};
+ghost use Rattle.omega_text.specs.Cases.{IsMemory};
 
 pub(crate) mod aliases;
 pub(crate) mod codes;

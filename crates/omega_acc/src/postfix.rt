@@ -1,7 +1,7 @@
 //! Nodes in postfix order, and the names that stand beside them.
 
 ghost use Rattle.std.specs.Prelude.{◌≡◌, ◌∷◌, ◌++◌, [], IfErr, IfOk, OnOk};
-ghost use Rattle.omega_acc.specs.Depth.{IsMemory};
+ghost use Rattle.omega_text.specs.Cases.{IsMemory};
 
 use omega_text::{Refusal, Seq};
 use std::alloc::Global;

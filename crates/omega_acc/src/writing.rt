@@ -1,7 +1,7 @@
 //! Labels and acceptance formulas in their canonical text.
 
 ghost use Rattle.std.specs.Prelude.{◌≡◌, ◌++◌, [], IfErr, OnErr, OnOk};
-ghost use Rattle.omega_acc.specs.Depth.{IsMemory};
+ghost use Rattle.omega_text.specs.Cases.{IsMemory};
 ghost use Rattle.omega_acc.specs.Writing.{acc_text, label_text};
 ghost use Rattle.omega_acc.specs.private.layout.label.Label.{postfix};
 ghost use Rattle.omega_acc.specs.private.layout.Texts.{acc_texts_behind, texts_behind, whole_text};

@@ -3,6 +3,8 @@ pub use Rattle.omega_text.specs.Cases
 pub use Rattle.omega_text.specs.Refusal
 pub mod Limits
 pub mod Automaton
+pub mod AcceptanceKind
+pub mod Branching
 pub mod Items
 pub mod Faults
 pub mod Meaning

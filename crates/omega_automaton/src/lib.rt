@@ -2,6 +2,7 @@
 #![tactic(auto)]
 
 mod automaton;
+mod branching;
 mod edge;
 mod edge_ref;
 mod edges;
@@ -14,6 +15,7 @@ mod state;
 mod tool;
 
 pub use automaton::Automaton;
+pub use branching::has_branch;
 pub use edge::Edge;
 pub use edge_ref::EdgeRef;
 pub use edges::Edges;

@@ -6,7 +6,9 @@ use Rattle.omega_text.specs.declared.refusal.Refusal.TheVariants.{Automaton, Gam
 use Rattle.omega_automaton.specs.Automaton.{Description}
 use Rattle.omega_empty.specs.Refusing.{IsGameRefusal}
 use Rattle.omega_hoa.specs.Alone.{IsAutomatonText}
+use Rattle.omega_lasso.specs.Searching.{IsSearchRefusal}
 use Rattle.omega_automaton_answers.specs.Game.{IsEmptinessGameRefusal}
+use Rattle.omega_automaton_answers.specs.empty.Answer.{IsEmptySearchRefusal}
 
 -- what holds of a refusal, or want of memory
 or_memory-of : (P : Refusal → Type 0) (refusal : Refusal) → P refusal → or_memory P refusal
@@ -22,4 +24,11 @@ pub game-refused : (text : List ℕ) (automaton : Description) (refusal : Refusa
     → IsGameRefusal automaton refusal → or_memory (IsEmptinessGameRefusal text) refusal
 game-refused text automaton refusal read refused =
     or_memory-of (IsEmptinessGameRefusal text) refusal
+    (inr (record { automaton = automaton; read = read; refused = refused }))
+
+-- what refuses an automaton the search for a lasso
+pub search-refused : (text : List ℕ) (automaton : Description) (refusal : Refusal) → IsAutomatonText text automaton
+    → IsSearchRefusal automaton refusal → or_memory (IsEmptySearchRefusal text) refusal
+search-refused text automaton refusal read refused =
+    or_memory-of (IsEmptySearchRefusal text) refusal
     (inr (record { automaton = automaton; read = read; refused = refused }))

@@ -2,11 +2,11 @@
 use Rattle.std.specs.Prelude.{◌≡◌, List, ℕ}
 use Rattle.omega_automaton.specs.Automaton.{Description}
 use Rattle.omega_automaton_drawing.specs.AutomatonDrawing.{drawing_of_automaton, drawing_of_lasso}
-use Rattle.omega_empty.specs.Refusing.{IsGiven}
 use Rattle.omega_empty.specs.Verdict.{IsVerdict}
 use Rattle.omega_empty.specs.declared.verdict.Verdict.{Verdict}
 use Rattle.omega_empty.specs.declared.verdict.Verdict.TheVariants.{Empty, Lasso}
 use Rattle.omega_hoa.specs.Alone.{IsAutomatonText}
+use Rattle.omega_lasso.specs.Searching.{IsSearchable}
 
 -- what `draw` answers: the text stands for an automaton, and its drawing is written
 pub record IsAutomatonDrawingAnswer (text output : List ℕ) : Type 0 where
@@ -19,12 +19,12 @@ abbrev pub drawing_of_verdict : Description → Verdict → List ℕ
 drawing_of_verdict automaton Empty = drawing_of_automaton automaton
 drawing_of_verdict automaton (Lasso stem cycle) = drawing_of_lasso automaton stem cycle
 
--- what `draw --lasso` answers: the text stands for an automaton to which none of 13, 40, 41 and 42 applies, and its
--- drawing with an accepting lasso is written, or without one where no lasso accepts
+-- what `draw --lasso` answers: the text stands for an automaton without universal branching, and its drawing with an
+-- accepting lasso is written, or without one where no lasso accepts
 pub record IsLassoDrawingAnswer (text output : List ℕ) : Type 0 where
   pub automaton : Description
   pub read : IsAutomatonText text automaton
-  pub given : IsGiven automaton
+  pub given : IsSearchable automaton
   pub verdict : Verdict
   pub right : IsVerdict automaton verdict
   pub written : output ≡ drawing_of_verdict automaton verdict

@@ -2,7 +2,7 @@ ghost use Rattle.std.specs.Prelude.{◌≡◌, IfOk, IfErr, IsOkUnless};
 ghost use Rattle.omega_hoa.specs.Alone.{IsAutomatonRefusal};
 ghost use Rattle.omega_text.specs.Cases.{or_memory};
 ghost use Rattle.omega_text.specs.declared.refusal.Refusal.TheVariants.{Memory};
-ghost use Rattle.omega_empty.specs.Refusing.{IsGameRefusal};
+ghost use Rattle.omega_lasso.specs.Searching.{IsSearchRefusal};
 ghost use Rattle.omega_automaton_answers.specs.Draw.{IsAutomatonDrawingAnswer, IsLassoDrawingAnswer, drawing_of_verdict};
 ghost use Rattle.omega_automaton_answers.specs.empty.Answer.{IsEmptySearchRefusal};
 ghost use Rattle.omega_automaton_answers.specs.private.steps.Drawn.{IsLassoDrawn};
@@ -10,7 +10,7 @@ ghost use Rattle.omega_automaton_answers.specs.private.steps.Drawn.{IsLassoDrawn
 use crate::automaton_text::automaton_in;
 use omega_automaton::{Automaton, Refusal};
 use omega_automaton_drawing::{draw_automaton, draw_lasso};
-use omega_empty::{Verdict, lasso};
+use omega_lasso::{Verdict, lasso};
 use std::alloc::Global;
 
 /// The drawing of the automaton that a text stands for. 1 to 4, 20 to 33 or 60.
@@ -22,8 +22,8 @@ pub fn draw_automaton_text(alloc: Global, text: Vec<u8>) -> Result<Vec<u8>, Refu
     draw_automaton(alloc, &automaton)
 }
 
-/// The drawing of the automaton that a text stands for, with an accepting lasso, found by a search of the emptiness
-/// game, or without one where no lasso accepts. 1 to 4, 20 to 33, then 13, 40, 41 or 42, or 60.
+/// The drawing of the automaton that a text stands for, with an accepting lasso, found by a search, or without one
+/// where no lasso accepts. 1 to 4, 20 to 33, then 41 or 42, or 60.
 pub fn draw_lasso_text(alloc: Global, text: Vec<u8>) -> Result<Vec<u8>, Refusal>
     ensures answer { IfOk result (λ output. IsLassoDrawingAnswer text.items output.items) }
     ensures refused { IfErr result (or_memory (IsEmptySearchRefusal text.items)) }
@@ -32,10 +32,10 @@ pub fn draw_lasso_text(alloc: Global, text: Vec<u8>) -> Result<Vec<u8>, Refusal>
     draw_searched(alloc, &automaton)
 }
 
-/// The drawing of an automaton with an accepting lasso, or without one where no lasso accepts. 13, 40, 41, 42 or 60.
+/// The drawing of an automaton with an accepting lasso, or without one where no lasso accepts. 41, 42 or 60.
 fn draw_searched(alloc: Global, automaton: &Automaton) -> Result<Vec<u8>, Refusal>
     ensures drawn { IfOk result (λ output. IsLassoDrawn automaton.now output.items) }
-    ensures refused { IfErr result (IsGameRefusal automaton.now) }
+    ensures refused { IfErr result (IsSearchRefusal automaton.now) }
 {
     let verdict = lasso(alloc, automaton)?;
     draw_verdict(alloc, automaton, &verdict)

@@ -2,9 +2,10 @@ ghost use Rattle.std.specs.Prelude.{◌≡◌, ◌≤◌, IfOk, IfErr, IsOkUnles
 ghost use Rattle.omega_automaton_answers.specs.empty.Answer.{IsEmptyAnswer, IsEmptyRefusal, IsEmptySearchAnswer, IsEmptySearchRefusal, emptiness_text};
 ghost use Rattle.omega_automaton_answers.specs.Watching.{LiftsAutomatonText};
 ghost use Rattle.omega_budget.specs.Watching.{IsWatched, refusal_in};
-ghost use Rattle.omega_empty.specs.Refusing.{IsGameRefusal, IsGiven};
+ghost use Rattle.omega_empty.specs.Refusing.{IsGiven};
 ghost use Rattle.omega_empty.specs.Verdict.{IsDecidedWithin, IsEmptinessRefusal, IsVerdict};
 ghost use Rattle.omega_empty.specs.Watching.{LiftsAutomaton};
+ghost use Rattle.omega_lasso.specs.Searching.{IsSearchRefusal, IsSearchable};
 ghost use Rattle.omega_solve.specs.Limits.{most_lifts};
 ghost use Rattle.omega_text.specs.Cases.{or_memory};
 ghost use Rattle.omega_text.specs.declared.refusal.Refusal.TheVariants.{Memory};
@@ -15,8 +16,9 @@ use crate::automaton_text::automaton_in;
 use lasso_text::lasso_text;
 use omega_automaton::Automaton;
 use omega_budget::Watch;
-use omega_empty::{Verdict, emptiness_watched, lasso};
+use omega_empty::{Verdict, emptiness_watched};
 use omega_game::Refusal;
+use omega_lasso::lasso;
 use std::alloc::Global;
 
 /// An accepting lasso of the automaton that a text stands for, or `empty` where no lasso accepts, by lifting in the
@@ -39,7 +41,7 @@ pub fn decide_emptiness<L, W: Watch<L>>(
 }
 
 /// An accepting lasso of the automaton that a text stands for, or `empty` where no lasso accepts, by a search of the
-/// emptiness game. 1 to 4, 20 to 33, then 13, 40, 41 or 42, or 60.
+/// automaton. 1 to 4, 20 to 33, then 41 or 42, or 60.
 pub fn search_emptiness(alloc: Global, text: Vec<u8>) -> Result<Vec<u8>, Refusal>
     ensures answer { IfOk result (λ output. IsEmptySearchAnswer text.items output.items) }
     ensures refused { IfErr result (or_memory (IsEmptySearchRefusal text.items)) }
@@ -67,11 +69,11 @@ fn decided<L, W: Watch<L>>(
     emptiness_watched(alloc, &automaton, budget, watch, listener)
 }
 
-/// The verdict on an automaton, which is let go, by a search. 13, 40, 41, 42 or 60.
+/// The verdict on an automaton, which is let go, by a search. 41, 42 or 60.
 fn searched(alloc: Global, automaton: Automaton) -> Result<Verdict, Refusal>
     ensures verdict { IfOk result (IsVerdict automaton) }
-    ensures given { OnOk result (IsGiven automaton) }
-    ensures refused { IfErr result (IsGameRefusal automaton) }
+    ensures given { OnOk result (IsSearchable automaton) }
+    ensures refused { IfErr result (IsSearchRefusal automaton) }
 {
     lasso(alloc, &automaton)
 }

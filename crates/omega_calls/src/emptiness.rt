@@ -1,9 +1,10 @@
 //! Emptiness of automata.
 use crate::lists::put_all;
 use omega_budget::{Found, Reordered, Unwatched};
-use omega_empty::{Automaton, Verdict, emptiness, emptiness_game, lasso, verdict_of};
+use omega_empty::{Automaton, Verdict, emptiness, emptiness_game, verdict_of};
 use omega_game::{Game, Player, Refusal};
 use omega_hoa::read_one;
+use omega_lasso::lasso;
 use omega_pg::write_game;
 use omega_solve::MOST_LIFTS;
 use std::alloc::Global;

@@ -20,16 +20,18 @@ pub(crate) fn called(
         "expand" => Some(expanded(alloc, text, other)),
         "expand_in_place" => Some(expanded_in_place(alloc, text, other)),
         "expanded_size" => Some(size(alloc, text, other)),
+        "shape of a label" => Some(label_again(alloc, text)),
         "read_acc" => Some(formula_written(alloc, formula_in(alloc, text))),
         "read_raw_acc" => Some(raw_written(alloc, raw_formula_in(alloc, text))),
         "RawAcc" => Some(raw_written(alloc, raw_built(alloc))),
         "Acc" => Some(formula_written(alloc, built(alloc))),
+        "shape of a formula" => Some(formula_again(alloc, text)),
         _ => None,
     }
 }
 
 /// The label of a text, over the list of its tokens.
-fn label_in(alloc: Global, text: &[u8]) -> Result<RawLabel, Refusal> {
+pub(crate) fn label_in(alloc: Global, text: &[u8]) -> Result<RawLabel, Refusal> {
     let tokens = hoa_tokens(alloc, text)?;
     read_label(alloc, &mut Cursor::new(tokens.as_slice(), text.len()))
 }
@@ -118,8 +120,15 @@ fn size(alloc: Global, text: &[u8], definition: &[u8]) -> Result<Vec<u8>, Refusa
     Ok(out)
 }
 
+/// The label of a text, taken apart and put together.
+fn label_again(alloc: Global, text: &[u8]) -> Result<Vec<u8>, Refusal> {
+    let label = expand(alloc, &label_in(alloc, text)?, &Aliases::new(alloc))?;
+    let shape = label.shape(alloc)?;
+    written(alloc, &Label::of_shape(alloc, &shape)?)
+}
+
 /// The acceptance formula of a text, over the list of its tokens.
-fn formula_in(alloc: Global, text: &[u8]) -> Result<Acc, Refusal> {
+pub(crate) fn formula_in(alloc: Global, text: &[u8]) -> Result<Acc, Refusal> {
     let tokens = hoa_tokens(alloc, text)?;
     read_acc(alloc, &mut Cursor::new(tokens.as_slice(), text.len()))
 }
@@ -130,6 +139,12 @@ fn raw_formula_in(alloc: Global, text: &[u8]) -> Result<RawAcc, Refusal> {
         Ok(()) => read_raw_acc(alloc, &mut TextCursor::<HoaKind>::new(text)),
         Err(fault) => Err(Refusal::Text(fault)),
     }
+}
+
+/// The formula of a text, taken apart and put together.
+fn formula_again(alloc: Global, text: &[u8]) -> Result<Vec<u8>, Refusal> {
+    let shape = formula_in(alloc, text)?.shape(alloc)?;
+    text_of(alloc, &Acc::of_shape(alloc, &shape)?)
 }
 
 /// `(Inf(0))&t|Fin(!1)`.

@@ -19,7 +19,7 @@ pub(crate) fn called(
     match call {
         "read_game" => Some(written(alloc, read_game(alloc, text))),
         "GameBuilder" => Some(written(alloc, built_again(alloc, text))),
-        "build" => Some(written(alloc, built_of_one(alloc))),
+        "build" => Some(written(alloc, built_of_two(alloc))),
         "part" => Some(written(alloc, part(alloc, text))),
         "draw_game" => Some(drawn(alloc, text)),
         "read_solution"
@@ -62,16 +62,25 @@ fn part_of_first(alloc: Global, game: &Game) -> Result<Game, Refusal> {
     game.part(alloc, 0)
 }
 
-/// The game of one node with a name.
-fn built_of_one(alloc: Global) -> Result<Game, Refusal> {
-    let successors = Seq::from_vec(Vec::from_slice(alloc, &[7, 7])?);
+/// The game of two nodes, of which one has a name.
+fn built_of_two(alloc: Global) -> Result<Game, Refusal> {
+    let first = Seq::from_vec(Vec::from_slice(alloc, &[7, 3])?);
+    let second = Seq::from_vec(Vec::from_slice(alloc, &[7])?);
+    let name = Seq::from_vec(Vec::from_slice(alloc, &[b'n'])?);
     let specs = vec![in alloc;
         NodeSpec {
             id: 7,
             priority: 1,
             owner: Player::One,
-            successors,
+            successors: first,
             name: None
+        },
+        NodeSpec {
+            id: 3,
+            priority: 2,
+            owner: Player::Zero,
+            successors: second,
+            name: Some(name)
         },
     ]?;
     Game::build(alloc, specs)
@@ -95,7 +104,7 @@ fn rebuilt(mut builder: GameBuilder, game: &Game) -> Result<Game, Refusal> {
     builder.finish()
 }
 
-/// Adds the node at a place. A refused request adds nothing, so that it may be added once more.
+/// Adds the node at a place, with a name. A refused request adds nothing, so that it may be added once more.
 fn add_node(builder: &mut GameBuilder, game: &Game, place: u32) -> Result<(), Refusal>
     requires { place < length game.now }
 {
@@ -115,7 +124,7 @@ fn add_node(builder: &mut GameBuilder, game: &Game, place: u32) -> Result<(), Re
             list_again(builder, id_of_successor)?;
         }
     }
-    Ok(())
+    name_again(builder)
 }
 
 fn add_again(
@@ -142,6 +151,17 @@ fn list_again(builder: &mut GameBuilder, successor: u32) -> Result<(), Refusal> 
     }
     match builder.add_successor(successor) {
         Err(Refusal::Memory) if builder.len() != 0 => builder.add_successor(successor),
+        given => given,
+    }
+}
+
+/// Names the last node.
+fn name_again(builder: &mut GameBuilder) -> Result<(), Refusal> {
+    if builder.len() == 0 {
+        return Err(Refusal::Io);
+    }
+    match builder.set_name(&[b'n']) {
+        Err(Refusal::Memory) if builder.len() != 0 => builder.set_name(&[b'n']),
         given => given,
     }
 }

@@ -9,6 +9,7 @@ mod expressions;
 mod games;
 mod lists;
 mod quiet;
+mod searching;
 mod solving;
 mod streams;
 mod tokens;
@@ -77,6 +78,9 @@ fn called(alloc: Global, call: &str, text: &[u8], other: &[u8]) -> Result<Vec<u8
         return given;
     }
     if let Some(given) = emptiness::called(alloc, call, text) {
+        return given;
+    }
+    if let Some(given) = searching::called(alloc, call, text) {
         return given;
     }
     quiet::called(alloc, call, text, other).unwrap_or(Err(Refusal::Io))

@@ -11,6 +11,10 @@ use Rattle.omega_command.specs.declared.command.Format.{Format}
 use Rattle.omega_command.specs.declared.command.Format.TheVariants.{Hoa, Pg}
 use Rattle.omega_command.specs.declared.line.Line.{Line}
 use Rattle.omega_command.specs.declared.line.Line.TheVariants as line
+use Rattle.omega_command.specs.declared.line.Source.{Source}
+use Rattle.omega_command.specs.declared.line.Source.TheVariants as source
+use Rattle.omega_command.specs.declared.line.Task.{Task}
+use Rattle.omega_command.specs.declared.line.Task.TheVariants as task
 use Rattle.omega_command.specs.declared.mistake.Mistake.{Mistake}
 use Rattle.omega_command.specs.declared.mistake.Mistake.TheVariants as mistake
 use Rattle.omega_command.specs.declared.options.OptionName.{OptionName}
@@ -58,7 +62,14 @@ abbrev pub GivesFlag : Option (List ℕ) → Bool → Type 0
 GivesFlag None flag = flag ≡ false
 GivesFlag (Some text) flag = IsTruthText text flag
 
--- the text of an option, if it is given
+-- the operand: the name of a file; `-`, or no operand, for standard input
+abbrev pub GivesSource : Option (List ℕ) → Source → Type 0
+GivesSource None source.Input = Unit {0}
+GivesSource None (source.File name) = ⊥
+GivesSource (Some text) source.Input = text ≡ codes "-"
+GivesSource (Some text) (source.File name) = (text ≡ string_bytes name) × (text ≢ codes "-")
+
+-- the text of an option, or of the operand, if it is given
 abbrev pub text_of : OptionName → Options → Option (List ℕ)
 text_of name.Format options = option_map (λ text. text.now) options.format
 text_of name.Player options = option_map (λ text. text.now) options.player
@@ -70,6 +81,7 @@ text_of name.Explain options = option_map (λ text. text.now) options.explain
 text_of name.Solution options = option_map (λ text. text.now) options.solution
 text_of name.Lasso options = option_map (λ text. text.now) options.lasso
 text_of name.Progress options = option_map (λ text. text.now) options.progress
+text_of name.File options = option_map (λ text. text.now) options.file
 
 -- ---- what a subcommand asks for
 
@@ -85,44 +97,48 @@ AsksToLift subcommand options command.Empty budget =
     (subcommand ≡ codes "empty") × GivesFlag (text_of name.Search options) false × GivesBudget (text_of name.Budget options) budget
 AsksToLift subcommand options other budget = ⊥
 
--- the subcommand of this name, with these options, asks for the line
-abbrev pub Asks : List ℕ → Options → Line → Type 0
-Asks subcommand options (line.Run (command.Show format) budget) =
+-- the subcommand of this name, with these options, asks for the task
+abbrev pub AsksFor : List ℕ → Options → Task → Type 0
+AsksFor subcommand options (task.Run (command.Show format) budget) =
     (subcommand ≡ codes "show") × Gives IsFormatText (text_of name.Format options) (Some format) × (budget ≡ most_budget)
-Asks subcommand options (line.Run (command.Check format) budget) =
+AsksFor subcommand options (task.Run (command.Check format) budget) =
     (subcommand ≡ codes "check") × Gives IsFormatText (text_of name.Format options) (Some format) × (budget ≡ most_budget)
-Asks subcommand options (line.Run (command.Canon format) budget) =
+AsksFor subcommand options (task.Run (command.Canon format) budget) =
     (subcommand ≡ codes "canon") × Gives IsFormatText (text_of name.Format options) (Some format)
     × (text_of name.From options ≡ None) × (budget ≡ most_budget)
-Asks subcommand options (line.Run (command.CanonPart from) budget) =
+AsksFor subcommand options (task.Run (command.CanonPart from) budget) =
     (subcommand ≡ codes "canon") × Gives IsFormatText (text_of name.Format options) (Some Pg)
     × Gives (IsNumberText most_number) (text_of name.From options) (Some from) × (budget ≡ most_budget)
-Asks subcommand options (line.Run (command.Solve player from) budget) =
+AsksFor subcommand options (task.Run (command.Solve player from) budget) =
     AsksToLift subcommand options (command.Solve player from) budget × GivesFlag (text_of name.Progress options) false
-Asks subcommand options (line.Run (command.Search from) budget) =
+AsksFor subcommand options (task.Run (command.Search from) budget) =
     AsksToLift subcommand options (command.Search from) budget × GivesFlag (text_of name.Progress options) false
-Asks subcommand options (line.Run (command.Verify game from explain) budget) = ⊥
-Asks subcommand options (line.Run command.Empty budget) =
+AsksFor subcommand options (task.Run (command.Verify game from explain) budget) = ⊥
+AsksFor subcommand options (task.Run command.Empty budget) =
     AsksToLift subcommand options command.Empty budget × GivesFlag (text_of name.Progress options) false
-Asks subcommand options (line.Run command.EmptySearch budget) =
+AsksFor subcommand options (task.Run command.EmptySearch budget) =
     (subcommand ≡ codes "empty") × GivesFlag (text_of name.Search options) true × (text_of name.Budget options ≡ None)
     × GivesFlag (text_of name.Progress options) false × (budget ≡ most_budget)
-Asks subcommand options (line.Run command.Game budget) = (subcommand ≡ codes "game") × (budget ≡ most_budget)
-Asks subcommand options (line.Run (command.Draw format) budget) =
+AsksFor subcommand options (task.Run command.Game budget) = (subcommand ≡ codes "game") × (budget ≡ most_budget)
+AsksFor subcommand options (task.Run (command.Draw format) budget) =
     (subcommand ≡ codes "draw") × Gives IsFormatText (text_of name.Format options) (Some format)
     × (text_of name.Solution options ≡ None) × GivesFlag (text_of name.Lasso options) false × (budget ≡ most_budget)
-Asks subcommand options (line.Run (command.DrawSolution solution) budget) = ⊥
-Asks subcommand options (line.Run command.DrawLasso budget) =
+AsksFor subcommand options (task.Run (command.DrawSolution solution) budget) = ⊥
+AsksFor subcommand options (task.Run command.DrawLasso budget) =
     (subcommand ≡ codes "draw") × Gives IsFormatText (text_of name.Format options) (Some Hoa)
     × (text_of name.Solution options ≡ None) × GivesFlag (text_of name.Lasso options) true × (budget ≡ most_budget)
-Asks subcommand options (line.Watched command budget) =
+AsksFor subcommand options (task.Watched command budget) =
     AsksToLift subcommand options command budget × GivesFlag (text_of name.Progress options) true
-Asks subcommand options (line.Verify file from explain) =
+AsksFor subcommand options (task.Verify file from explain) =
     (subcommand ≡ codes "verify") × (text_of name.Game options ≡ Some (string_bytes file))
     × Gives (IsNumberText most_number) (text_of name.From options) from × GivesFlag (text_of name.Explain options) explain
-Asks subcommand options (line.DrawSolution file) =
+AsksFor subcommand options (task.DrawSolution file) =
     (subcommand ≡ codes "draw") × Gives IsFormatText (text_of name.Format options) (Some Pg)
     × (text_of name.Solution options ≡ Some (string_bytes file)) × GivesFlag (text_of name.Lasso options) false
+
+-- the subcommand of this name, with these options, asks for the line: for a task with the text that the operand names
+abbrev pub Asks : List ℕ → Options → Line → Type 0
+Asks subcommand options (line.Do task source) = AsksFor subcommand options task × GivesSource (text_of name.File options) source
 Asks subcommand options (line.Help text) = ⊥
 Asks subcommand options (line.Fault text) = ⊥
 
@@ -141,6 +157,7 @@ HasOption subcommand name.Explain = subcommand ≡ codes "verify"
 HasOption subcommand name.Solution = subcommand ≡ codes "draw"
 HasOption subcommand name.Lasso = subcommand ≡ codes "draw"
 HasOption subcommand name.Progress = (subcommand ≡ codes "solve") ⊎ (subcommand ≡ codes "empty")
+HasOption subcommand name.File = Unit {0}
 
 -- the option has to be given
 abbrev pub IsRequired : OptionName → Type 0
@@ -154,6 +171,7 @@ IsRequired name.Explain = ⊥
 IsRequired name.Solution = ⊥
 IsRequired name.Lasso = ⊥
 IsRequired name.Progress = ⊥
+IsRequired name.File = ⊥
 
 -- the text stands for no value of the option
 abbrev pub StandsForNothing : OptionName → List ℕ → Type 0
@@ -167,6 +185,7 @@ StandsForNothing name.Explain text = (flag : Bool) → IsTruthText text flag →
 StandsForNothing name.Solution text = ⊥
 StandsForNothing name.Lasso text = (flag : Bool) → IsTruthText text flag → ⊥
 StandsForNothing name.Progress text = (flag : Bool) → IsTruthText text flag → ⊥
+StandsForNothing name.File text = ⊥
 
 -- the mistake is that the option is missing, or that its text stands for nothing
 abbrev pub IsFaulty : OptionName → Options → Mistake → Type 0
@@ -201,6 +220,7 @@ IsUsed name.Explain options = GivesFlag (text_of name.Explain options) true
 IsUsed name.Solution options = text_of name.Solution options ≢ None
 IsUsed name.Lasso options = GivesFlag (text_of name.Lasso options) true
 IsUsed name.Progress options = GivesFlag (text_of name.Progress options) true
+IsUsed name.File options = text_of name.File options ≢ None
 
 -- the option that is not given beside the search of the subcommand: that of `solve` is for both players,
 -- that of `empty` makes no lifts

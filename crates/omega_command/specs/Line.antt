@@ -3,21 +3,24 @@ use Rattle.std.specs.Prelude.{◌≤◌}
 use Rattle.omega_command.specs.Limits.{most_budget}
 use Rattle.omega_command.specs.declared.line.Line.{Line}
 use Rattle.omega_command.specs.declared.line.Line.TheVariants as line
+use Rattle.omega_command.specs.declared.line.Task.{Task}
+use Rattle.omega_command.specs.declared.line.Task.TheVariants as task
 
--- what the line asks for can be done: its budget is at most the greatest
+-- the task can be done: its budget is at most the greatest
+abbrev pub IsRunnableTask : Task → Type 0
+IsRunnableTask (task.Run command budget) = budget ≤ most_budget
+IsRunnableTask (task.Watched command budget) = budget ≤ most_budget
+IsRunnableTask (task.Verify file from explain) = Unit {0}
+IsRunnableTask (task.DrawSolution file) = Unit {0}
+
+-- what the line asks for can be done
 abbrev pub IsRunnable : Line → Type 0
-IsRunnable (line.Run command budget) = budget ≤ most_budget
-IsRunnable (line.Watched command budget) = budget ≤ most_budget
-IsRunnable (line.Verify file from explain) = Unit {0}
-IsRunnable (line.DrawSolution file) = Unit {0}
+IsRunnable (line.Do task source) = IsRunnableTask task
 IsRunnable (line.Help text) = Unit {0}
 IsRunnable (line.Fault text) = Unit {0}
 
 -- the line says what is wrong with the command line
 abbrev pub IsFaultLine : Line → Type 0
-IsFaultLine (line.Run command budget) = ⊥
-IsFaultLine (line.Watched command budget) = ⊥
-IsFaultLine (line.Verify file from explain) = ⊥
-IsFaultLine (line.DrawSolution file) = ⊥
+IsFaultLine (line.Do task source) = ⊥
 IsFaultLine (line.Help text) = ⊥
 IsFaultLine (line.Fault text) = Unit {0}

@@ -1,19 +1,20 @@
 ghost use Rattle.std.specs.Prelude.{IfOk, IfErr, codes};
-ghost use Rattle.omega_command.specs.CommandLine.{Asks, IsMistake};
+ghost use Rattle.omega_command.specs.CommandLine.{Asks, AsksFor, IsMistake};
 
 use crate::command::{Command, Format};
 use crate::limits::MOST_BUDGET;
-use crate::line::Line;
+use crate::line::{Line, Task};
 use crate::mistake::Mistake;
 use crate::options::{OptionName, Options};
+use crate::source::source_in;
 use crate::values::{
     budget_in, format_in, identifier_in, is_explained, is_search, is_watched, is_with_lasso,
     player_in,
 };
 use std::alloc::Global;
 
-/// What a subcommand asks for with the texts of its options, or what is wrong with them. Options that it does not take
-/// are not looked at.
+/// What a subcommand asks for with the texts of its options and its operand, or what is wrong with them. Options that
+/// it does not take are not looked at.
 pub fn line_for<'a>(
     alloc: Global,
     subcommand: &str,
@@ -22,11 +23,21 @@ pub fn line_for<'a>(
     ensures asked { IfOk result (Asks subcommand.now options.now) }
     ensures mistaken { IfErr result (IsMistake subcommand.now options.now) }
 {
+    let task = task_for(alloc, subcommand, options)?;
+    let source = source_in(alloc, options)?;
+    Ok(Line::Do(task, source))
+}
+
+/// The task that a subcommand asks for with the texts of its options, or what is wrong with them.
+fn task_for<'a>(alloc: Global, subcommand: &str, options: &Options<'a>) -> Result<Task, Mistake<'a>>
+    ensures asked { IfOk result (AsksFor subcommand.now options.now) }
+    ensures mistaken { IfErr result (IsMistake subcommand.now options.now) }
+{
     if subcommand == "show" {
-        return Ok(Line::Run(Command::Show(format_in(options)?), MOST_BUDGET));
+        return Ok(Task::Run(Command::Show(format_in(options)?), MOST_BUDGET));
     }
     if subcommand == "check" {
-        return Ok(Line::Run(Command::Check(format_in(options)?), MOST_BUDGET));
+        return Ok(Task::Run(Command::Check(format_in(options)?), MOST_BUDGET));
     }
     if subcommand == "canon" {
         return canonical_for(options);
@@ -41,7 +52,7 @@ pub fn line_for<'a>(
         return emptiness_for(options);
     }
     if subcommand == "game" {
-        return Ok(Line::Run(Command::Game, MOST_BUDGET));
+        return Ok(Task::Run(Command::Game, MOST_BUDGET));
     }
     if subcommand == "draw" {
         return drawing_for(alloc, options);
@@ -50,23 +61,23 @@ pub fn line_for<'a>(
 }
 
 /// What `canon` asks for with the texts of its options, or what is wrong with them.
-fn canonical_for<'a>(options: &Options<'a>) -> Result<Line, Mistake<'a>>
-    ensures asked { IfOk result (Asks (codes "canon") options.now) }
+fn canonical_for<'a>(options: &Options<'a>) -> Result<Task, Mistake<'a>>
+    ensures asked { IfOk result (AsksFor (codes "canon") options.now) }
     ensures mistaken { IfErr result (IsMistake (codes "canon") options.now) }
 {
     let format = format_in(options)?;
     let Some(from) = identifier_in(options)? else {
-        return Ok(Line::Run(Command::Canon(format), MOST_BUDGET));
+        return Ok(Task::Run(Command::Canon(format), MOST_BUDGET));
     };
     match format {
-        Format::Pg => Ok(Line::Run(Command::CanonPart { from }, MOST_BUDGET)),
+        Format::Pg => Ok(Task::Run(Command::CanonPart { from }, MOST_BUDGET)),
         Format::Hoa => Err(Mistake::OnlyWith(OptionName::From, Format::Pg)),
     }
 }
 
 /// What `verify` asks for with the texts of its options, or what is wrong with them.
-fn verifying_for<'a>(alloc: Global, options: &Options<'a>) -> Result<Line, Mistake<'a>>
-    ensures asked { IfOk result (Asks (codes "verify") options.now) }
+fn verifying_for<'a>(alloc: Global, options: &Options<'a>) -> Result<Task, Mistake<'a>>
+    ensures asked { IfOk result (AsksFor (codes "verify") options.now) }
     ensures mistaken { IfErr result (IsMistake (codes "verify") options.now) }
 {
     let Some(name) = options.game else {
@@ -75,7 +86,7 @@ fn verifying_for<'a>(alloc: Global, options: &Options<'a>) -> Result<Line, Mista
     let from = identifier_in(options)?;
     let explain = is_explained(options)?;
     match String::from_str(alloc, name) {
-        Ok(file) => Ok(Line::Verify {
+        Ok(file) => Ok(Task::Verify {
             file,
             from,
             explain,
@@ -85,8 +96,8 @@ fn verifying_for<'a>(alloc: Global, options: &Options<'a>) -> Result<Line, Mista
 }
 
 /// What `solve` asks for with the texts of its options, or what is wrong with them.
-fn solving_for<'a>(options: &Options<'a>) -> Result<Line, Mistake<'a>>
-    ensures asked { IfOk result (Asks (codes "solve") options.now) }
+fn solving_for<'a>(options: &Options<'a>) -> Result<Task, Mistake<'a>>
+    ensures asked { IfOk result (AsksFor (codes "solve") options.now) }
     ensures mistaken { IfErr result (IsMistake (codes "solve") options.now) }
 {
     let player = player_in(options)?;
@@ -96,9 +107,9 @@ fn solving_for<'a>(options: &Options<'a>) -> Result<Line, Mistake<'a>>
     if !is_search(options)? {
         let command = Command::Solve { player, from };
         return Ok(if watched {
-            Line::Watched(command, budget)
+            Task::Watched(command, budget)
         } else {
-            Line::Run(command, budget)
+            Task::Run(command, budget)
         });
     }
     if player.is_some() {
@@ -106,24 +117,24 @@ fn solving_for<'a>(options: &Options<'a>) -> Result<Line, Mistake<'a>>
     }
     let command = Command::Search { from };
     Ok(if watched {
-        Line::Watched(command, budget)
+        Task::Watched(command, budget)
     } else {
-        Line::Run(command, budget)
+        Task::Run(command, budget)
     })
 }
 
 /// What `empty` asks for with the texts of its options, or what is wrong with them.
-fn emptiness_for<'a>(options: &Options<'a>) -> Result<Line, Mistake<'a>>
-    ensures asked { IfOk result (Asks (codes "empty") options.now) }
+fn emptiness_for<'a>(options: &Options<'a>) -> Result<Task, Mistake<'a>>
+    ensures asked { IfOk result (AsksFor (codes "empty") options.now) }
     ensures mistaken { IfErr result (IsMistake (codes "empty") options.now) }
 {
     let budget = budget_in(options)?;
     let watched = is_watched(options)?;
     if !is_search(options)? {
         return Ok(if watched {
-            Line::Watched(Command::Empty, budget)
+            Task::Watched(Command::Empty, budget)
         } else {
-            Line::Run(Command::Empty, budget)
+            Task::Run(Command::Empty, budget)
         });
     }
     if options.budget.is_some() {
@@ -132,12 +143,12 @@ fn emptiness_for<'a>(options: &Options<'a>) -> Result<Line, Mistake<'a>>
     if watched {
         return Err(Mistake::Conflict(OptionName::Search, OptionName::Progress));
     }
-    Ok(Line::Run(Command::EmptySearch, MOST_BUDGET))
+    Ok(Task::Run(Command::EmptySearch, MOST_BUDGET))
 }
 
 /// What `draw` asks for with the texts of its options, or what is wrong with them.
-fn drawing_for<'a>(alloc: Global, options: &Options<'a>) -> Result<Line, Mistake<'a>>
-    ensures asked { IfOk result (Asks (codes "draw") options.now) }
+fn drawing_for<'a>(alloc: Global, options: &Options<'a>) -> Result<Task, Mistake<'a>>
+    ensures asked { IfOk result (AsksFor (codes "draw") options.now) }
     ensures mistaken { IfErr result (IsMistake (codes "draw") options.now) }
 {
     let format = format_in(options)?;
@@ -148,10 +159,10 @@ fn drawing_for<'a>(alloc: Global, options: &Options<'a>) -> Result<Line, Mistake
                 return Err(Mistake::OnlyWith(OptionName::Lasso, Format::Hoa));
             }
             let Some(name) = options.solution else {
-                return Ok(Line::Run(Command::Draw(format), MOST_BUDGET));
+                return Ok(Task::Run(Command::Draw(format), MOST_BUDGET));
             };
             match String::from_str(alloc, name) {
-                Ok(file) => Ok(Line::DrawSolution { file }),
+                Ok(file) => Ok(Task::DrawSolution { file }),
                 Err(_) => Err(Mistake::Memory),
             }
         }
@@ -160,9 +171,9 @@ fn drawing_for<'a>(alloc: Global, options: &Options<'a>) -> Result<Line, Mistake
                 return Err(Mistake::OnlyWith(OptionName::Solution, Format::Pg));
             }
             if with_lasso {
-                return Ok(Line::Run(Command::DrawLasso, MOST_BUDGET));
+                return Ok(Task::Run(Command::DrawLasso, MOST_BUDGET));
             }
-            Ok(Line::Run(Command::Draw(format), MOST_BUDGET))
+            Ok(Task::Run(Command::Draw(format), MOST_BUDGET))
         }
     }
 }

@@ -8,12 +8,13 @@ mod line;
 mod mistake;
 mod number;
 mod options;
+mod source;
 mod values;
 
 pub use asking::line_for;
 pub use command::{Command, Format};
 pub use limits::{MOST_BUDGET, budget_limit_is_stated};
-pub use line::Line;
+pub use line::{Line, Source, Task};
 pub use mistake::{Mistake, Reason};
 pub use omega_game::{Player, Refusal, Seq};
 pub use options::{OptionName, Options};

@@ -3,6 +3,17 @@ use crate::command::Command;
 /// What a command line asks for.
 #[derive(Debug, Drop)]
 pub enum Line {
+    /// A task, and where the text of its input comes from.
+    Do(Task, Source),
+    /// A text of help, or the version, which goes to standard output.
+    Help(String),
+    /// What is wrong with the command line, which goes to standard error.
+    Fault(String),
+}
+
+/// What is to be done with the text of an input.
+#[derive(Debug, Drop)]
+pub enum Task {
     /// A command, and the most lifts of each of its runs.
     Run(Command, u64),
     /// The same of a command that lifts; how far its runs have come is told on standard error.
@@ -19,8 +30,13 @@ pub enum Line {
     DrawSolution {
         file: String,
     },
-    /// A text of help, or the version, which goes to standard output.
-    Help(String),
-    /// What is wrong with the command line, which goes to standard error.
-    Fault(String),
+}
+
+/// Where the text of an input comes from.
+#[derive(Debug, Drop)]
+pub enum Source {
+    /// Standard input.
+    Input,
+    /// The file of this name.
+    File(String),
 }

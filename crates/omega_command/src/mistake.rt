@@ -1,4 +1,4 @@
-ghost use Rattle.std.specs.Prelude.{◌≢◌, IfOk};
+ghost use Rattle.std.specs.Prelude.{◌≡◌, ◌≢◌, IfOk, true};
 ghost use Rattle.omega_command.specs.declared.mistake.Mistake.TheVariants as mistake;
 
 use crate::command::Format;
@@ -67,10 +67,13 @@ impl fmt::Display for Mistake<'_> {
                 write!(f, "invalid value '{text}' for '{name}': {reason}")
             }
             Mistake::Conflict(one, other) => {
-                write!(f, "'{one}' and '{other}' are not given together")
+                write!(f, "the argument '{one}' cannot be used with '{other}'")
             }
             Mistake::OnlyWith(name, format) => {
-                write!(f, "'{name}' goes with '--format {format}' only")
+                write!(
+                    f,
+                    "the argument '{name}' can only be used with '--format {format}'"
+                )
             }
             Mistake::Memory => f.write_str("there is no memory"),
         }
@@ -78,7 +81,20 @@ impl fmt::Display for Mistake<'_> {
 }
 
 impl Mistake<'_> {
-    /// The text of the fault, in the form of those that `clap` finds. Want of memory has none.
+    /// Whether options do not go together. `clap` tells of that with the usage of the subcommand.
+    pub fn is_conflict(&self) -> bool
+        ensures { result ≡ true → self.now ≢ mistake.Memory }
+    {
+        matches!(self, Mistake::Conflict(_, _) | Mistake::OnlyWith(_, _))
+    }
+
+    /// What is wrong, without more. Want of memory has no text.
+    pub fn message(&self, alloc: Global) -> Result<String, AllocError> {
+        format!(in alloc; "{self}")
+    }
+
+    /// The text of the fault, in the form of those that `clap` finds and tells of without a usage. Want of memory has
+    /// none.
     pub fn text(&self, alloc: Global) -> Result<String, AllocError>
         ensures { IfOk result (λ _. self.now ≢ mistake.Memory) }
     {

@@ -1,6 +1,6 @@
 use std::fmt;
 
-/// The options of all subcommands.
+/// The options of all subcommands, and the operand.
 #[derive(Clone, Copy)]
 pub enum OptionName {
     Format,
@@ -13,6 +13,8 @@ pub enum OptionName {
     Solution,
     Lasso,
     Progress,
+    /// The operand, which names the file of the input.
+    File,
 }
 
 impl fmt::Display for OptionName {
@@ -28,11 +30,12 @@ impl fmt::Display for OptionName {
             OptionName::Solution => "--solution <FILE>",
             OptionName::Lasso => "--lasso",
             OptionName::Progress => "--progress",
+            OptionName::File => "[FILE]",
         })
     }
 }
 
-/// The texts of the options that are given.
+/// The texts of the options that are given, and of the operand.
 #[derive(Clone, Copy)]
 pub struct Options<'a> {
     pub format: Option<&'a str>,
@@ -49,4 +52,5 @@ pub struct Options<'a> {
     pub lasso: Option<&'a str>,
     /// As `search`.
     pub progress: Option<&'a str>,
+    pub file: Option<&'a str>,
 }

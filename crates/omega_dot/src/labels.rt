@@ -5,7 +5,8 @@ ghost use Rattle.omega_dot.specs.Labels.{escaped, escaped_byte, name_label_line}
 
 use omega_text::Refusal;
 
-/// Appends a name so that DOT draws it, with a space for each control byte but a line feed.
+/// Appends a name so that DOT draws it, with a space for each control byte but a line feed. Refusal 60, where part of
+/// it may be appended.
 pub fn write_escaped(name: &[u8], out: &mut Vec<u8>) -> Result<(), Refusal>
     ensures ok { OnOk result (out.new.items ≡ out.old.items ++ escaped name.now) }
     ensures memory { IsOkUnless result Refusal.Memory }
@@ -37,7 +38,7 @@ fn write_escaped_byte(byte: u8, out: &mut Vec<u8>) -> Result<(), Refusal>
     Ok(())
 }
 
-/// Appends the line of a name, if there is one.
+/// Appends the line of a name, if there is one. Refusal 60, where part of it may be appended.
 pub fn write_name_line(name: Option<&[u8]>, out: &mut Vec<u8>) -> Result<(), Refusal>
     ensures ok { OnOk result (out.new.items ≡ out.old.items ++ name_label_line (option_map (λ name. name.now) name.entry)) }
     ensures memory { IsOkUnless result Refusal.Memory }

@@ -1,24 +1,17 @@
 -- The emptiness game of an automaton, which player 0 owns and wins where the automaton has an accepting lasso
 -- (docs/formats.md, emptiness game).
-use Rattle.std.specs.Prelude.{◌≡◌, ◌↔◌, ℕ, ◌+◌, ◌*◌, ◌==◌, ◌&&◌, ◌||◌, Bool, true, false, if◌then◌else◌, nat_lt, List, [], ◌∷◌, ◌++◌, length, map, Some, None, slice_get, slice_index_or}
-use Rattle.std.specs.List.{flat_map, list_any, range_with_len}
-use Rattle.omega_acc.specs.formula.Names.{IsAcceptanceRow}
-use Rattle.omega_acc.specs.declared.formula.name.AccName.{AccName}
+use Rattle.std.specs.Prelude.{◌≡◌, ◌↔◌, ℕ, ◌+◌, ◌*◌, ◌==◌, ◌&&◌, Bool, true, false, if◌then◌else◌, List, [], ◌∷◌, ◌++◌, length, map, Some, None, slice_get, slice_index_or}
+use Rattle.std.specs.List.{flat_map, range_with_len}
 use Rattle.omega_acc.specs.declared.formula.kind.AccKind.{AccKind}
+use Rattle.omega_automaton.specs.AcceptanceKind.{HasKind}
 use Rattle.omega_automaton.specs.Automaton.{BodyEdge, Description, edge_at, edge_count, edges_of}
-use Rattle.omega_automaton.specs.declared.state.State.{State}
+use Rattle.omega_automaton.specs.Branching.{has_branch}
 use Rattle.omega_game.specs.Building.{IsGameOf}
 use Rattle.omega_game.specs.Game.{Node}
 use Rattle.omega_game.specs.declared.node_spec.NodeSpec.{NodeSpec}
 use Rattle.omega_game.specs.declared.player.Player.TheVariants.{Zero}
 use Rattle.omega_empty.specs.Counters.{counter_after, counters, priority_at_counter}
 use Rattle.omega_empty.specs.Lasso.{IsUsable, marks_of}
-
--- the acceptance kind of an automaton, by its name, its count of sets and its formula
-pub record HasKind (a : Description) (kind : AccKind) : Type 0 where
-  pub name : AccName
-  pub named : a.acc_name ≡ Some name
-  pub row : IsAcceptanceRow name a.sets a.acceptance kind
 
 -- the identifiers of a counter: one for each state, and then one for each edge
 abbrev pub span : Description → ℕ
@@ -91,14 +84,6 @@ sink_node kind a = plain_node (sink_id kind a) 1 (sink_id kind a ∷ [])
 -- all nodes in rising order of identifiers: those of the counters, and the sink
 abbrev pub table : AccKind → Description → List Bool → List NodeSpec
 table kind a usable = flat_map (nodes_at kind a usable) (range_with_len 0 (counters kind)) ++ sink_node kind a ∷ []
-
--- whether an edge of a state lists two states or more
-abbrev pub state_branches : State → Bool
-state_branches state = list_any (λ edge. nat_lt 1 (length edge.targets)) state.edges
-
--- whether a start or an edge lists two states or more
-abbrev pub has_branch : Description → Bool
-has_branch a = list_any (λ start. nat_lt 1 (length start)) a.starts || list_any state_branches a.defined
 
 -- the emptiness game of an automaton: of a kind, without branches, and with the nodes of the table
 pub record IsEmptinessGame (a : Description) (game : List Node) : Type 0 where

@@ -4,6 +4,7 @@ pub use Rattle.omega_text.specs.Refusal
 pub mod Lasso
 pub mod Counters
 pub mod EmptinessGame
+pub mod Judging
 pub mod Refusing
 pub mod Runs
 pub mod Words

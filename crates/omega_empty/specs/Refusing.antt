@@ -4,7 +4,7 @@ use Rattle.omega_text.specs.Cases.{never, or_game, or_memory, or_task}
 use Rattle.omega_text.specs.declared.refusal.Refusal.{Refusal}
 use Rattle.omega_text.specs.declared.refusal.game.GameFault.TheVariants.{TooManyNodes}
 use Rattle.omega_text.specs.declared.refusal.task.TaskFault.{TaskFault}
-use Rattle.omega_text.specs.declared.refusal.task.TaskFault.TheVariants.{BadSolution, Budget, NotParity, TooManyPropositions, TooWide, UniversalBranch, UnknownNode}
+use Rattle.omega_text.specs.declared.refusal.task.TaskFault.TheVariants.{BadSolution, Budget, NotDeterministic, NotParity, TooLarge, TooManyPropositions, TooWide, UniversalBranch, UnknownNode}
 use Rattle.omega_acc.specs.label.Label.{LabelTree}
 use Rattle.omega_acc.specs.Limits.{most_mentioned}
 use Rattle.omega_acc.specs.label.Satisfiable.{mentioned}
@@ -13,7 +13,9 @@ use Rattle.omega_automaton.specs.Automaton.{BodyEdge, Description, edges_of}
 use Rattle.omega_automaton.specs.declared.state.State.{State}
 use Rattle.omega_game.specs.Limits.{most_nodes}
 use Rattle.omega_empty.specs.Counters.{counters}
-use Rattle.omega_empty.specs.EmptinessGame.{HasKind, has_branch, span}
+use Rattle.omega_automaton.specs.AcceptanceKind.{HasKind}
+use Rattle.omega_automaton.specs.Branching.{has_branch}
+use Rattle.omega_empty.specs.EmptinessGame.{span}
 
 -- the automaton has no acceptance kind whose emptiness is decided
 abbrev pub IsUndecided : Description → Type 0
@@ -65,6 +67,8 @@ IsTaskFault a TooWide = ⊥
 IsTaskFault a Budget = ⊥
 IsTaskFault a BadSolution = ⊥
 IsTaskFault a UnknownNode = ⊥
+IsTaskFault a TooLarge = ⊥
+IsTaskFault a (NotDeterministic state) = ⊥
 
 -- the refusal of the emptiness game
 abbrev pub IsGameRefusal : Description → Refusal → Type 0

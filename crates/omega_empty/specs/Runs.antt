@@ -3,7 +3,7 @@
 use Rattle.std.specs.Prelude.{◌≡◌, ◌⊎◌, ℕ, ◌+◌, ◌≤◌, Bool, not, false, IsTrue, if◌then◌else◌, List}
 use Rattle.omega_acc.specs.formula.Acceptance.{AccTree, conjunction, constant, disjunction, fin, holds, inf}
 use Rattle.omega_automaton.specs.Automaton.{Description}
-use Rattle.omega_empty.specs.EmptinessGame.{has_branch}
+use Rattle.omega_automaton.specs.Branching.{has_branch}
 use Rattle.omega_empty.specs.Lasso.{IsAcceptingLasso, IsStart, IsStep, marks_at}
 
 -- a run: a start, and infinitely many usable edges by their numbers, each leaving the state that the one before enters

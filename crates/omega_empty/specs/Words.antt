@@ -4,7 +4,7 @@ use Rattle.std.specs.Prelude.{◌≡◌, ℕ, ◌-◌, ◌/◌, ◌%◌, ◌^◌
 use Rattle.omega_acc.specs.label.Label.{LabelTree, truth}
 use Rattle.omega_automaton.specs.Automaton.{BodyEdge, Description, edge_at}
 use Rattle.omega_automaton.specs.declared.state.State.{State}
-use Rattle.omega_empty.specs.EmptinessGame.{has_branch}
+use Rattle.omega_automaton.specs.Branching.{has_branch}
 use Rattle.omega_empty.specs.Lasso.{IsAcceptingLasso, label_of}
 use Rattle.omega_empty.specs.Runs.{IsAcceptingRun}
 

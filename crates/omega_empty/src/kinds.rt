@@ -2,7 +2,8 @@ ghost use Rattle.std.specs.Prelude.{◌≡◌, ◌≤◌, ◌<◌, ◌*◌, ◌+
 ghost use Rattle.omega_acc.specs.Limits.{most_buchi_sets};
 ghost use Rattle.omega_game.specs.Limits.{most_nodes};
 ghost use Rattle.omega_empty.specs.Counters.{counters};
-ghost use Rattle.omega_empty.specs.EmptinessGame.{HasKind, span};
+ghost use Rattle.omega_automaton.specs.AcceptanceKind.{HasKind};
+ghost use Rattle.omega_empty.specs.EmptinessGame.{span};
 ghost use Rattle.omega_empty.specs.Refusing.{IsUndecided, NeedsCounters};
 
 use omega_acc::{AccKind, acceptance_kind};

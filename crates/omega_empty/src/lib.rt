@@ -1,7 +1,6 @@
 //! Emptiness of parity and generalized Büchi automata: the emptiness game, and accepting lassos.
 #![tactic(auto)]
 
-mod branching;
 mod deciding;
 mod edge_ranges;
 mod following;
@@ -12,9 +11,7 @@ mod kinds;
 mod laws;
 mod marks;
 mod nodes;
-mod searching;
 mod starting;
-mod turning;
 mod usable;
 mod verdict;
 
@@ -26,5 +23,4 @@ pub use laws::{
     accepting_runs_have_words, lassos_are_accepting_runs, lassos_have_accepted_words,
 };
 pub use omega_automaton::{Automaton, Refusal, Seq};
-pub use searching::lasso;
 pub use verdict::Verdict;

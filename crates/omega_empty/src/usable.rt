@@ -7,7 +7,7 @@ ghost use Rattle.omega_automaton.specs.Automaton.{edges_from};
 ghost use Rattle.omega_empty.specs.EmptinessGame.{AreUsable};
 ghost use Rattle.omega_empty.specs.Lasso.{IsUsable};
 ghost use Rattle.omega_empty.specs.Refusing.{HasNarrowLabels, HasWideLabel};
-ghost use Rattle.omega_empty.specs.private.layout.Judging.{AreJudged, HasNarrow, IsNarrow, IsWide, HasWide};
+ghost use Rattle.omega_empty.specs.Judging.{AreJudged, HasNarrow, IsNarrow, IsWide, HasWide};
 
 use omega_acc::{Label, satisfiable};
 use omega_automaton::{Automaton, EdgeRef, Refusal, State};

@@ -1,8 +1,9 @@
 //! Emptiness games, and what lifting and a search say of automata.
 use crate::texts::{automaton_in, is_text};
 use omega_automaton::Automaton;
-use omega_empty::{Refusal, Verdict, emptiness, emptiness_game, lasso};
+use omega_empty::{Refusal, Verdict, emptiness, emptiness_game};
 use omega_game::Game;
+use omega_lasso::lasso;
 use omega_pg::write_game;
 use std::alloc::Global;
 use std::process::Abort;
@@ -267,9 +268,147 @@ fn searches_find_the_only_lasso(rt: HostRuntime) {
     }
 }
 
+// Automata of any acceptance, by name or by formula alone, and the numbers of the edges of the accepting lasso that the
+// search finds; no cycle where no lasso accepts.
+static ANY: [(&str, (&[u32], &[u32])); 26] = [
+    (
+        "HOA: v1 States: 2 Start: 0 AP: 0 Acceptance: 2 Fin(0)&Inf(1) --BODY-- State: 0 [t] 1 {0} State: 1 [t] 0 {1} --END--",
+        (&[], &[]),
+    ),
+    (
+        "HOA: v1 States: 2 Start: 0 AP: 0 Acceptance: 2 (Fin(0)&Inf(1))|(Fin(1)&Inf(0)) --BODY-- State: 0 [t] 1 {0} State: 1 [t] 0 {1} --END--",
+        (&[], &[]),
+    ),
+    (
+        "HOA: v1 States: 2 Start: 0 AP: 0 Acceptance: 2 Fin(0)|Inf(1) --BODY-- State: 0 [t] 1 {0} State: 1 [t] 0 {1} --END--",
+        (&[], &[0, 1]),
+    ),
+    (
+        "HOA: v1 States: 2 Start: 0 AP: 0 Acceptance: 2 (Fin(0)|Inf(1))&(Fin(1)|Inf(0)) --BODY-- State: 0 [t] 1 {0} State: 1 [t] 0 {1} --END--",
+        (&[], &[0, 1]),
+    ),
+    (
+        "HOA: v1 States: 2 Start: 0 AP: 0 Acceptance: 2 Inf(!0)&Inf(!1) --BODY-- State: 0 [t] 1 {0} State: 1 [t] 0 {1} --END--",
+        (&[], &[0, 1]),
+    ),
+    (
+        "HOA: v1 States: 2 Start: 0 AP: 0 Acceptance: 2 Fin(!0) --BODY-- State: 0 [t] 1 {0} State: 1 [t] 0 {1} --END--",
+        (&[], &[]),
+    ),
+    (
+        "HOA: v1 States: 2 Start: 0 AP: 0 Acceptance: 3 Fin(2) --BODY-- State: 0 [t] 1 {0} State: 1 [t] 0 {1} --END--",
+        (&[], &[0, 1]),
+    ),
+    (
+        "HOA: v1 States: 2 Start: 0 AP: 0 Acceptance: 3 Inf(2) --BODY-- State: 0 [t] 1 {0} State: 1 [t] 0 {1} --END--",
+        (&[], &[]),
+    ),
+    (
+        "HOA: v1 States: 2 Start: 0 AP: 0 acc-name: whatever Acceptance: 2 t --BODY-- State: 0 [t] 1 {0} State: 1 [t] 0 {1} --END--",
+        (&[], &[0, 1]),
+    ),
+    (
+        "HOA: v1 States: 2 Start: 0 AP: 0 Acceptance: 2 f --BODY-- State: 0 [t] 1 {0} State: 1 [t] 0 {1} --END--",
+        (&[], &[]),
+    ),
+    (
+        "HOA: v1 States: 2 Start: 0 AP: 0 Acceptance: 3 Fin(0)&Inf(1) --BODY-- State: 0 [t] 0 {0} [t] 1 {1} State: 1 [t] 0 [t] 1 {2} --END--",
+        (&[], &[1, 2]),
+    ),
+    (
+        "HOA: v1 States: 2 Start: 0 AP: 0 Acceptance: 3 Fin(1)&Inf(2) --BODY-- State: 0 [t] 0 {0} [t] 1 {1} State: 1 [t] 0 [t] 1 {2} --END--",
+        (&[1], &[3]),
+    ),
+    (
+        "HOA: v1 States: 2 Start: 0 AP: 0 Acceptance: 3 Fin(1)&Inf(0)&Inf(2) --BODY-- State: 0 [t] 0 {0} [t] 1 {1} State: 1 [t] 0 [t] 1 {2} --END--",
+        (&[], &[]),
+    ),
+    (
+        "HOA: v1 States: 2 Start: 0 AP: 0 Acceptance: 3 Fin(0)&Fin(1)&Inf(!2) --BODY-- State: 0 [t] 0 {0} [t] 1 {1} State: 1 [t] 0 [t] 1 {2} --END--",
+        (&[], &[]),
+    ),
+    (
+        "HOA: v1 States: 2 Start: 0 AP: 0 acc-name: Rabin 2 Acceptance: 4 (Fin(1)&Inf(2))|(Fin(2)&Inf(3)) --BODY-- State: 0 [t] 0 {0} [t] 1 {1} State: 1 [t] 0 [t] 1 {2} --END--",
+        (&[1], &[3]),
+    ),
+    (
+        "HOA: v1 States: 2 Start: 0 AP: 0 acc-name: Rabin 2 Acceptance: 4 (Fin(1)&Inf(3))|(Fin(2)&Inf(3)) --BODY-- State: 0 [t] 0 {0} [t] 1 {1} State: 1 [t] 0 [t] 1 {2} --END--",
+        (&[], &[]),
+    ),
+    (
+        "HOA: v1 States: 2 Start: 0 AP: 0 acc-name: Streett 2 Acceptance: 4 (Fin(0)|Inf(3))&(Fin(1)|Inf(3)) --BODY-- State: 0 [t] 0 {0} [t] 1 {1} State: 1 [t] 0 [t] 1 {2} --END--",
+        (&[1], &[3]),
+    ),
+    (
+        "HOA: v1 States: 2 Start: 0 AP: 0 acc-name: Streett 3 Acceptance: 6 (Fin(0)|Inf(3))&(Fin(1)|Inf(4))&(Fin(2)|Inf(5)) --BODY-- State: 0 [t] 0 {0} [t] 1 {1} State: 1 [t] 0 [t] 1 {2} --END--",
+        (&[], &[]),
+    ),
+    (
+        "HOA: v1 States: 2 Start: 0 AP: 0 acc-name: generalized-Rabin 2 2 1 Acceptance: 5 (Fin(0)&Inf(1)&Inf(4))|(Fin(1)&Inf(2)) --BODY-- State: 0 [t] 0 {0} [t] 1 {1} State: 1 [t] 0 [t] 1 {2} --END--",
+        (&[1], &[3]),
+    ),
+    (
+        "HOA: v1 States: 2 Start: 0 AP: 0 acc-name: generalized-Rabin 2 2 1 Acceptance: 5 (Fin(0)&Inf(1)&Inf(4))|(Fin(1)&Inf(3)) --BODY-- State: 0 [t] 0 {0} [t] 1 {1} State: 1 [t] 0 [t] 1 {2} --END--",
+        (&[], &[]),
+    ),
+    (
+        "HOA: v1 States: 2 Start: 0 AP: 0 acc-name: parity max odd 3 Acceptance: 3 Fin(2)&(Inf(1)|Fin(0)) --BODY-- State: 0 [t] 0 {0} [t] 1 {1} State: 1 [t] 0 [t] 1 {2} --END--",
+        (&[], &[1, 2]),
+    ),
+    (
+        "HOA: v1 States: 2 Start: 0 AP: 0 acc-name: parity max even 2 Acceptance: 2 Fin(1)&Inf(0) --BODY-- State: 0 [t] 1 {0} State: 1 [t] 0 {1} --END--",
+        (&[], &[]),
+    ),
+    (
+        "HOA: v1 States: 2 Start: 0 AP: 0 Acceptance: 3 (Fin(0)|Fin(1))&Inf(2)&Inf(!2)&Inf(1) --BODY-- State: 0 [t] 0 {0} [t] 1 {1} State: 1 [t] 0 [t] 1 {2} --END--",
+        (&[], &[1, 3, 2]),
+    ),
+    (
+        "HOA: v1 States: 2 Start: 0 AP: 0 Acceptance: 3 (Fin(0)|Fin(1))&(Fin(1)|Fin(2))&Inf(0)&Inf(2) --BODY-- State: 0 [t] 0 {0} [t] 1 {1} State: 1 [t] 0 [t] 1 {2} --END--",
+        (&[], &[]),
+    ),
+    (
+        "HOA: v1 States: 1 Start: 0 AP: 13 \"a\" \"b\" \"c\" \"d\" \"e\" \"f\" \"g\" \"h\" \"i\" \"j\" \"k\" \"l\" \"m\" Acceptance: 0 t --BODY-- State: 0 [0&1&2&3&4&5&6&7&8&9&10&11&!12] 0 --END--",
+        (&[], &[0]),
+    ),
+    (
+        "HOA: v1 States: 1 Start: 0 AP: 13 \"a\" \"b\" \"c\" \"d\" \"e\" \"f\" \"g\" \"h\" \"i\" \"j\" \"k\" \"l\" \"m\" Acceptance: 0 t --BODY-- State: [0&1&2&3&4&5&6&7&8&9&10&11&12&!0] 0 0 --END--",
+        (&[], &[]),
+    ),
+];
+
 #[test]
-fn searches_are_refused_as_games_are(rt: HostRuntime) {
-    for (row, (text, want)) in REFUSED.iter().enumerate() {
+fn searches_decide_every_acceptance(rt: HostRuntime) {
+    for (row, (text, want)) in ANY.iter().enumerate() {
+        assert_row(&rt, row, says(search_in(rt.alloc(), text), want));
+    }
+}
+
+// Automata in which no lasso is sought, and others that have no game but are searched, each with the number of its
+// refusal, 0 where there is none.
+static UNSEARCHED: [(&str, u32); 5] = [
+    (
+        "HOA: v1 States: 1 Start: 0&0 Acceptance: 0 t --BODY-- --END--",
+        41,
+    ),
+    (
+        "HOA: v1 States: 1 Acceptance: 0 t --BODY-- State: 0 [f] 0&0 --END--",
+        41,
+    ),
+    (
+        "HOA: v1 States: 2147483647 Start: 0&0 Acceptance: 0 t --BODY-- --END--",
+        41,
+    ),
+    (
+        "HOA: v1 States: 2147483647 Start: 2147483646 Acceptance: 0 t --BODY-- --END--",
+        0,
+    ),
+    ("HOA: v1 Acceptance: 0 t --BODY-- --END--", 0),
+];
+
+#[test]
+fn searches_are_refused_for_branches(rt: HostRuntime) {
+    for (row, (text, want)) in UNSEARCHED.iter().enumerate() {
         assert_row(
             &rt,
             row,

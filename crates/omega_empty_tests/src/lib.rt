@@ -1,5 +1,5 @@
-//! Tests of the public calls of `omega_empty` and of the crates of drawings, apart from them, so that each library is
-//! proved once. They stand in one crate, since each crate of tests has to load what it tests.
+//! Tests of the public calls of `omega_empty`, `omega_lasso` and the crates of drawings, apart from them, so that each
+//! library is proved once. They stand in one crate, since each crate of tests has to load what it tests.
 #![tactic(auto)]
 
 #[cfg(test)]

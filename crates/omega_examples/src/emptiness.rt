@@ -4,8 +4,8 @@ ghost use Rattle.omega_automaton.specs.Automaton.{Description};
 ghost use Rattle.omega_empty.specs.Verdict.{IsVerdict};
 ghost use Rattle.omega_hoa.specs.Alone.{IsAutomatonText};
 
-use omega_empty::{Verdict, lasso};
 use omega_hoa::{Refusal, read_one};
+use omega_lasso::{Verdict, lasso};
 use std::alloc::Global;
 
 /// Whether the automaton of a text in the Hanoi format accepts nothing, or a lasso that it accepts.

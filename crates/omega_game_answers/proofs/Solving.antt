@@ -4,7 +4,7 @@ use Rattle.std.specs.List.{Contains, slice_get}
 use Rattle.std.proofs.lemmas.Option.{get_or_from_slice_get, slice_get_within}
 use Rattle.omega_text.specs.declared.refusal.Refusal.{Refusal}
 use Rattle.omega_text.specs.declared.refusal.Refusal.TheVariants.{Automaton, Game, Io, Memory, Task, Text}
-use Rattle.omega_text.specs.declared.refusal.task.TaskFault.TheVariants.{BadSolution, Budget, NotParity, TooManyPropositions, TooWide, UniversalBranch, UnknownNode}
+use Rattle.omega_text.specs.declared.refusal.task.TaskFault.TheVariants.{BadSolution, Budget, NotDeterministic, NotParity, TooLarge, TooManyPropositions, TooWide, UniversalBranch, UnknownNode}
 use Rattle.omega_game.specs.declared.player.Player.{Player}
 use Rattle.omega_game.specs.Game.{Node, priorities}
 use Rattle.omega_measure.specs.Table.{is_too_wide}
@@ -82,6 +82,8 @@ refused-solving nodes asked player budget (Task NotParity) narrow solved_for h =
 refused-solving nodes asked player budget (Task TooManyPropositions) narrow solved_for h = absurd h
 refused-solving nodes asked player budget (Task UniversalBranch) narrow solved_for h = absurd h
 refused-solving nodes asked player budget (Task UnknownNode) narrow solved_for h = absurd h
+refused-solving nodes asked player budget (Task TooLarge) narrow solved_for h = absurd h
+refused-solving nodes asked player budget (Task (NotDeterministic state)) narrow solved_for h = absurd h
 refused-solving nodes asked player budget Memory narrow solved_for h = tt
 refused-solving nodes asked player budget (Text fault) narrow solved_for h = h
 refused-solving nodes asked player budget (Game fault) narrow solved_for h = h
@@ -109,6 +111,8 @@ refused-part game asked identifier budget part (Task BadSolution) part_of h = ab
 refused-part game asked identifier budget part (Task NotParity) part_of h = absurd h
 refused-part game asked identifier budget part (Task UniversalBranch) part_of h = absurd h
 refused-part game asked identifier budget part (Task TooManyPropositions) part_of h = absurd h
+refused-part game asked identifier budget part (Task TooLarge) part_of h = absurd h
+refused-part game asked identifier budget part (Task (NotDeterministic state)) part_of h = absurd h
 refused-part game asked identifier budget part Memory part_of h = tt
 refused-part game asked identifier budget part (Text fault) part_of h = h
 refused-part game asked identifier budget part (Game fault) part_of h = h

@@ -5,7 +5,8 @@ ghost use Rattle.omega_game.specs.Solution.{IsSolution, WinsAsGiven, WinsGiven};
 ghost use Rattle.omega_pg.specs.solution.Refusing.{IsReadSolutionRefusal};
 ghost use Rattle.omega_pg.specs.solution.Text.{IsSolutionText};
 ghost use Rattle.omega_game_answers.specs.Part.{IsPartText, IsPartTextRefusal};
-ghost use Rattle.omega_game_answers.specs.Verify.{IsJudgedGame, IsJudgedGameRefusal, IsSolutionVerdict, IsVerifyAnswer, IsVerifyRefusal};
+ghost use Rattle.omega_game_answers.specs.Verify.{IsJudgedGame, IsJudgedGameRefusal, IsSolutionVerdict, IsVerifyAnswer, RefusesSolution};
+ghost use Rattle.omega_refused.specs.Refused.{IsRefusedOf};
 ghost use Rattle.omega_game_answers.specs.private.steps.Solved.{IsSolutionJudged};
 ghost use Rattle.omega_game_answers.specs.private.steps.Verdict.{verdict_exit, verdict_text};
 
@@ -16,24 +17,30 @@ use explaining::explained;
 use omega_game::{Game, Player, Refusal, Solution, check_strategy};
 use omega_io::Exit;
 use omega_pg::{read_game, read_solution};
+use omega_refused::{Refused, Which};
 use std::alloc::Global;
 
 /// Says whether the choices of the solution that a text stands for win, without solving its game, which has a text of
 /// its own, which is let go before the solution is read; where they do not, also why, if that is asked for. Where an
 /// identifier is given, the solution is one of the part that its node reaches. The refusal of the game text, or else
-/// 54, or else that of the solution text: 1 to 4, 10 to 14, 54, 53 or 60.
+/// 54, or else that of the solution text: 1 to 4, 10 to 14, 54, 53 or 60; the game text is the first, and 54 is of it.
 pub fn verify_solution(
     alloc: Global,
     game: Vec<u8>,
     from: Option<u32>,
     text: Vec<u8>,
     explain: bool,
-) -> Result<(Exit, Vec<u8>), Refusal>
+) -> Result<(Exit, Vec<u8>), Refused>
     ensures answer { IfOk result (λ made. IsVerifyAnswer game.items from text.items explain made.0 made.1.items) }
-    ensures refused { IfErr result (or_memory (IsVerifyRefusal game.items from text.items)) }
+    ensures refused { IfErr result (IsRefusedOf (IsJudgedGameRefusal game.items from) (RefusesSolution game.items from text.items)) }
 {
-    let game = judged_game(alloc, game, from)?;
-    judged(alloc, &game, text, explain)
+    match judged_game(alloc, game, from) {
+        Ok(game) => match judged(alloc, &game, text, explain) {
+            Ok(made) => Ok(made),
+            Err(refusal) => Err(Refused::of(Which::Second, refusal)),
+        },
+        Err(refusal) => Err(Refused::of(Which::First, refusal)),
+    }
 }
 
 /// The verdict on the solution of a game that a text stands for. 1 to 4, 53 or 60.

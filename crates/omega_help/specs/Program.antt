@@ -1,4 +1,4 @@
--- The command line as `clap` has it: the subcommands, and the options of each.
+-- The command line as `clap` has it: the subcommands, with the options and the operand of each.
 use Rattle.std.specs.Prelude.{List, [], ◌∷◌, Some, true, false, codes}
 use Rattle.clap.specs.Simple.{new_shape}
 use Rattle.clap.specs.Words.{App, Rule, Shape, Text, new_rule}
@@ -16,41 +16,45 @@ optional name = record (new_rule name) { long = Some name; value_names = 1 }
 abbrev pub required : Text → Rule
 required name = record (new_rule name) { long = Some name; value_names = 1; required = true }
 
+-- a text that stands alone, and may be left out
+abbrev pub operand : Text → Rule
+operand name = record (new_rule name) { value_names = 1 }
+
 -- a subcommand with these options
 abbrev pub with_options : Text → List Rule → Shape
 with_options name options = record (new_shape name) { rules = options }
 
--- ---- the subcommands
+-- ---- the subcommands, each with the operand that names a file
 
 abbrev pub show : Shape
-show = with_options (codes "show") (required (codes "format") ∷ [])
+show = with_options (codes "show") (required (codes "format") ∷ operand (codes "file") ∷ [])
 
 abbrev pub check : Shape
-check = with_options (codes "check") (required (codes "format") ∷ [])
+check = with_options (codes "check") (required (codes "format") ∷ operand (codes "file") ∷ [])
 
 abbrev pub canon : Shape
-canon = with_options (codes "canon") (required (codes "format") ∷ optional (codes "from") ∷ [])
+canon = with_options (codes "canon") (required (codes "format") ∷ optional (codes "from") ∷ operand (codes "file") ∷ [])
 
 abbrev pub solve : Shape
 solve =
     with_options (codes "solve")
-    (optional (codes "player") ∷ optional (codes "from") ∷ flag (codes "search") ∷ optional (codes "budget") ∷ flag (codes "progress") ∷ [])
+    (optional (codes "player") ∷ optional (codes "from") ∷ flag (codes "search") ∷ optional (codes "budget") ∷ flag (codes "progress") ∷ operand (codes "file") ∷ [])
 
 abbrev pub verify : Shape
 verify =
     with_options (codes "verify")
-    (required (codes "game") ∷ optional (codes "from") ∷ flag (codes "explain") ∷ [])
+    (required (codes "game") ∷ optional (codes "from") ∷ flag (codes "explain") ∷ operand (codes "file") ∷ [])
 
 abbrev pub empty : Shape
-empty = with_options (codes "empty") (flag (codes "search") ∷ optional (codes "budget") ∷ flag (codes "progress") ∷ [])
+empty = with_options (codes "empty") (flag (codes "search") ∷ optional (codes "budget") ∷ flag (codes "progress") ∷ operand (codes "file") ∷ [])
 
 abbrev pub game : Shape
-game = with_options (codes "game") []
+game = with_options (codes "game") (operand (codes "file") ∷ [])
 
 abbrev pub draw : Shape
 draw =
     with_options (codes "draw")
-    (required (codes "format") ∷ optional (codes "solution") ∷ flag (codes "lasso") ∷ [])
+    (required (codes "format") ∷ optional (codes "solution") ∷ flag (codes "lasso") ∷ operand (codes "file") ∷ [])
 
 -- ---- the program
 

@@ -2,19 +2,21 @@ ghost use Rattle.std.specs.Prelude.{◌≡◌, IfOk};
 ghost use Rattle.omega_help.specs.Program.{canon};
 ghost use Rattle.clap.specs.Words.{shape_of};
 
-use crate::options::{FORMAT, OptionHelp, Value};
+use crate::options::{FILE, FORMAT, OptionHelp, Value};
 use crate::subcommand::subcommand;
 use clap::Command;
 use std::alloc::{AllocError, Global};
 
 const DETAILS: &str = "\
-Reads a text from standard input and writes the canonical text of the game, or of the automata. Two
-texts stand for the same game, or the same automata, exactly if their canonical texts are the same.
+Use it to compare texts, or to bring one into a fixed layout. It reads FILE, or standard input if there is
+no FILE or it is -, and writes the canonical text of the game, or of the automata. Two texts stand for
+the same game, or the same automata, exactly if their canonical texts are the same.
 
 --format pg writes a game: a header with the greatest identifier, then a line for each node in rising
 order of identifiers.
 
-  $ echo 'parity 9; 9 3 1 4; 4 2 0 9,4 \"a\";' | omega canon --format pg
+  $ echo 'parity 9; 9 3 1 4; 4 2 0 9,4 \"a\";' > game.pg
+  $ omega canon --format pg game.pg
   parity 9;
   4 2 0 9,4 \"a\";
   9 3 1 4;
@@ -30,8 +32,8 @@ solves. If no node has the identifier, the refusal is 54 UnknownNode. It goes wi
 
 --format hoa writes automata, one after the other: the header of each in a fixed order, then its
 states and edges in the order given, with aliases replaced, only the parentheses that are needed, and
-sets in rising order. What is stopped by --ABORT-- is left out. Where there is no automaton, nothing
-is written.
+sets in rising order. What is stopped by --ABORT-- is left out. If there is no automaton, nothing is
+written.
 
   $ echo 'HOA: v1 AP: 1 \"a\" Alias: @x 0|t Acceptance: 0 t
     --BODY-- State: 0 [@x&0] 0 --END--' | omega canon --format hoa
@@ -44,8 +46,8 @@ is written.
   [(0|t)&0] 0
   --END--
 
-If a text is refused, nothing is written but one line on standard error. `omega check --help` lists the
-refusals of both formats.
+If a text is refused, nothing is written on standard output, and a line on standard error says why.
+`omega check --help` lists the refusals of both formats.
 
 Exit status: 0 done, 1 the text or the task is refused, 2 the command line is wrong, 4 out of memory, 5
 a read or a write failed.";
@@ -57,6 +59,7 @@ const OPTIONS: &[OptionHelp] = &[
         value: Value::Optional("ID"),
         help: "Write only the part of a game that the node with this identifier reaches",
     },
+    FILE,
 ];
 
 /// The subcommand that writes canonical texts.

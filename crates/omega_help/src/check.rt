@@ -2,17 +2,19 @@ ghost use Rattle.std.specs.Prelude.{◌≡◌, IfOk};
 ghost use Rattle.omega_help.specs.Program.{check};
 ghost use Rattle.clap.specs.Words.{shape_of};
 
-use crate::options::{FORMAT, OptionHelp};
+use crate::options::{FILE, FORMAT, OptionHelp};
 use crate::subcommand::subcommand;
 use clap::Command;
 use std::alloc::{AllocError, Global};
 
 const DETAILS: &str = "\
-Reads a text from standard input and writes `accepted` if it stands for a game, or for automata, one
-after the other. If not, one line on standard error has the number and the name of what is wrong,
-and for faults of the text the place of the byte, counted from 0.
+Use it to see whether a text is in order, and where not. It reads FILE, or standard input if there is no
+FILE or it is -, and writes `accepted` if the text stands for a game, or for automata, one after the
+other. If not, one line on standard error has the number and the name of what is wrong, and for 1, 2 and
+3 the place of the byte, counted from 0.
 
-  $ echo '0 1 0 1; 1 2 1 0;' | omega check --format pg
+  $ echo '0 1 0 1; 1 2 1 0;' > game.pg
+  $ omega check --format pg game.pg
   accepted
   $ echo '0 1 0 1; 1 2 1 0' | omega check --format pg
   omega: 3 Syntax at 17
@@ -22,7 +24,7 @@ and for faults of the text the place of the byte, counted from 0.
   omega: 3 Syntax at 42
 
 In both formats 1 Lex and 2 Number are bytes that are no token, 3 Syntax is a token that can't stand
-there or an end that comes too early, 4 TooLong is a text of over 16777216 bytes.
+there or an end that comes too early, and 4 TooLong is a text of over 16777216 bytes.
 
 Of a game, 10 DuplicateNode is an identifier that is specified twice, 11 UndefinedSuccessor one that
 is not specified, 12 HeaderTooSmall a header whose number is below an identifier, 13 TooManyNodes and
@@ -45,7 +47,7 @@ comes before all else.
 Exit status: 0 accepted, 1 the text is refused, 2 the command line is wrong, 4 out of memory, 5 a read
 or a write failed.";
 
-const OPTIONS: &[OptionHelp] = &[FORMAT];
+const OPTIONS: &[OptionHelp] = &[FORMAT, FILE];
 
 /// The subcommand that judges a text.
 pub fn check_command<'a>(alloc: Global) -> Result<Command<'a>, AllocError>

@@ -2,28 +2,30 @@ ghost use Rattle.std.specs.Prelude.{◌≡◌, IfOk};
 ghost use Rattle.omega_help.specs.Program.{empty};
 ghost use Rattle.clap.specs.Words.{shape_of};
 
-use crate::options::{BUDGET, OptionHelp, PROGRESS, Value};
+use crate::options::{BUDGET, FILE, OptionHelp, PROGRESS, Value};
 use crate::subcommand::subcommand;
 use clap::Command;
 use std::alloc::{AllocError, Global};
 
 const DETAILS: &str = "\
-Reads one automaton in the Hanoi format from standard input and says whether it accepts anything.
-Writes `empty` if it accepts nothing, and else an accepting lasso. Its stem is edges that lead from a
-start to a state, and its cycle edges that lead from there back to it. The run that takes the stem once
-and the cycle for ever is accepted: the acceptance formula holds of the marks of the cycle. Each edge of
-a lasso has a label that some set of propositions makes true, or no label.
+Use it to find out whether an automaton accepts anything. It reads one automaton in the Hanoi format from
+FILE, or from standard input if there is no FILE or it is -. It writes `empty` if the automaton accepts
+nothing, and else an accepting lasso. Its stem is edges that lead from a start to a state, and its cycle
+edges that lead from there back to it. The run that takes the stem once and the cycle for ever is
+accepted: the acceptance formula holds of the marks of the cycle. Each edge of a lasso has a label that
+some set of propositions makes true, or no label.
 
   $ echo 'HOA: v1 States: 2 Start: 0 acc-name: co-Buchi Acceptance: 1 Fin(0)
-    --BODY-- State: 0 [t] 0 {0} [t] 1 State: 1 [t] 1 --END--' | omega empty
+    --BODY-- State: 0 [t] 0 {0} [t] 1 State: 1 [t] 1 --END--' > automaton.hoa
+  $ omega empty automaton.hoa
   stem 1
   cycle 2
 
 An edge is written as its number. The edges of the body are numbered from 0 in the order of the text,
-through all states. Here edge 0 leads from state 0 to itself, edge 1 from
-state 0 to state 1, and edge 2 from state 1 to itself. A stem without edges is written as `stem` alone.
+through all states. Here edge 0 leads from state 0 to itself, edge 1 from state 0 to state 1, and edge 2
+from state 1 to itself. A stem without edges is written as `stem` alone.
 
-It is decided for these names in `acc-name:`, with the formula that the Hanoi format gives to each:
+Without --search it is decided for these names in `acc-name:`, with the formula of the Hanoi format:
 all, none, Buchi, co-Buchi, parity max even K, parity max odd K, parity min even K, parity min odd K,
 and generalized-Buchi K with K from 1 to 16. Every other name, no name, or another formula beside the
 name is refused as 40 NotParity. A start or an edge that lists several states joined by & is refused as
@@ -31,7 +33,7 @@ name is refused as 40 NotParity. A start or an edge that lists several states jo
 automaton is refused as 13 TooManyNodes if the nodes of the game that `omega game` writes would need
 more than 1048576 numbers.
 
-The automaton is decided by lifting, for player 0, in that game. Where several priorities lose, that can
+It is then decided by lifting, for player 0, in that game. Where several priorities lose, that can
 take as many lifts as the bound of the game says, far more than there is time for:
 `omega game | omega show --format pg` writes the bound. --budget N stops after N lifts, writes nothing
 but `omega: 51 Budget` on standard error, and exits with status 3. If the nodes of the game times its
@@ -39,17 +41,20 @@ losing priorities are over 67108864, the refusal is 50 TooWide.
 
 --progress writes a line on standard error each time that 67108864 more lifts were made and the game is
 not yet solved, as `player 0: 67108864 lifts of at most 1099511627776`: how many were made, and the bound
-or, if it is less, the budget. Standard output and the exit status are the same without it, and also if
+or, if it is less, the budget. Standard output and the exit status are the same without it, even if
 standard error cannot be written.
 
---search decides without lifting: it looks in the game for a cycle whose greatest priority is even, and
-took time near-linear in the automaton wherever it was measured. Its answers are proved as those of
-lifting are, though the lasso may be another. It makes no lifts, so neither --budget nor --progress is
-given beside it, and 50 and 51 do not come. Take it for large automata, and where lifting takes too long.
+--search decides every acceptance formula, whatever `acc-name:` says, without lifting: it looks in the
+automaton for a cycle whose marks satisfy the formula. For the names above, and for Rabin, Streett and
+generalized Rabin, its time is polynomial in automaton and formula; where Fin stands below & and | both,
+it may grow with two to the number of different Fin. Its answers are proved as those of lifting are,
+though the lasso may be another. Then 13 and 40 do not come, and 42 only where a label mentions over 12
+propositions and 4194304 steps do not decide it. It makes no lifts, so neither --budget nor --progress
+is given beside it, and 50 and 51 do not come. Take it for large automata, and where lifting takes long.
 
 Faults of the text come first; `omega check --help` lists them. A text with --ABORT--, with no automaton
 or with several is not one automaton, and is refused as 3 Syntax. Then 13, 40, 41 and 42 come in this
-order, then 50, and then 51.
+order, then 50, and then 51; with --search 41, and then 42.
 
 Exit status: 0 done, 1 the text or the task is refused, 2 the command line is wrong, 3 the budget is
 used up, 4 out of memory, 5 a read or a write failed.";
@@ -62,6 +67,7 @@ const OPTIONS: &[OptionHelp] = &[
     },
     BUDGET,
     PROGRESS,
+    FILE,
 ];
 
 /// The subcommand that says whether an automaton accepts anything.

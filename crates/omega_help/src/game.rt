@@ -2,19 +2,22 @@ ghost use Rattle.std.specs.Prelude.{◌≡◌, IfOk};
 ghost use Rattle.omega_help.specs.Program.{game};
 ghost use Rattle.clap.specs.Words.{shape_of};
 
+use crate::options::{FILE, OptionHelp};
 use crate::subcommand::subcommand;
 use clap::Command;
 use std::alloc::{AllocError, Global};
 
 const DETAILS: &str = "\
-Reads one automaton in the Hanoi format from standard input and writes its emptiness game: a game text
-in which player 0 wins from the node of some start exactly if the automaton has an accepting lasso:
-edges that lead from a start to a state, the stem, and then edges that lead from there back to it, the
-cycle, where the acceptance formula holds of the marks of the cycle. So the automaton accepts nothing
-exactly if player 0 wins from no start's node.
+Use it to let any solver of parity games decide whether an automaton accepts anything. It reads one
+automaton in the Hanoi format from FILE, or from standard input if there is no FILE or it is -, and writes
+its emptiness game. In this game player 0 wins from the node of some start exactly if the automaton has
+an accepting lasso: edges that lead from a start to a state, the stem, and then edges that lead from
+there back to it, the cycle, where the acceptance formula holds of the marks of the cycle. So the
+automaton accepts nothing exactly if player 0 wins from no start's node.
 
   $ echo 'HOA: v1 States: 2 Start: 0 acc-name: co-Buchi Acceptance: 1 Fin(0)
-    --BODY-- State: 0 [t] 0 {0} [t] 1 State: 1 [t] 1 --END--' | omega game
+    --BODY-- State: 0 [t] 0 {0} [t] 1 State: 1 [t] 1 --END--' > automaton.hoa
+  $ omega game automaton.hoa
   parity 5;
   0 0 0 2,3;
   1 0 0 4;
@@ -33,11 +36,11 @@ is even.
 For generalized-Buchi K there are K such rows of nodes, one for each set that is waited for, and node n
 of row i, counted from 0, is node i * (S + E) + n. An edge with mark i leads from row i into the next
 row, and from the last row into the first, with priority 2 there; every other edge has priority 1. The
-sink, K * (S + E), stands behind all rows. Starts are those of row 0.
+sink, K * (S + E), comes after all rows. Starts are those of row 0.
 
 `omega game | omega solve` solves the game, and `omega game | omega show --format pg` writes the bounds
-on lifts: where several priorities lose, solving can take as many lifts as the bound says.
-`omega empty` writes a lasso itself.
+on lifts. If several priorities lose, solving can take as many lifts as the bound says. `omega empty`
+writes a lasso itself.
 
 There is a game for these names in `acc-name:`, with the formula that the Hanoi format gives to each:
 all, none, Buchi, co-Buchi, parity max even K, parity max odd K, parity min even K, parity min odd K,
@@ -51,10 +54,12 @@ or with several is not one automaton, and is refused as 3 Syntax.
 Exit status: 0 done, 1 the text or the task is refused, 2 the command line is wrong, 4 out of memory, 5
 a read or a write failed.";
 
+const OPTIONS: &[OptionHelp] = &[FILE];
+
 /// The subcommand that writes the emptiness game of an automaton.
 pub fn game_command<'a>(alloc: Global) -> Result<Command<'a>, AllocError>
     ensures { IfOk result (λ command. shape_of command ≡ game) }
 {
     let about = "Write the emptiness game of an automaton";
-    subcommand(alloc, "game", about, DETAILS, &[])
+    subcommand(alloc, "game", about, DETAILS, OPTIONS)
 }

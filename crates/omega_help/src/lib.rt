@@ -14,4 +14,4 @@ mod subcommand;
 mod verify;
 mod version;
 
-pub use program::matches_of;
+pub use program::{conflict_text, matches_of};

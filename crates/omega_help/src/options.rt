@@ -6,9 +6,9 @@ ghost use Rattle.omega_help.specs.private.building.Building.{rule_for};
 use clap::{Arg, ArgAction};
 use std::alloc::Global;
 
-/// An option as help shows it.
+/// An option, or the operand, as help shows it.
 pub struct OptionHelp {
-    /// The name after the two dashes, by which it is found too.
+    /// The name by which it is found, and which an option has after its two dashes.
     pub name: &'static str,
     pub value: Value,
     pub help: &'static str,
@@ -22,6 +22,8 @@ pub enum Value {
     Optional(&'static str),
     /// A text. The option has to be given.
     Required(&'static str),
+    /// It is no option but the operand: a text that stands alone, and may be left out.
+    Operand(&'static str),
 }
 
 impl OptionHelp {
@@ -30,14 +32,22 @@ impl OptionHelp {
         ensures rule { rule_of result ≡ rule_for self.now }
         ensures local { result.global ≡ false }
     {
-        let arg = Arg::new(alloc, self.name).long(self.name).help(self.help);
+        let arg = Arg::new(alloc, self.name).help(self.help);
         match self.value {
-            Value::None => arg.action(ArgAction::SetTrue),
-            Value::Optional(name) => arg.value_name(name),
-            Value::Required(name) => arg.value_name(name).required(true),
+            Value::None => arg.long(self.name).action(ArgAction::SetTrue),
+            Value::Optional(name) => arg.long(self.name).value_name(name),
+            Value::Required(name) => arg.long(self.name).value_name(name).required(true),
+            Value::Operand(name) => arg.value_name(name),
         }
     }
 }
+
+/// The operand that names the file of the input.
+pub const FILE: OptionHelp = OptionHelp {
+    name: "file",
+    value: Value::Operand("FILE"),
+    help: "The file to read; - or none for standard input",
+};
 
 /// The option that says what kind of text is read.
 pub const FORMAT: OptionHelp = OptionHelp {

@@ -12,6 +12,7 @@ use crate::show::show_command;
 use crate::solve::solve_command;
 use crate::verify::verify_command;
 use crate::version::VERSION;
+use clap::error::ErrorKind;
 use clap::{ArgMatches, Command, Error};
 use std::alloc::{AllocError, Global};
 
@@ -23,9 +24,8 @@ A game text, in the format of PGSolver, has for each node an identifier, a prior
 
 Here node 0 has priority 1, belongs to player 0 and leads to node 1; node 1 has priority 2,
 belongs to player 1, leads to node 0 and is named goal. A header such as `parity 1;` with a number
-that no identifier exceeds may come first. At each node its owner chooses a successor, for ever;
-player 0 wins where the greatest priority that comes again and again is even, player 1 where it is
-odd.
+that no identifier exceeds may come first. At each node its owner chooses a successor, for ever.
+Player 0 wins if the greatest priority that comes again and again is even, player 1 if it is odd.
 
 A text of the Hanoi format, version 1, holds omega-automata, one after the other:
 
@@ -33,13 +33,15 @@ A text of the Hanoi format, version 1, holds omega-automata, one after the other
   --BODY-- State: 0 [0] 0 {0} [!0] 0 --END--
 
 Here one state has two edges to itself: one where a holds, which is in set 0, and one where it does
-not; a word that takes the first again and again is accepted. `omega show`, `check` and `canon` read both
+not. A word that takes the first again and again is accepted. `omega show`, `check` and `canon` read both
 formats, and --format says which. `omega empty` and `omega game` read one automaton, and `omega draw`
 draws one automaton or a game.
 
-Commands read standard input and write standard output. If a text or the task is refused, one line on
-standard error says why, such as `omega: 3 Syntax at 0` for a text that is no game from its first
-byte on. Bytes are counted from 0.
+A command reads the file that it is given as its last word, as in `omega solve game.pg`. Without one, or
+with -, it reads standard input. It writes standard output. If a text or the task is refused, a line on
+standard error says why, such as `omega: 3 Syntax at 0` for a text that is no game from its first byte
+on. Bytes are counted from 0. Commands that read two texts add a line that says which is refused, and a
+file that can't be read is named in a line of its own.
 
 Exit status:
   0  done
@@ -104,6 +106,46 @@ impl Subcommand {
     }
 }
 
+/// The text that says that options of a subcommand do not go together, with its usage, in the form of the faults that
+/// `clap` finds.
+pub fn conflict_text(alloc: Global, subcommand: &str, message: &str) -> Result<String, AllocError> {
+    let name = format!(in alloc; "omega {subcommand}")?;
+    let mut command = command_named(alloc, subcommand)?.bin_name(name.as_str())?;
+    command
+        .error(ErrorKind::ArgumentConflict, message)?
+        .to_string(alloc)
+}
+
+/// The subcommand of this name; the program without subcommands, where none has it.
+fn command_named<'a>(alloc: Global, name: &str) -> Result<Command<'a>, AllocError> {
+    match subcommand_named(name) {
+        Some(subcommand) => subcommand.command(alloc),
+        None => without_subcommands(alloc),
+    }
+}
+
+fn subcommand_named(name: &str) -> Option<Subcommand> {
+    if name == "show" {
+        Some(Subcommand::Show)
+    } else if name == "check" {
+        Some(Subcommand::Check)
+    } else if name == "canon" {
+        Some(Subcommand::Canon)
+    } else if name == "solve" {
+        Some(Subcommand::Solve)
+    } else if name == "verify" {
+        Some(Subcommand::Verify)
+    } else if name == "empty" {
+        Some(Subcommand::Empty)
+    } else if name == "game" {
+        Some(Subcommand::Game)
+    } else if name == "draw" {
+        Some(Subcommand::Draw)
+    } else {
+        None
+    }
+}
+
 /// The program's command line.
 fn whole_program<'a>(alloc: Global) -> Result<Command<'a>, AllocError>
     ensures { IfOk result (λ command. app_of command ≡ program) }
@@ -138,7 +180,8 @@ fn without_subcommands<'a>(alloc: Global) -> Result<Command<'a>, AllocError>
             "Reads, checks, writes and draws parity games and omega-automata, solves games, verifies their solutions, and says whether an automaton accepts nothing.",
         )
         .version(VERSION)
-        .after_help(DETAILS)
+        .after_help("`omega <COMMAND> --help` says more about a command.")
+        .after_long_help(DETAILS)
         .subcommand_required(true)
         .bin_name("omega")
 }

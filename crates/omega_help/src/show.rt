@@ -2,21 +2,23 @@ ghost use Rattle.std.specs.Prelude.{◌≡◌, IfOk};
 ghost use Rattle.omega_help.specs.Program.{show};
 ghost use Rattle.clap.specs.Words.{shape_of};
 
-use crate::options::{FORMAT, OptionHelp};
+use crate::options::{FILE, FORMAT, OptionHelp};
 use crate::subcommand::subcommand;
 use clap::Command;
 use std::alloc::{AllocError, Global};
 
 const DETAILS: &str = "\
-Reads a text from standard input and describes the game, or the automata.
+Use it to see how large a game or an automaton is, and how much work a game can take. It reads FILE, or
+standard input if there is no FILE or it is -.
 
 --format pg reads a game. It writes one line with the game's size, and for each player one line with the
 bound: no run of `omega solve` for that player on this game makes more lifts. So a --budget of the bound
-is enough, which is known before anything is solved. The bound is the number of nodes times the product,
+is enough, and the bound is known before anything is solved. It is the number of nodes times the product,
 over the priorities in use that lose for the player, of one more than the number of nodes of that
 priority.
 
-  $ echo '0 1 0 1; 1 2 1 0;' | omega show --format pg
+  $ echo '0 1 0 1; 1 2 1 0;' > game.pg
+  $ omega show --format pg game.pg
   game nodes 2 edges 2 greatest 1
   player 0 bound 4
   player 1 bound 4
@@ -25,21 +27,21 @@ Here `greatest` is the greatest identifier. A bound of 2^128 or more is written 
 `bound over 128 bits`.
 
 --format hoa reads automata, one after the other, and writes a line for each, numbered from 0: how
-many states, edges, propositions and sets it has, and its acceptance formula. What is stopped by
---ABORT-- has a line too. Where there is nothing to read, nothing is written.
+many states, edges, propositions and sets it has, and its acceptance formula. An automaton that is
+stopped by --ABORT-- has a line too. If there is nothing to read, nothing is written.
 
   $ echo 'HOA: v1 --ABORT-- HOA: v1 Acceptance: 1 Inf(0)
     --BODY-- State: 0 [t] 0 {0} --END--' | omega show --format hoa
   0 aborted
   1 automaton states 1 edges 1 propositions 0 sets 1 acceptance Inf(0)
 
-If a text is refused, nothing is written but one line on standard error. `omega check --help` lists the
-refusals of both formats.
+If a text is refused, nothing is written on standard output, and a line on standard error says why.
+`omega check --help` lists the refusals of both formats.
 
 Exit status: 0 done, 1 the text is refused, 2 the command line is wrong, 4 out of memory, 5 a read or
 a write failed.";
 
-const OPTIONS: &[OptionHelp] = &[FORMAT];
+const OPTIONS: &[OptionHelp] = &[FORMAT, FILE];
 
 /// The subcommand that describes a text.
 pub fn show_command<'a>(alloc: Global) -> Result<Command<'a>, AllocError>

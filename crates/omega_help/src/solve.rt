@@ -2,18 +2,20 @@ ghost use Rattle.std.specs.Prelude.{◌≡◌, IfOk};
 ghost use Rattle.omega_help.specs.Program.{solve};
 ghost use Rattle.clap.specs.Words.{shape_of};
 
-use crate::options::{BUDGET, OptionHelp, PLAYER, PROGRESS, Value};
+use crate::options::{BUDGET, FILE, OptionHelp, PLAYER, PROGRESS, Value};
 use crate::subcommand::subcommand;
 use clap::Command;
 use std::alloc::{AllocError, Global};
 
 const DETAILS: &str = "\
-Reads a game text from standard input and writes who wins each node, and how: a header with the
-greatest identifier, then a line for each node in rising order of identifiers, with the player who
-wins from it. Where that player owns the node, a successor follows. If the player always moves there,
-the player wins from all the nodes that the solution gives to that player, whatever the other does.
+Use it to find out who wins a game, and how. It reads a game from FILE, or from standard input if there is
+no FILE or it is -, and writes a header with the greatest identifier, then a line for each node in rising
+order of identifiers, with the player who wins from it. If that player owns the node, a successor
+follows. A player who always moves there wins from all the nodes that the solution gives to that player,
+whatever the other does.
 
-  $ echo '0 0 0 1,2; 1 1 1 0; 2 2 1 0;' | omega solve
+  $ echo '0 0 0 1,2; 1 1 1 0; 2 2 1 0;' > game.pg
+  $ omega solve game.pg
   paritysol 2;
   0 0 2;
   1 0;
@@ -41,11 +43,11 @@ player, writes nothing but `omega: 51 Budget` on standard error, and exits with 
 --progress writes a line on standard error each time that 67108864 more lifts were made for a player
 and the game is not yet solved for that player, as `player 0: 67108864 lifts of at most 1099511627776`:
 how many were made, and the bound or, if it is less, the budget. Standard output and the exit
-status are the same without it, and also if standard error cannot be written.
+status are the same without it, even if standard error cannot be written.
 
 --search finds winners and choices by Zielonka's recursive algorithm, which is not proved to find the
 right ones. What it finds is written only after the proved check that `omega verify` makes: for each
-player the choices win from all the nodes given to that player. No node is won by both players, so
+player the choices win from all the nodes given to that player. No node is won by both players, so the
 winners that pass the check are right. Take --search for large games, and lifting for a bound that is
 known before the run. The choices may differ from those of lifting. Where the search finds nothing, the
 game is solved by lifting, within the budget; --progress reports on that lifting alone. --search solves
@@ -76,6 +78,7 @@ const OPTIONS: &[OptionHelp] = &[
     },
     BUDGET,
     PROGRESS,
+    FILE,
 ];
 
 /// The subcommand that solves a game.

@@ -7,7 +7,7 @@ use crate::options::OptionHelp;
 use clap::Command;
 use std::alloc::{AllocError, Global};
 
-/// The subcommand of this name, with one line on what it does, and details after its options.
+/// The subcommand of this name, with one line on what it does, and in long help with details after its options.
 pub fn subcommand<'a>(
     alloc: Global,
     name: &'a str,
@@ -17,7 +17,9 @@ pub fn subcommand<'a>(
 ) -> Result<Command<'a>, AllocError>
     ensures { IfOk result (λ command. shape_of command ≡ with_options name.now (map rule_for options.now)) }
 {
-    let mut command = Command::new(alloc, name).about(about).after_help(details);
+    let mut command = Command::new(alloc, name)
+        .about(about)
+        .after_long_help(details);
     for option in options {
         command = command.arg(option.arg(alloc))?;
     }

@@ -1,7 +1,7 @@
 -- A piece of a stream, behind the bytes before.
 use Rattle.std.proofs.Common.{◌≡◌, ℕ, ◌+◌, ◌-◌, ◌≤◌, ◌<◌, Bool, false, Option, None, Some, List, [], ◌++◌, length, take, drop, refl, sym, ap, subst, ◌∙◌, inl, inr, arith, append_assoc, append-nil, length-append, length-drop}
 use Rattle.std.proofs.lemmas.List.{drop-append-le, drop-drop, drop_at, length-take-le, take-append-drop, take_all, take_at}
-use Rattle.std.specs.Prelude.{Result, Ok, Err, IfErr, MatchOption, OnOk}
+use Rattle.std.specs.Prelude.{◌≢◌, Result, Ok, Err, IfErr, MatchOption, OnOk}
 use Rattle.std.specs.Result.{result_err}
 use Rattle.omega_text.specs.Cut.{Cuts}
 use Rattle.omega_text.specs.Format.{GoesOneWay}
@@ -300,3 +300,26 @@ fits_of seen items kept held count taken is fits = omega (arith, taken.total, ta
 -- and one that is not passes it
 pub long_of : (kept : Kept) (held count : ℕ) → held ≡ length kept.bytes → most_text - (kept.begins + held) < count → most_text < kept.begins + length kept.bytes + count
 long_of kept held count is long = omega (arith, is, long)
+
+-- no text is refused for want of memory
+fault_is_no_memory : (source : List ℕ) (items : List Item) → IsStreamFault source items Memory → ⊥
+fault_is_no_memory source items fault = elim fault.refused [
+  | inl outside ↦ outside.1
+  | inr within ↦ elim within [
+    | inl opened ↦ opened.1
+    | inr ended ↦ ended.1
+  ]
+]
+
+-- nor are bytes, however they go on
+so_far_is_no_memory : (seen : List ℕ) (items : List Item) (kept : Kept) → IsRefusedSoFar seen items kept Memory → ⊥
+so_far_is_no_memory seen items kept so_far = elim so_far [
+  | inl long ↦ let clash = long.0 in cc
+  | inr always ↦ fault_is_no_memory (seen ++ []) items (always [])
+]
+
+-- the refusal that a stream keeps is no want of memory
+pub kept_is_no_memory : (kept : Kept) (tokenizer : HoaTokenizer) (refusal : Refusal) → kept.refused ≡ Some refusal → IsFedSome kept tokenizer → refusal ≢ Memory
+kept_is_no_memory kept tokenizer refusal is fed memory =
+    let refused = subst (λ before. MatchOption before (HasReadTaken kept tokenizer) (IsRefusedSome kept)) is fed in
+    so_far_is_no_memory refused.0 refused.1 kept (subst (IsRefusedSoFar refused.0 refused.1 kept) memory refused.2)

@@ -1,6 +1,7 @@
-ghost use Rattle.std.specs.Prelude.{◌≡◌, false, true, length, IfErr, List, OnOk, ℕ};
+ghost use Rattle.std.specs.Prelude.{◌≡◌, ◌≢◌, false, true, length, IfErr, List, OnOk, ℕ};
 ghost use Rattle.omega_text.specs.Lexeme.{Lexeme};
 ghost use Rattle.omega_text.specs.declared.hoa.kind.HoaKind.{HoaKind};
+ghost use Rattle.omega_text.specs.declared.refusal.Refusal.TheVariants.{Memory};
 ghost use Rattle.omega_hoa.specs.Stream.{IsStreamFault};
 ghost use Rattle.omega_hoa.specs.declared.item.Item.{Item};
 ghost use Rattle.omega_hoa.specs.private.dividing.Ending.{EndsRefused, EndsWhole, IsAtEnd, IsLast};
@@ -13,6 +14,7 @@ pub(crate) fn end_outside(settled: Settled) -> Result<(), Refusal>
     requires { IsLast settled }
     ensures ok { OnOk result (EndsWhole settled false) }
     ensures refused { IfErr result (EndsRefused settled false) }
+    ensures memory { IfErr result (λ refusal. refusal ≢ Memory) }
 {
     match settled.first {
         Some(token) => Err(Refusal::Text(TextFault::Syntax {
@@ -29,8 +31,9 @@ pub(crate) fn end_outside(settled: Settled) -> Result<(), Refusal>
 /// segment are settled before.
 pub(crate) fn end_inside(settled: Settled, count: usize) -> Refusal
     requires { IsLast settled }
-    ensures { (seen : List ℕ) (lexemes : List (Lexeme HoaKind)) (items : List Item) (begins : ℕ) → count ≡ length seen → IsAtEnd settled true seen lexemes items begins
+    ensures refused { (seen : List ℕ) (lexemes : List (Lexeme HoaKind)) (items : List Item) (begins : ℕ) → count ≡ length seen → IsAtEnd settled true seen lexemes items begins
         → IsStreamFault seen items result }
+    ensures memory { result ≢ Memory }
 {
     match settled.fault {
         Some(fault) => Refusal::Text(fault),

@@ -1,4 +1,4 @@
-ghost use Rattle.std.specs.Prelude.{◌≡◌, ◌+◌, ◌<◌, ◌≤◌, ◌++◌, [], List, ℕ, None, Some, Err, drop, length, vec_len, IfErr, IfOk, IfSome, OnOk, ◌⊎◌};
+ghost use Rattle.std.specs.Prelude.{◌≡◌, ◌≢◌, ◌+◌, ◌<◌, ◌≤◌, ◌++◌, [], List, ℕ, None, Some, Err, drop, length, vec_len, IfErr, IfOk, IfSome, OnOk, ◌⊎◌};
 ghost use Rattle.omega_text.specs.Limits.{most_text};
 ghost use Rattle.omega_text.specs.declared.refusal.Refusal.TheVariants.{Memory, Text};
 ghost use Rattle.omega_text.specs.declared.refusal.text.TextFault.TheVariants.{TooLong};
@@ -95,6 +95,7 @@ impl Stream {
         ensures ok { OnOk result ((seen : List ℕ) (items : List Item) → IsFed seen items self → IsStreamText seen items) }
         ensures refused { self.refused ≡ None → IfErr result (λ refusal. (seen : List ℕ) (items : List Item) → IsFed seen items self → IsStreamFault seen items refusal) }
         ensures answered { (seen : List ℕ) (items : List Item) → IsFed seen items self → IsAnsweredAtEnd seen items self (result_err result) }
+        ensures memory { IfErr result (λ refusal. refusal ≢ Memory) }
     {
         match self.refused {
             Some(refusal) => Err(refusal),

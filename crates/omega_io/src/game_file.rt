@@ -32,6 +32,7 @@ pub struct HostFiles<'r, R: Files> {
 }
 
 impl<'r, R: Files> HostFiles<'r, R> {
+    /// The files that the machine's runtime opens.
     pub fn new(rt: &'r R) -> HostFiles<'r, R> {
         HostFiles { rt }
     }

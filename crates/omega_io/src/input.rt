@@ -36,6 +36,7 @@ pub struct FromRead<R: Read> {
 }
 
 impl<R: Read> FromRead<R> {
+    /// The reader's bytes as an input of which no read has failed.
     pub fn new(inner: R) -> FromRead<R>
         ensures bytes { ⟦<FromRead<R> as Input>⟧.remaining result ≡ R.remaining inner }
         ensures failures { ⟦<FromRead<R> as Input>⟧.failed result ≡ 0 }

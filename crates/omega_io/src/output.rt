@@ -37,6 +37,7 @@ pub struct ToWrite<W: Write> {
 }
 
 impl<W: Write> ToWrite<W> {
+    /// The writer as an output to which no write has failed.
     pub fn new(inner: W) -> ToWrite<W>
         ensures bytes { ⟦<ToWrite<W> as Output>⟧.contents result ≡ W.contents inner }
         ensures failures { ⟦<ToWrite<W> as Output>⟧.failed result ≡ 0 }

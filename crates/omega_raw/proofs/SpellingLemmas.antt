@@ -1,7 +1,7 @@
 -- What symbols say of the tokens that they spell.
 use Rattle.std.proofs.Common.{◌≡◌, ◌<◌, ◌≤◌, Bool, true, false, List, [], ◌∷◌, length, length-append, sym, ◌∙◌, subst, arith, Result, Ok, Err}
 use Rattle.std.specs.Prelude.{IfErr, IfOk, IsErrAnd}
-use Rattle.omega_acc.specs.Depth.{IsMemory}
+use Rattle.omega_text.specs.Cases.{IsMemory}
 use Rattle.omega_acc.specs.Symbols.{IsUnread}
 use Rattle.omega_acc.specs.formula.Reading.{ReadsAcc}
 use Rattle.omega_acc.specs.formula.Raw.{RawAccTree}

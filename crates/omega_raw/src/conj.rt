@@ -1,5 +1,5 @@
 ghost use Rattle.std.specs.Prelude.{◌≡◌, ◌∷◌, IfErr, IfOk, refl};
-ghost use Rattle.omega_acc.specs.Depth.{IsMemory};
+ghost use Rattle.omega_text.specs.Cases.{IsMemory};
 ghost use Rattle.omega_raw.specs.Grammar.{IsConj, conj_row, joined_row};
 ghost use Rattle.omega_raw.specs.private.steps.Parts.{EndsConj, is_and};
 ghost use Rattle.omega_raw.specs.private.steps.First.{FirstIs};

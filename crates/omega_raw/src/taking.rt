@@ -1,7 +1,7 @@
 //! Single tokens of a source.
 
 ghost use Rattle.std.specs.Prelude.{◌≡◌, ◌∷◌, List, IfErr, IfNone, IfOk, IfSome, OnOk};
-ghost use Rattle.omega_acc.specs.Depth.{IsMemory};
+ghost use Rattle.omega_text.specs.Cases.{IsMemory};
 ghost use Rattle.omega_acc.specs.Symbols.{IsUnread};
 ghost use Rattle.omega_raw.specs.Grammar.{int_row, string_row, word_row};
 ghost use Rattle.omega_acc.specs.private.layout.Passing.{NextIsNot};

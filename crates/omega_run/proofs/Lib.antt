@@ -4,3 +4,4 @@ pub mod Lifted
 pub mod Performing
 pub mod ProgressLines
 pub mod Telling
+pub mod TwoTexts

@@ -1,5 +1,5 @@
 -- What the program does with a command line, from what its steps do.
-use Rattle.std.proofs.Common.{◌≡◌, ◌+◌, ◌<◌, ◌≤◌, ℕ, List, [], Result, Ok, Err, IfOk, IfErr, OnErr, arith, inl, inr}
+use Rattle.std.proofs.Common.{◌≡◌, ◌+◌, ◌<◌, ◌≤◌, ℕ, List, [], Result, Ok, Err, IfOk, IfErr, OnErr, arith, inl, inr, subst}
 use Rattle.std.specs.Io.KnownBytes.{Keeps}
 use Rattle.omega_text.specs.declared.refusal.Refusal.{Refusal}
 use Rattle.omega_command.specs.declared.command.Command.{Command}
@@ -8,7 +8,8 @@ use Rattle.omega_io.specs.Exit.{status_of}
 use Rattle.omega_io.specs.Failures.{failures_of}
 use Rattle.omega_io.specs.RefusalLine.{line_of}
 use Rattle.omega_text.specs.declared.refusal.Refusal.TheVariants.{Memory}
-use Rattle.omega_run.specs.Obey.{Performs, Reports, Streams}
+use Rattle.omega_run.specs.Perform.{Performs, Streams}
+use Rattle.omega_run.specs.Report.{IsRefusalTold, Reports, ReportsBy}
 use Rattle.omega_run.specs.Respond.{IsRunRefusal}
 use Rattle.omega_run.specs.Run.{BreaksOff, Completes}
 
@@ -24,6 +25,14 @@ pub reports_any : (outcome : Result Exit Refusal) (status : ℕ) (Told : List �
     → ((text : List ℕ) → Told text) → Reports outcome status Told
 reports_any (Ok exit) status Told ends all = (ends, all [])
 reports_any (Err refusal) status Told ends all = inl (ends, all (line_of refusal))
+
+-- the lines that were made for a refusal are told, or that there was no memory for them
+pub reports_lines : {V : Type 0} (bytes : V → List ℕ) (wanted : Refusal → List ℕ) (refusal : Refusal) (lines : Result V Refusal) (status : ℕ)
+    (Told : List ℕ → Type 0) → IfOk lines (λ made. bytes made ≡ wanted refusal)
+    → IfOk lines (λ made. IsRefusalTold refusal (bytes made) status Told) → IfErr lines (λ _. IsRefusalTold Memory (line_of Memory) status Told)
+    → ReportsBy wanted (Err refusal) status Told
+reports_lines bytes wanted refusal (Ok made) status Told same told wanting = inl (told.0, subst Told same told.1)
+reports_lines bytes wanted refusal (Err none) status Told same told wanting = inr wanting
 
 -- a run ended so, of which all this is known
 pub performs : (command : Command) (budget : ℕ) (outcome : Result Exit Refusal) (before after : Streams)

@@ -40,9 +40,9 @@ Replies IsAnswer IsReason (Ok reply) = (reply.0 ≡ Done) × IsAnswer reply.1
 Replies IsAnswer IsReason (Err refusal) = IsReason refusal
 
 -- the same of a command that ends in more ways than one
-abbrev pub Ends : (Exit → List ℕ → Type 0) → (Refusal → Type 0) → Result (Exit × List ℕ) Refusal → Type 0
-Ends IsAnswer IsReason (Ok reply) = IsAnswer reply.0 reply.1
-Ends IsAnswer IsReason (Err refusal) = IsReason refusal
+abbrev pub Concludes : (Exit → List ℕ → Type 0) → (Refusal → Type 0) → Result (Exit × List ℕ) Refusal → Type 0
+Concludes IsAnswer IsReason (Ok reply) = IsAnswer reply.0 reply.1
+Concludes IsAnswer IsReason (Err refusal) = IsReason refusal
 
 -- what the command makes of the text, with this budget: how it ends and its output, or the refusal
 abbrev pub Answers : Command → ℕ → List ℕ → Result (Exit × List ℕ) Refusal → Type 0
@@ -56,7 +56,7 @@ Answers (CanonPart from) budget text = Replies (IsCanonPartAnswer text from) (Is
 Answers (Solve player from) budget text =
     Replies (IsSolveAnswer text (asked_for player) from budget) (IsSolveRefusal text (asked_for player) from budget)
 Answers (Search from) budget text = Replies (IsSolveAnswer text way.Search from budget) (IsSolveRefusal text way.Search from budget)
-Answers (Verify game from explain) budget text = Ends (IsVerifyAnswer game from text explain) (IsVerifyRefusal game from text)
+Answers (Verify game from explain) budget text = Concludes (IsVerifyAnswer game from text explain) (IsVerifyRefusal game from text)
 Answers Empty budget text = Replies (IsEmptyAnswer text budget) (IsEmptyRefusal text budget)
 Answers EmptySearch budget text = Replies (IsEmptySearchAnswer text) (IsEmptySearchRefusal text)
 Answers Game budget text = Replies (IsEmptinessGameAnswer text) (IsEmptinessGameRefusal text)

@@ -1,18 +1,22 @@
 //! The program's work, over any input, output and standard error: a command is run, a command line is obeyed.
 #![tactic(auto)]
 
+mod beside;
+mod held_text;
 mod kinds;
 mod laws;
 mod obeying;
 mod progress;
+mod reporting;
 mod respond;
 mod run;
+mod task;
 mod watching;
 
 pub use laws::budgets_are_of_solvers;
 pub use obeying::obey;
 pub use omega_budget::{Progress, Unwatched, Watch};
-pub use omega_command::{Command, Format, Line, Player, Seq};
+pub use omega_command::{Command, Format, Line, Player, Seq, Source, Task};
 pub use omega_io::{
     Exit, FromRead, GameFiles, HostFiles, Input, Output, Refusal, ToWrite, exit_code, refusal_line,
 };

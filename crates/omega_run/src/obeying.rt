@@ -1,26 +1,23 @@
-ghost use Rattle.std.specs.Prelude.{◌≡◌, ◌-◌, ◌^◌, ◌<◌, ◌≤◌, IfOk, ℕ, List};
-ghost use Rattle.omega_command.specs.Line.{IsRunnable};
-ghost use Rattle.omega_command.specs.declared.command.Command.TheVariants as command;
-ghost use Rattle.omega_run.specs.Obey.{IsObeyed, PerformsWithFile, Prints, Reports, streams};
+ghost use Rattle.std.specs.Prelude.{◌≡◌, ◌-◌, ◌^◌, ◌<◌, ℕ, IfOk, List, Option};
+ghost use Rattle.omega_command.specs.Line.{IsRunnable, IsRunnableTask};
 ghost use Rattle.omega_io.specs.Writing.{Tells};
-ghost use Rattle.omega_run.specs.private.steps.Telling.{TellsLast};
+ghost use Rattle.omega_run.specs.Obey.{IsDone, IsDoneWithFile, IsObeyed, Prints};
+ghost use Rattle.omega_run.specs.Perform.{streams};
 
-use crate::run::run_command;
-use crate::watching::run_watched;
-use omega_budget::{LIFTS_BETWEEN_REPORTS, Unwatched};
-use omega_command::{Command, Line};
-use omega_io::{
-    Exit, GameFiles, Input, Output, Refusal, exit_code, refusal_line, tell, write_text,
-};
-use omega_solve::MOST_LIFTS;
-use omega_text::Seq;
+use crate::held_text::HeldText;
+use crate::reporting::{report, report_file};
+use crate::task::perform;
+use omega_command::{Line, Source, Task};
+use omega_io::{Exit, GameFiles, Input, Output, Refusal, tell, write_text};
 use std::alloc::Global;
 
 /// The status after a fault of the command line.
 const FAULT: u8 = 2;
 
 /// Does what a command line asks for, and gives the status to end with. A refusal, also one that came in place of the
-/// line, is told by its line on standard error; where there is no memory for that, 60 is told in its place.
+/// line, is told by its line on standard error. Where a command reads two texts, another line names the one that is
+/// refused, and where a file cannot be read, another line has its name. If there is no memory for the lines, 60 is told
+/// in their place. The file that the operand names is read before any other.
 pub fn obey<F: GameFiles, R: Input, W: Output, E: Output>(
     alloc: Global,
     asked: Result<Line, Refusal>,
@@ -39,36 +36,8 @@ pub fn obey<F: GameFiles, R: Input, W: Output, E: Output>(
         (streams (R.remaining input.new) (R.failed input.new) (W.contents output.new) (W.failed output.new)) }
 {
     match asked {
-        Ok(Line::Run(command, budget)) => {
-            let outcome = run_command(alloc, command, input, output, budget, &Unwatched, &mut ());
-            report(alloc, outcome, errors)
-        }
-        Ok(Line::Watched(command, budget)) => {
-            let sound = errors.failures();
-            let outcome = run_watched(
-                alloc,
-                command,
-                input,
-                output,
-                errors,
-                budget,
-                LIFTS_BETWEEN_REPORTS,
-            );
-            report_behind(alloc, outcome, sound, errors)
-        }
-        Ok(
-            Line::Verify {
-                file,
-                from,
-                explain,
-            },
-        ) => {
-            let outcome = verify_file(alloc, file.as_str(), from, explain, files, input, output);
-            report(alloc, outcome, errors)
-        }
-        Ok(Line::DrawSolution { file }) => {
-            let outcome = draw_file(alloc, file.as_str(), files, input, output);
-            report(alloc, outcome, errors)
+        Ok(Line::Do(task, source)) => {
+            perform_with(alloc, task, source, files, input, output, errors)
         }
         Ok(Line::Help(text)) => {
             let outcome = print(text.as_bytes(), output);
@@ -82,82 +51,55 @@ pub fn obey<F: GameFiles, R: Input, W: Output, E: Output>(
     }
 }
 
-/// Tells of a refusal behind lines of progress, unless a write of those failed, and gives the status after the outcome.
-fn report_behind<E: Output>(
+/// Does a task with the text of standard input, or of a file, and gives the status to end with.
+fn perform_with<F: GameFiles, R: Input, W: Output, E: Output>(
     alloc: Global,
-    outcome: Result<Exit, Refusal>,
-    sound: u64,
+    task: Task,
+    source: Source,
+    files: &F,
+    input: &mut R,
+    output: &mut W,
     errors: &mut E,
 ) -> u8
-    requires sound { sound < 2 ^ 64 - 1 }
-    requires since { sound ≤ E.failed errors.old }
-    ensures { Reports outcome result (TellsLast sound (E.contents errors.old) (E.contents errors.new) (E.failed errors.old) (E.failed errors.new)) }
+    requires runnable { IsRunnableTask task }
+    requires reads { R.failed input.old < 2 ^ 64 - 1 }
+    requires writes { W.failed output.old < 2 ^ 64 - 1 }
+    requires tells { E.failed errors.old < 2 ^ 64 - 1 }
+    ensures { IsDone (F.reads files.now) (F.refuses files.now) task source result
+        (Tells (E.contents errors.old) (E.contents errors.new) (E.failed errors.old) (E.failed errors.new))
+        (streams (R.remaining input.old) (R.failed input.old) (W.contents output.old) (W.failed output.old))
+        (streams (R.remaining input.new) (R.failed input.new) (W.contents output.new) (W.failed output.new)) }
 {
-    if errors.failures() == sound {
-        report(alloc, outcome, errors)
-    } else {
-        exit_code(&outcome)
+    match source {
+        Source::Input => perform(alloc, task, files, input, output, errors),
+        Source::File(name) => perform_over(alloc, task, name.as_str(), files, output, errors),
     }
 }
 
-/// Verifies a solution of the game in a file, or of a part of it. The file is read before the solution is.
-fn verify_file<F: GameFiles, R: Input, W: Output>(
+/// Does a task with the text of the file of this name as its input, and gives the status to end with.
+fn perform_over<F: GameFiles, W: Output, E: Output>(
     alloc: Global,
-    file: &str,
-    from: Option<u32>,
-    explain: bool,
+    task: Task,
+    name: &str,
     files: &F,
-    input: &mut R,
     output: &mut W,
-) -> Result<Exit, Refusal>
-    requires reads { R.failed input.old < 2 ^ 64 - 1 }
+    errors: &mut E,
+) -> u8
+    requires runnable { IsRunnableTask task }
     requires writes { W.failed output.old < 2 ^ 64 - 1 }
-    ensures { PerformsWithFile (F.reads files.now file.now) (F.refuses files.now file.now) (λ game. command.Verify game from explain) result
-        (streams (R.remaining input.old) (R.failed input.old) (W.contents output.old) (W.failed output.old))
-        (streams (R.remaining input.new) (R.failed input.new) (W.contents output.new) (W.failed output.new)) }
+    requires tells { E.failed errors.old < 2 ^ 64 - 1 }
+    ensures { (unread : Option (List ℕ)) → (failed_reads : ℕ) → IsDoneWithFile (F.reads files.now) (F.refuses files.now) task name.now result
+        (Tells (E.contents errors.old) (E.contents errors.new) (E.failed errors.old) (E.failed errors.new))
+        (streams unread failed_reads (W.contents output.old) (W.failed output.old))
+        (streams unread failed_reads (W.contents output.new) (W.failed output.new)) }
 {
-    let game = Seq::from_vec(files.read_file(alloc, file)?);
-    let command = Command::Verify {
-        game,
-        from,
-        explain,
-    };
-    run_command(
-        alloc,
-        command,
-        input,
-        output,
-        MOST_LIFTS,
-        &Unwatched,
-        &mut (),
-    )
-}
-
-/// Draws a game with the solution in a file, which is read before the game is.
-fn draw_file<F: GameFiles, R: Input, W: Output>(
-    alloc: Global,
-    file: &str,
-    files: &F,
-    input: &mut R,
-    output: &mut W,
-) -> Result<Exit, Refusal>
-    requires reads { R.failed input.old < 2 ^ 64 - 1 }
-    requires writes { W.failed output.old < 2 ^ 64 - 1 }
-    ensures { PerformsWithFile (F.reads files.now file.now) (F.refuses files.now file.now) command.DrawSolution result
-        (streams (R.remaining input.old) (R.failed input.old) (W.contents output.old) (W.failed output.old))
-        (streams (R.remaining input.new) (R.failed input.new) (W.contents output.new) (W.failed output.new)) }
-{
-    let solution = Seq::from_vec(files.read_file(alloc, file)?);
-    let command = Command::DrawSolution { solution };
-    run_command(
-        alloc,
-        command,
-        input,
-        output,
-        MOST_LIFTS,
-        &Unwatched,
-        &mut (),
-    )
+    match files.read_file(alloc, name) {
+        Ok(text) => {
+            let mut input = HeldText::new(text.as_slice());
+            perform(alloc, task, files, &mut input, output, errors)
+        }
+        Err(refusal) => report_file(alloc, name, refusal, errors),
+    }
 }
 
 /// Writes a text that was asked for.
@@ -167,25 +109,4 @@ fn print<W: Output>(text: &[u8], output: &mut W) -> Result<Exit, Refusal>
 {
     write_text(output, text)?;
     Ok(Exit::Done)
-}
-
-/// Tells of a refusal, and gives the status after the outcome.
-fn report<E: Output>(alloc: Global, outcome: Result<Exit, Refusal>, errors: &mut E) -> u8
-    requires { E.failed errors.old < 2 ^ 64 - 1 }
-    ensures { Reports outcome result (Tells (E.contents errors.old) (E.contents errors.new) (E.failed errors.old) (E.failed errors.new)) }
-{
-    let Err(refusal) = outcome else {
-        return exit_code(&outcome);
-    };
-    let mut line = Vec::new(alloc);
-    match refusal_line(&refusal, &mut line) {
-        Ok(()) => {
-            tell(errors, line.as_slice());
-            exit_code(&outcome)
-        }
-        Err(wanting) => {
-            tell(errors, b"omega: 60 Memory\n");
-            exit_code(&Err(wanting))
-        }
-    }
 }

@@ -10,7 +10,8 @@ ghost use Rattle.omega_io.specs.Failures.{failures_of};
 ghost use Rattle.omega_io.specs.Reading.{IsRead};
 ghost use Rattle.omega_io.specs.declared.exit.Exit.TheVariants.{Done};
 
-use crate::kinds::{Kind, OfFile, OfStream, OfText, kind_of};
+use crate::beside::respond_beside;
+use crate::kinds::{Kind, OfStream, OfText, kind_of};
 use omega_automaton_answers::{
     canon_stream, check_stream, decide_emptiness, draw_automaton_text, draw_lasso_text,
     search_emptiness, show_stream, write_emptiness_game,
@@ -19,8 +20,7 @@ use omega_budget::Watch;
 use omega_command::Command;
 use omega_game::Player;
 use omega_game_answers::{
-    Asked, canon_game, canon_part, check_game, draw_game_text, draw_solution_text, show_game,
-    solve_game, verify_solution,
+    Asked, canon_game, canon_part, check_game, draw_game_text, show_game, solve_game,
 };
 use omega_io::{Exit, Input, Refusal, read_all};
 use std::alloc::Global;
@@ -53,21 +53,10 @@ pub(crate) fn respond<R: Input, L, T: Watch<L>>(
             let made = answer(alloc, command, text, budget, watch, listener)?;
             Ok((Exit::Done, made))
         }
-        Kind::File(
-            OfFile::Verify {
-                game,
-                from,
-                explain,
-            },
-        ) => {
-            let solution = read_all(alloc, input)?;
-            verify_solution(alloc, game.into_vec(), from, solution, explain)
-        }
-        Kind::File(OfFile::DrawSolution { solution }) => {
-            let game = read_all(alloc, input)?;
-            let made = draw_solution_text(alloc, game, solution.as_slice())?;
-            Ok((Exit::Done, made))
-        }
+        Kind::File(command) => match respond_beside(alloc, command, input) {
+            Ok(made) => Ok(made),
+            Err(refused) => Err(refused.refusal),
+        },
     }
 }
 

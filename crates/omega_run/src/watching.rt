@@ -1,7 +1,7 @@
 //! Commands that lift, told of on standard error while they run.
 ghost use Rattle.std.specs.Prelude.{◌≡◌, ◌-◌, ◌^◌, ◌<◌, ◌≤◌, List, ℕ, max};
 ghost use Rattle.omega_budget.specs.Watching.{refusal_in};
-ghost use Rattle.omega_run.specs.Obey.{Performs, streams};
+ghost use Rattle.omega_run.specs.Perform.{Performs, streams};
 ghost use Rattle.omega_run.specs.Progress.{AreProgressLines, CountsLines, HasTold};
 ghost use Rattle.omega_solve.specs.Limits.{most_lifts};
 

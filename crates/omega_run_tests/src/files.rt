@@ -24,8 +24,8 @@ digraph game {
 }
 ";
 
-/// A command line, the text of the file, the text of the input, and the status, the output and the line of the run.
-static RUNS: [(&str, &str, &str, u8, &str, &str); 7] = [
+/// A command line, the text of the file, the text of the input, and the status, the output and the lines of the run.
+static RUNS: [(&str, &str, &str, u8, &str, &str); 14] = [
     (
         "omega verify --game g",
         THREE,
@@ -48,7 +48,7 @@ static RUNS: [(&str, &str, &str, u8, &str, &str); 7] = [
         "paritysol 2; 0 0; 1 0; 2 0;",
         1,
         "",
-        "omega: 53 BadSolution\n",
+        "omega: 53 BadSolution\nomega: in the solution\n",
     ),
     // What is wrong with the game comes first.
     (
@@ -57,7 +57,7 @@ static RUNS: [(&str, &str, &str, u8, &str, &str); 7] = [
         "$",
         1,
         "",
-        "omega: 3 Syntax at 5\n",
+        "omega: 3 Syntax at 5\nomega: in the game\n",
     ),
     (
         "omega verify --game h",
@@ -65,7 +65,23 @@ static RUNS: [(&str, &str, &str, u8, &str, &str); 7] = [
         "paritysol 2; 0 0 2; 1 0; 2 0;",
         5,
         "",
-        "omega: 61 Io\n",
+        "omega: 61 Io\nomega: cannot read 'h'\n",
+    ),
+    (
+        "omega verify --game g",
+        THREE,
+        "paritysol 2 0 0 2;",
+        1,
+        "",
+        "omega: 3 Syntax at 12\nomega: in the solution\n",
+    ),
+    (
+        "omega verify --game g --from 3",
+        THREE,
+        "",
+        1,
+        "",
+        "omega: 54 UnknownNode\nomega: in the game\n",
     ),
     (
         "omega draw --format pg --solution g",
@@ -81,7 +97,48 @@ static RUNS: [(&str, &str, &str, u8, &str, &str); 7] = [
         CHOICE,
         5,
         "",
-        "omega: 61 Io\n",
+        "omega: 61 Io\nomega: cannot read 'h'\n",
+    ),
+    (
+        "omega draw --format pg --solution g",
+        "$",
+        CHOICE,
+        1,
+        "",
+        "omega: 1 Lex at 0\nomega: in the solution\n",
+    ),
+    // The operand names the file of the input, which is not read then.
+    (
+        "omega solve g",
+        "0 0 0 0;",
+        "$",
+        0,
+        "paritysol 0;\n0 0 0;\n",
+        "",
+    ),
+    (
+        "omega solve --player 0 -",
+        "$",
+        "0 0 0 0;",
+        0,
+        "player 0 lifts 0\n0 0;\n",
+        "",
+    ),
+    (
+        "omega check g --format hoa",
+        "HOA: v1 )",
+        "",
+        1,
+        "",
+        "omega: 3 Syntax at 9\n",
+    ),
+    (
+        "omega show --format pg h",
+        "0 0 0 0;",
+        "0 0 0 0;",
+        5,
+        "",
+        "omega: 61 Io\nomega: cannot read 'h'\n",
     ),
 ];
 

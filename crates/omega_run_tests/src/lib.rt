@@ -5,6 +5,8 @@
 #[cfg(test)]
 mod files;
 #[cfg(test)]
+mod host;
+#[cfg(test)]
 mod portions;
 #[cfg(test)]
 mod progress;

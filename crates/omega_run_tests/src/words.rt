@@ -5,85 +5,128 @@ use std::alloc::Global;
 use std::test::Fail;
 
 /// Command lines, and what each asks for, as it shows itself to a programmer. A budget that is not given is 2^40.
-static ASKED: [(&str, &str); 30] = [
-    ("omega show --format pg", "Run(Show(Pg), 1099511627776)"),
-    ("omega show --format hoa", "Run(Show(Hoa), 1099511627776)"),
-    ("omega check --format pg", "Run(Check(Pg), 1099511627776)"),
-    ("omega check --format=hoa", "Run(Check(Hoa), 1099511627776)"),
-    ("omega canon --format pg", "Run(Canon(Pg), 1099511627776)"),
-    ("omega canon --format hoa", "Run(Canon(Hoa), 1099511627776)"),
+static ASKED: [(&str, &str); 34] = [
+    (
+        "omega show --format pg",
+        "Do(Run(Show(Pg), 1099511627776), Input)",
+    ),
+    (
+        "omega show --format hoa",
+        "Do(Run(Show(Hoa), 1099511627776), Input)",
+    ),
+    (
+        "omega check --format pg",
+        "Do(Run(Check(Pg), 1099511627776), Input)",
+    ),
+    (
+        "omega check --format=hoa",
+        "Do(Run(Check(Hoa), 1099511627776), Input)",
+    ),
+    (
+        "omega canon --format pg",
+        "Do(Run(Canon(Pg), 1099511627776), Input)",
+    ),
+    (
+        "omega canon --format hoa",
+        "Do(Run(Canon(Hoa), 1099511627776), Input)",
+    ),
     (
         "omega canon --format pg --from 4",
-        "Run(CanonPart { from: 4 }, 1099511627776)",
+        "Do(Run(CanonPart { from: 4 }, 1099511627776), Input)",
     ),
     (
         "omega canon --from 0 --format pg",
-        "Run(CanonPart { from: 0 }, 1099511627776)",
+        "Do(Run(CanonPart { from: 0 }, 1099511627776), Input)",
     ),
     (
         "omega solve",
-        "Run(Solve { player: None, from: None }, 1099511627776)",
+        "Do(Run(Solve { player: None, from: None }, 1099511627776), Input)",
     ),
     (
         "omega solve --budget 0 --player 0",
-        "Run(Solve { player: Some(Zero), from: None }, 0)",
+        "Do(Run(Solve { player: Some(Zero), from: None }, 0), Input)",
     ),
     (
         "omega solve --from 2147483647 --player=1 --budget 7",
-        "Run(Solve { player: Some(One), from: Some(2147483647) }, 7)",
+        "Do(Run(Solve { player: Some(One), from: Some(2147483647) }, 7), Input)",
     ),
     (
         "omega solve --search",
-        "Run(Search { from: None }, 1099511627776)",
+        "Do(Run(Search { from: None }, 1099511627776), Input)",
     ),
     (
         "omega solve --from 3 --search --budget 5",
-        "Run(Search { from: Some(3) }, 5)",
+        "Do(Run(Search { from: Some(3) }, 5), Input)",
     ),
     (
         "omega verify --game g",
-        "Verify { file: \"g\", from: None, explain: false }",
+        "Do(Verify { file: \"g\", from: None, explain: false }, Input)",
     ),
     (
         "omega verify --game my\tgame.pg",
-        "Verify { file: \"my\\tgame.pg\", from: None, explain: false }",
+        "Do(Verify { file: \"my\\tgame.pg\", from: None, explain: false }, Input)",
     ),
     (
         "omega verify --game g --explain",
-        "Verify { file: \"g\", from: None, explain: true }",
+        "Do(Verify { file: \"g\", from: None, explain: true }, Input)",
     ),
     (
         "omega verify --explain --game g",
-        "Verify { file: \"g\", from: None, explain: true }",
+        "Do(Verify { file: \"g\", from: None, explain: true }, Input)",
     ),
     (
         "omega verify --from 0 --game g",
-        "Verify { file: \"g\", from: Some(0), explain: false }",
+        "Do(Verify { file: \"g\", from: Some(0), explain: false }, Input)",
     ),
     (
         "omega verify --explain --game g --from=2147483647",
-        "Verify { file: \"g\", from: Some(2147483647), explain: true }",
+        "Do(Verify { file: \"g\", from: Some(2147483647), explain: true }, Input)",
     ),
-    ("omega empty", "Run(Empty, 1099511627776)"),
-    ("omega empty --budget 0", "Run(Empty, 0)"),
+    ("omega empty", "Do(Run(Empty, 1099511627776), Input)"),
+    ("omega empty --budget 0", "Do(Run(Empty, 0), Input)"),
     (
         "omega empty --budget=1099511627776",
-        "Run(Empty, 1099511627776)",
+        "Do(Run(Empty, 1099511627776), Input)",
     ),
-    ("omega empty --search", "Run(EmptySearch, 1099511627776)"),
-    ("omega game", "Run(Game, 1099511627776)"),
-    ("omega draw --format pg", "Run(Draw(Pg), 1099511627776)"),
-    ("omega draw --format hoa", "Run(Draw(Hoa), 1099511627776)"),
+    (
+        "omega empty --search",
+        "Do(Run(EmptySearch, 1099511627776), Input)",
+    ),
+    ("omega game", "Do(Run(Game, 1099511627776), Input)"),
+    (
+        "omega draw --format pg",
+        "Do(Run(Draw(Pg), 1099511627776), Input)",
+    ),
+    (
+        "omega draw --format hoa",
+        "Do(Run(Draw(Hoa), 1099511627776), Input)",
+    ),
     (
         "omega draw --format hoa --lasso",
-        "Run(DrawLasso, 1099511627776)",
+        "Do(Run(DrawLasso, 1099511627776), Input)",
     ),
     (
         "omega draw --solution s --format pg",
-        "DrawSolution { file: \"s\" }",
+        "Do(DrawSolution { file: \"s\" }, Input)",
     ),
-    ("--help show --format pg", "Run(Show(Pg), 1099511627776)"),
-    ("./o game", "Run(Game, 1099511627776)"),
+    (
+        "omega show --format pg g",
+        "Do(Run(Show(Pg), 1099511627776), File(\"g\"))",
+    ),
+    (
+        "omega verify s --game g",
+        "Do(Verify { file: \"g\", from: None, explain: false }, File(\"s\"))",
+    ),
+    ("omega game -", "Do(Run(Game, 1099511627776), Input)"),
+    (
+        "omega game -- --from",
+        "Do(Run(Game, 1099511627776), File(\"--from\"))",
+    ),
+    (
+        "--help show --format pg",
+        "Do(Run(Show(Pg), 1099511627776), Input)",
+    ),
+    ("./o game", "Do(Run(Game, 1099511627776), Input)"),
 ];
 
 /// Command lines that are at fault, and what is said of each.
@@ -107,7 +150,10 @@ static FAULTS: [(&str, &str); 18] = [
         "omega show --format pg --budget 1",
         "unexpected argument '--budget'",
     ),
-    ("omega show --format pg more", "unexpected argument 'more'"),
+    (
+        "omega show --format pg more most",
+        "unexpected argument 'most'",
+    ),
     (
         "omega solve --player 2",
         "invalid value '2' for '--player <P>'",
@@ -130,19 +176,19 @@ static FAULTS: [(&str, &str); 18] = [
     ),
     (
         "omega solve --search --player 0",
-        "'--search' and '--player <P>' are not given together",
+        "the argument '--search' cannot be used with '--player <P>'\\n\\nUsage: omega solve [OPTIONS] [FILE]\\n",
     ),
     (
         "omega empty --search --budget 1",
-        "'--search' and '--budget <N>' are not given together",
+        "the argument '--search' cannot be used with '--budget <N>'\\n\\nUsage: omega empty [OPTIONS] [FILE]\\n",
     ),
     (
         "omega canon --format hoa --from 4",
-        "'--from <ID>' goes with '--format pg' only",
+        "the argument '--from <ID>' can only be used with '--format pg'",
     ),
     (
         "omega draw --format pg --lasso",
-        "'--lasso' goes with '--format hoa' only",
+        "the argument '--lasso' can only be used with '--format hoa'",
     ),
     ("omega verify --explain", "--game <FILE>"),
 ];
@@ -150,15 +196,18 @@ static FAULTS: [(&str, &str); 18] = [
 /// Requests for help or the version, and what the text says.
 static HELP: [(&str, &str); 10] = [
     ("omega --help", "Usage: omega <COMMAND>"),
-    ("omega help show", "Usage: omega show --format <FORMAT>"),
+    (
+        "omega help show",
+        "Usage: omega show --format <FORMAT> [FILE]",
+    ),
     ("omega --version", "omega 1.0.0\\nproved by rattle-kit"),
-    ("omega check -h", "omega: 3 Syntax at 17"),
+    ("omega check -h", "see more with '--help'"),
     (
         "omega canon --help",
         "Usage: omega canon [OPTIONS] --format <FORMAT>",
     ),
-    ("omega solve --player 0 -h", "player 0 lifts 1"),
-    ("omega verify -h", "54 UnknownNode"),
+    ("omega solve --player 0 --help", "player 0 lifts 1"),
+    ("omega verify --help", "54 UnknownNode"),
     ("omega empty --help", "Usage: omega empty [OPTIONS]"),
     ("omega game --help", "Usage: omega game"),
     (

@@ -1,6 +1,6 @@
 ghost use Rattle.std.specs.Prelude.{◌≡◌, ◌&&◌, ◌||◌, ℕ, Bool, false, true, not, if◌then◌else◌, nat_eq, IfErr, IfNone, IfOk, IfSome, OnOk};
 ghost use Rattle.std.specs.HashMap.{get};
-ghost use Rattle.omega_acc.specs.Depth.{IsMemory};
+ghost use Rattle.omega_text.specs.Cases.{IsMemory};
 ghost use Rattle.omega_satisfying.specs.private.Waiting.{IsFree, fits_one};
 
 use crate::steps::Literal;

@@ -1,7 +1,7 @@
 //! Steps of a search: what is to be done at each place, with the places that follow.
 
 ghost use Rattle.std.specs.Prelude.{◌≡◌, ◌<◌, ℕ, Bool, false, length, true, IfErr, IfOk, OnOk};
-ghost use Rattle.omega_acc.specs.Depth.{IsMemory};
+ghost use Rattle.omega_text.specs.Cases.{IsMemory};
 ghost use Rattle.omega_satisfying.specs.private.Leading.{ArePlanned, IsKept, IsStep, leads, leads_by};
 
 use omega_text::Refusal;

@@ -1,7 +1,7 @@
 //! How a label is taken in as steps, with negations at its literals alone.
 
 ghost use Rattle.std.specs.Prelude.{◌≡◌, true, IfErr, IfOk, OnOk};
-ghost use Rattle.omega_acc.specs.Depth.{IsMemory};
+ghost use Rattle.omega_text.specs.Cases.{IsMemory};
 ghost use Rattle.omega_acc.specs.label.Label.{constant, proposition as proposition_tree};
 ghost use Rattle.omega_acc.specs.label.Shape.{label_tree_of_shape};
 ghost use Rattle.omega_satisfying.specs.private.Leading.{ArePlanned, IsKept, is_as};

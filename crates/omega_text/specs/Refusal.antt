@@ -9,7 +9,7 @@ use Rattle.omega_text.specs.declared.refusal.game.GameFault.TheVariants.{Duplica
 use Rattle.omega_text.specs.declared.refusal.automaton.AutomatonFault.{AutomatonFault}
 use Rattle.omega_text.specs.declared.refusal.automaton.AutomatonFault.TheVariants.{AcceptanceAtom, Alias, Expansion, ImplicitCount, MissingAcceptance, MixedLabels, Proposition, RepeatedHeader, SetRange, StateRange, StateTwice, TooDeep, UnknownHeader, Version}
 use Rattle.omega_text.specs.declared.refusal.task.TaskFault.{TaskFault}
-use Rattle.omega_text.specs.declared.refusal.task.TaskFault.TheVariants.{BadSolution, Budget, NotParity, TooManyPropositions, TooWide, UniversalBranch, UnknownNode}
+use Rattle.omega_text.specs.declared.refusal.task.TaskFault.TheVariants.{BadSolution, Budget, NotDeterministic, NotParity, TooLarge, TooManyPropositions, TooWide, UniversalBranch, UnknownNode}
 
 -- the number of a fault of a text
 abbrev pub text_number : TextFault → ℕ
@@ -91,6 +91,8 @@ task_number TooWide = 50
 task_number Budget = 51
 task_number BadSolution = 53
 task_number UnknownNode = 54
+task_number TooLarge = 55
+task_number (NotDeterministic state) = 56
 
 -- the name of a fault of a task
 abbrev pub task_name : TaskFault → List ℕ
@@ -101,6 +103,20 @@ task_name TooWide = codes "TooWide"
 task_name Budget = codes "Budget"
 task_name BadSolution = codes "BadSolution"
 task_name UnknownNode = codes "UnknownNode"
+task_name TooLarge = codes "TooLarge"
+task_name (NotDeterministic state) = codes "NotDeterministic"
+
+-- the number that a fault of a task tells: that of a state
+abbrev pub task_place : TaskFault → Option ℕ
+task_place NotParity = None
+task_place UniversalBranch = None
+task_place TooManyPropositions = None
+task_place TooWide = None
+task_place Budget = None
+task_place BadSolution = None
+task_place UnknownNode = None
+task_place TooLarge = None
+task_place (NotDeterministic state) = Some state
 
 -- the one number of a refusal
 abbrev pub number_of : Refusal → ℕ
@@ -120,11 +136,11 @@ name_of (Task fault) = task_name fault
 name_of Memory = codes "Memory"
 name_of Io = codes "Io"
 
--- the place of a refusal, which only those of tokens and of the grammar have
+-- the place of a refusal, which only those of tokens and of the grammar have, or the number of its state
 abbrev pub place_of : Refusal → Option ℕ
 place_of (Text fault) = text_place fault
 place_of (Game fault) = None
 place_of (Automaton fault) = None
-place_of (Task fault) = None
+place_of (Task fault) = task_place fault
 place_of Memory = None
 place_of Io = None

@@ -26,7 +26,7 @@ pub enum Refusal {
     /// 20 to 33: the tokens make no automaton.
     #[error(transparent)]
     Automaton(AutomatonFault),
-    /// 40 to 54: the task can't be done for this value.
+    /// 40 to 56: the task can't be done for this value.
     #[error(transparent)]
     Task(TaskFault),
     /// 60: a request for memory was refused in that call.
@@ -68,12 +68,13 @@ impl Refusal {
         }
     }
 
-    /// The place of the byte where the fault is, from 0, for refusals 1, 2 and 3.
+    /// The place of the byte where the fault is, from 0, for refusals 1, 2 and 3, and the number of the state for 56.
     pub fn at(self) -> Option<usize>
         ensures { result ≡ place_of self }
     {
         match self {
             Refusal::Text(fault) => fault.at(),
+            Refusal::Task(fault) => fault.at(),
             _ => None,
         }
     }

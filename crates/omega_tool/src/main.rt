@@ -45,8 +45,8 @@ fn no_text(alloc: Global, kind: io::ErrorKind) -> Result<Line, Refusal>
     if kind == io::ErrorKind::OutOfMemory {
         return Err(Refusal::Memory);
     }
-    let fault = String::from_str(alloc, "error: the command line is not UTF-8\n")?;
-    Ok(Line::Fault(fault))
+    let fault = "error: the command line is not UTF-8\n\nFor more information, try '--help'.\n";
+    Ok(Line::Fault(String::from_str(alloc, fault)?))
 }
 
 fn words_of(rt: &HostRuntime) -> io::Result<Vec<String>> {

@@ -13,7 +13,7 @@ use Rattle.omega_command.specs.declared.options.OptionName.{OptionName}
 use Rattle.omega_command.specs.declared.options.OptionName.TheVariants as name
 use Rattle.omega_command.specs.declared.options.Options.{Options}
 
--- how `clap` knows an option
+-- how `clap` knows an option, or the operand
 abbrev pub id_of : OptionName → List ℕ
 id_of name.Format = codes "format"
 id_of name.Player = codes "player"
@@ -25,6 +25,7 @@ id_of name.Explain = codes "explain"
 id_of name.Solution = codes "solution"
 id_of name.Lasso = codes "lasso"
 id_of name.Progress = codes "progress"
+id_of name.File = codes "file"
 
 -- the line is the fault that tells of the mistake; want of memory is told by no line
 abbrev pub IsFaultLineOf : Mistake → Line → Type 0
@@ -50,7 +51,4 @@ IsLineFound (Some (subcommand, rows)) line = IsLineFor subcommand rows line
 abbrev pub IsPrinted : ErrorKind → Line → Type 0
 IsPrinted kind (line.Help text) = (kind ≡ DisplayHelp) ⊎ (kind ≡ DisplayVersion)
 IsPrinted kind (line.Fault text) = (kind ≢ DisplayHelp) × (kind ≢ DisplayVersion)
-IsPrinted kind (line.Run command budget) = ⊥
-IsPrinted kind (line.Watched command budget) = ⊥
-IsPrinted kind (line.Verify file from explain) = ⊥
-IsPrinted kind (line.DrawSolution file) = ⊥
+IsPrinted kind (line.Do task source) = ⊥

@@ -7,7 +7,7 @@ ghost use Rattle.omega_command.specs.CommandLine.{text_of};
 use clap::ArgMatches;
 use omega_command::Options;
 
-/// The texts of the options that `clap` found behind a subcommand.
+/// The texts of the options and of the operand that `clap` found behind a subcommand.
 pub fn options_in<'a>(found: &ArgMatches<'a>) -> Options<'a>
     ensures { (name : OptionName) → text_of name result ≡ first_of (id_of name) (rows_of (found_of found.now)) }
 {
@@ -22,5 +22,6 @@ pub fn options_in<'a>(found: &ArgMatches<'a>) -> Options<'a>
         solution: found.get_str("solution"),
         lasso: found.get_str("lasso"),
         progress: found.get_str("progress"),
+        file: found.get_str("file"),
     }
 }

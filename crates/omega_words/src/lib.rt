@@ -5,6 +5,7 @@ mod found;
 mod words;
 
 pub use omega_command::{
-    Command, Format, Line, Mistake, OptionName, Options, Player, Reason, Refusal, Seq, line_for,
+    Command, Format, Line, Mistake, OptionName, Options, Player, Reason, Refusal, Seq, Source,
+    Task, line_for,
 };
 pub use words::read_words;

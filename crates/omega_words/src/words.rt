@@ -10,7 +10,7 @@ use crate::found::options_in;
 use clap::error::ErrorKind;
 use clap::{ArgMatches, Error};
 use omega_command::{Line, Mistake, line_for};
-use omega_help::matches_of;
+use omega_help::{conflict_text, matches_of};
 use omega_text::Refusal;
 use std::alloc::Global;
 
@@ -34,7 +34,7 @@ fn asked_for(alloc: Global, found: &ArgMatches<'_>) -> Result<Line, Refusal>
 {
     match found.subcommand() {
         Some((subcommand, matches)) => answered(alloc, subcommand, matches),
-        None => mistaken(alloc, &Mistake::Unknown),
+        None => mistaken(alloc, "", &Mistake::Unknown),
     }
 }
 
@@ -46,15 +46,20 @@ fn answered(alloc: Global, subcommand: &str, matches: &ArgMatches<'_>) -> Result
 {
     match line_for(alloc, subcommand, &options_in(matches)) {
         Ok(line) => Ok(line),
-        Err(mistake) => mistaken(alloc, &mistake),
+        Err(mistake) => mistaken(alloc, subcommand, &mistake),
     }
 }
 
-/// The line that tells of a mistake.
-fn mistaken(alloc: Global, mistake: &Mistake<'_>) -> Result<Line, Refusal>
+/// The line that tells of a mistake in the options of a subcommand.
+fn mistaken(alloc: Global, subcommand: &str, mistake: &Mistake<'_>) -> Result<Line, Refusal>
     ensures fault { IfOk result (IsFaultLineOf mistake.now) }
     ensures memory { IsOkUnless result Memory }
 {
+    if mistake.is_conflict() {
+        let message = mistake.message(alloc)?;
+        let text = conflict_text(alloc, subcommand, message.as_str())?;
+        return Ok(Line::Fault(text));
+    }
     Ok(Line::Fault(mistake.text(alloc)?))
 }
 

@@ -1,7 +1,7 @@
 //! Acceptance formulas without their parentheses.
 
 ghost use Rattle.std.specs.Prelude.{◌≡◌, ◌∷◌, [], Some, None, IfErr, IfOk, OnOk};
-ghost use Rattle.omega_acc.specs.Depth.{IsMemory};
+ghost use Rattle.omega_text.specs.Cases.{IsMemory};
 ghost use Rattle.omega_acc.specs.private.layout.formula.Plain.{alone, atom_plain, depths_behind, plain_nodes, top_depth};
 ghost use Rattle.omega_acc.specs.private.layout.formula.Raw.{atom_names, raw_acc_postfix};
 ghost use Rattle.omega_text.specs.Cases.{never, or_automaton, or_memory};

@@ -1,7 +1,8 @@
 ghost use Rattle.std.specs.Prelude.{◌≡◌, ◌<◌, ◌≤◌, ◌↔◌, IsTrue, max, nat_lt, IfErr, IfOk};
 ghost use Rattle.std.specs.List.{list_all};
 ghost use Rattle.omega_acc.specs.formula.Raw.{atom as atom_tree, conjunction, constant as constant_tree, disjunction, group as group_tree, raw_acc_depth};
-ghost use Rattle.omega_acc.specs.Depth.{IsDeeper, IsMemory, counted};
+ghost use Rattle.omega_acc.specs.Depth.{IsDeeper, counted};
+ghost use Rattle.omega_text.specs.Cases.{IsMemory};
 ghost use Rattle.omega_acc.specs.Limits.{most_depth};
 ghost use Rattle.omega_acc.specs.private.layout.formula.Plain.{set_below};
 ghost use Rattle.omega_acc.specs.private.layout.formula.Joining.{IsJoining, joined_by};
@@ -61,7 +62,7 @@ impl RawAcc {
     ghost use Rattle.omega_acc.specs.formula.Meaning.{IsMeant, IsUnmeant, acc_sets};
     ghost use Rattle.omega_acc.specs.private.layout.formula.Raw.{IsRawAcc, atom_names, raw_acc_postfix, raw_acc_tree_of};
 
-    /// `t` or `f`.
+    /// `t` or `f`. Refusal 60.
     pub fn constant(alloc: Global, value: bool) -> Result<RawAcc, Refusal>
         ensures ok { IfOk result (λ formula. formula ≡ constant_tree value) }
         ensures err { IfErr result IsMemory }
@@ -73,7 +74,7 @@ impl RawAcc {
         })
     }
 
-    /// An atom: an identifier and a set by its number, with `!` before it or without.
+    /// An atom: an identifier and a set by its number, with `!` before it or without. Refusal 60.
     pub fn atom(alloc: Global, name: &[u8], negated: bool, set: u32) -> Result<RawAcc, Refusal>
         ensures ok { IfOk result (λ formula. formula ≡ atom_tree name.now negated set) }
         ensures err { IfErr result IsMemory }

@@ -1,7 +1,8 @@
 //! Acceptance formulas as trees of boxes, to take them apart and to put them together.
 
 ghost use Rattle.std.specs.Prelude.{◌≡◌, ◌+◌, ◌<◌, ◌≤◌, ◌++◌, ◌∷◌, [], IfErr, IfOk, OnOk};
-ghost use Rattle.omega_acc.specs.Depth.{IsDeeper, IsMemory};
+ghost use Rattle.omega_acc.specs.Depth.{IsDeeper};
+ghost use Rattle.omega_text.specs.Cases.{IsMemory};
 ghost use Rattle.omega_acc.specs.Limits.{most_depth};
 ghost use Rattle.omega_acc.specs.formula.Acceptance.{acc_depth};
 ghost use Rattle.omega_acc.specs.formula.Shape.{acc_tree_of_shape};

@@ -1,6 +1,6 @@
 ghost use Rattle.std.specs.Prelude.{◌≡◌, ◌∷◌, [], IfErr, IfOk, OnOk, MatchBool, ◌+◌, min};
 ghost use Rattle.std.specs.Prelude.{List};
-ghost use Rattle.omega_acc.specs.Depth.{IsMemory};
+ghost use Rattle.omega_text.specs.Cases.{IsMemory};
 
 use crate::formula::raw::RawAccNode;
 use crate::label::unfinished::deeper;

@@ -1,7 +1,7 @@
 ghost use Rattle.std.specs.Prelude.{◌≡◌, ◌<◌, ◌++◌, [], ◌∷◌, drop, false, length, map, option_map, take, IfErr, IfOk, IfSome, OnErr, OnOk};
 ghost use Rattle.std.specs.List.{list_any};
 ghost use Rattle.std.specs.Str.{bytes_eq};
-ghost use Rattle.omega_acc.specs.Depth.{IsMemory};
+ghost use Rattle.omega_text.specs.Cases.{IsMemory};
 ghost use Rattle.omega_acc.specs.label.Expanding.{IsAdded, IsRepeated, entries_of, expansion, place_among};
 ghost use Rattle.omega_acc.specs.private.layout.label.Emitting.{IsBodyAt, IsKept, IsKeptAt};
 ghost use Rattle.omega_acc.specs.private.layout.label.Extents.{extent_named, extent_of};

@@ -1,7 +1,7 @@
 ghost use Rattle.std.specs.Prelude.{◌≡◌, ◌<◌, ◌≤◌, ◌++◌, [], ◌∷◌, Some, count_by, false, filter, length, map, slice_get, take, IfErr, IfOk, IfSome};
 ghost use Rattle.std.specs.List.{list_all, list_any};
 ghost use Rattle.std.specs.Option.{SomeIff};
-ghost use Rattle.omega_acc.specs.Depth.{IsMemory};
+ghost use Rattle.omega_text.specs.Cases.{IsMemory};
 ghost use Rattle.omega_acc.specs.private.layout.label.Bare.{is_alias, is_bare};
 ghost use Rattle.omega_acc.specs.private.layout.label.Codes.{node_of};
 ghost use Rattle.omega_acc.specs.private.layout.label.Compact.{fits_in_place, notation_in};

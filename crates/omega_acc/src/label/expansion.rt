@@ -1,5 +1,5 @@
 ghost use Rattle.std.specs.Prelude.{◌≡◌, ◌≤◌, ◌++◌, [], length, slice_range, take, IfErr, IfOk, IsSome, OnOk};
-ghost use Rattle.omega_acc.specs.Depth.{IsMemory};
+ghost use Rattle.omega_text.specs.Cases.{IsMemory};
 ghost use Rattle.omega_acc.specs.label.Expanding.{IsExpanded, IsExpansion, IsUnexpanded, entries_of, replaced};
 ghost use Rattle.omega_acc.specs.private.layout.label.Emitting.{nodes_of};
 

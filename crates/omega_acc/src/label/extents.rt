@@ -1,5 +1,5 @@
 ghost use Rattle.std.specs.Prelude.{◌≡◌, ◌+◌, ◌∷◌, [], min, option_map, IfErr, OnOk};
-ghost use Rattle.omega_acc.specs.Depth.{IsMemory};
+ghost use Rattle.omega_text.specs.Cases.{IsMemory};
 ghost use Rattle.omega_acc.specs.private.layout.label.Extents.{atom_extent, both_extents, deeper_extent, extents_below, negated_extent, top_extent};
 
 use omega_text::Refusal;

@@ -2,7 +2,8 @@ ghost use Rattle.std.specs.Prelude.{◌≡◌, ◌<◌, ◌≤◌, ◌↔◌, Is
 ghost use Rattle.std.specs.List.{list_all, list_any};
 ghost use Rattle.std.specs.Option.{SomeIff};
 ghost use Rattle.omega_acc.specs.label.Raw.{alias as alias_tree, conjunction, constant as constant_tree, disjunction, group as group_tree, negation, proposition as proposition_tree, raw_depth, raw_propositions};
-ghost use Rattle.omega_acc.specs.Depth.{IsDeeper, IsMemory, counted};
+ghost use Rattle.omega_acc.specs.Depth.{IsDeeper, counted};
+ghost use Rattle.omega_text.specs.Cases.{IsMemory};
 ghost use Rattle.omega_acc.specs.Limits.{most_depth};
 ghost use Rattle.omega_acc.specs.private.layout.label.Bare.{bare, is_alias, is_bare};
 ghost use Rattle.omega_acc.specs.private.layout.label.Joining.{IsJoining, joined_by};
@@ -44,7 +45,7 @@ impl Model for RawLabel {
 impl RawLabel {
     ghost use Rattle.omega_acc.specs.private.layout.label.Raw.{IsRawLabel, alias_names, raw_postfix, raw_tree_of};
 
-    /// `t` or `f`.
+    /// `t` or `f`. Refusal 60.
     pub fn constant(alloc: Global, value: bool) -> Result<RawLabel, Refusal>
         ensures ok { IfOk result (λ label. label ≡ constant_tree value) }
         ensures err { IfErr result IsMemory }
@@ -53,7 +54,7 @@ impl RawLabel {
         RawLabel::of_nodes(alloc, nodes.as_slice(), &[], 1)
     }
 
-    /// A proposition by its number.
+    /// A proposition by its number. Refusal 60.
     pub fn proposition(alloc: Global, number: u32) -> Result<RawLabel, Refusal>
         ensures ok { IfOk result (λ label. label ≡ proposition_tree number) }
         ensures err { IfErr result IsMemory }

@@ -1,5 +1,5 @@
 ghost use Rattle.std.specs.Prelude.{◌≡◌, ◌∷◌, [], IfErr, OnOk};
-ghost use Rattle.omega_acc.specs.Depth.{IsMemory};
+ghost use Rattle.omega_text.specs.Cases.{IsMemory};
 ghost use Rattle.omega_acc.specs.label.Label.{conjunction, disjunction, negation};
 ghost use Rattle.omega_acc.specs.label.Shape.{label_tree_of_shape};
 ghost use Rattle.omega_acc.specs.private.layout.label.Label.{below, top};

@@ -1,7 +1,7 @@
 ghost use Rattle.std.specs.Prelude.{◌≡◌, is_none, nat_lt, IfErr, IfOk};
 ghost use Rattle.std.specs.List.{list_any};
 ghost use Rattle.omega_acc.specs.formula.Meaning.{acc_meant};
-ghost use Rattle.omega_acc.specs.Depth.{IsMemory};
+ghost use Rattle.omega_text.specs.Cases.{IsMemory};
 ghost use Rattle.omega_acc.specs.Limits.{most_depth};
 ghost use Rattle.omega_acc.specs.formula.Raw.{raw_acc_depth};
 ghost use Rattle.omega_automaton.specs.Faults.{has_wrong_atom as wrong_atom, passes};

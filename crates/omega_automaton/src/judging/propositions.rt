@@ -1,7 +1,7 @@
 ghost use Rattle.std.specs.Prelude.{◌≡◌, option_map, unwrap_or, IfErr, IfOk};
 ghost use Rattle.std.specs.List.{list_any};
 ghost use Rattle.std.specs.Option.{option_copied};
-ghost use Rattle.omega_acc.specs.Depth.{IsMemory};
+ghost use Rattle.omega_text.specs.Cases.{IsMemory};
 ghost use Rattle.omega_automaton.specs.Faults.{has_wrong_proposition as wrong_proposition, is_beyond as beyond, is_misnamed as misnamed, passes, proposition_count as count_of_propositions};
 ghost use Rattle.omega_automaton.specs.Items.{alias_in, first_said, propositions_in};
 ghost use Rattle.omega_automaton.specs.private.layout.Body.{AreCountsOf, IsFoundOfStates};

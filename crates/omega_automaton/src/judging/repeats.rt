@@ -1,7 +1,7 @@
 ghost use Rattle.std.specs.Prelude.{◌≡◌, [], false, map, nat_eq, IfErr, IfOk, IsTrue};
 ghost use Rattle.std.specs.List.{list_any};
 ghost use Rattle.std.specs.Str.{bytes_eq};
-ghost use Rattle.omega_acc.specs.Depth.{IsMemory};
+ghost use Rattle.omega_text.specs.Cases.{IsMemory};
 ghost use Rattle.omega_automaton.specs.Automaton.{has_repeat};
 ghost use Rattle.omega_automaton.specs.Faults.{has_state_twice as state_twice};
 

@@ -1,6 +1,6 @@
 ghost use Rattle.std.specs.Prelude.{◌≡◌, option_and_then, IfErr, IfOk};
 ghost use Rattle.omega_acc.specs.formula.Meaning.{acc_meant};
-ghost use Rattle.omega_acc.specs.Depth.{IsMemory};
+ghost use Rattle.omega_text.specs.Cases.{IsMemory};
 ghost use Rattle.omega_automaton.specs.private.layout.Draft.{IsSoundAcceptance};
 
 use omega_acc::{Acc, RawAcc};

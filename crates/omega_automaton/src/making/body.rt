@@ -1,7 +1,7 @@
 ghost use Rattle.std.specs.Prelude.{◌≡◌, Some, false, length, option_and_then, IfErr, IfOk};
 ghost use Rattle.std.specs.List.{AllZip, flat_map};
 ghost use Rattle.omega_acc.specs.formula.Meaning.{acc_meant};
-ghost use Rattle.omega_acc.specs.Depth.{IsMemory};
+ghost use Rattle.omega_text.specs.Cases.{IsMemory};
 ghost use Rattle.omega_automaton.specs.Automaton.{edges_from};
 ghost use Rattle.omega_automaton.specs.Meaning.{IsStateOf};
 ghost use Rattle.omega_automaton.specs.private.layout.Draft.{IsSoundAcceptance};

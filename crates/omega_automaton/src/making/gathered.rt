@@ -1,6 +1,6 @@
 ghost use Rattle.std.specs.Prelude.{◌≡◌, ◌++◌, [], None, Some, IfErr, OnOk};
 ghost use Rattle.std.specs.Option.{option_or};
-ghost use Rattle.omega_acc.specs.Depth.{IsMemory};
+ghost use Rattle.omega_text.specs.Cases.{IsMemory};
 ghost use Rattle.omega_automaton.specs.private.layout.Gathered.{HasTaken};
 
 use crate::header::Header;

@@ -16,7 +16,8 @@ use Rattle.omega_game.specs.Game.{Node}
 use Rattle.omega_game.specs.Limits.{most_nodes, most_successors}
 use Rattle.omega_game.specs.declared.node_spec.NodeSpec.{NodeSpec}
 use Rattle.omega_empty.specs.Counters.{counters}
-use Rattle.omega_empty.specs.EmptinessGame.{has_branch, span, table}
+use Rattle.omega_automaton.specs.Branching.{has_branch}
+use Rattle.omega_empty.specs.EmptinessGame.{span, table}
 use Rattle.omega_empty.proofs.making.Flat.{IsListed, listed_flat}
 use Rattle.omega_empty.proofs.making.Named.{table_defined}
 use Rattle.omega_empty.proofs.making.Plain.{single_target}

@@ -13,7 +13,7 @@ use Rattle.omega_automaton.specs.Automaton.{BodyEdge, Description, edges_from}
 use Rattle.omega_automaton.specs.declared.edge.Edge.{Edge}
 use Rattle.omega_automaton.specs.declared.state.State.{State}
 use Rattle.omega_empty.specs.Refusing.{HasNarrowLabels, HasWideLabel, IsLabelIn}
-use Rattle.omega_empty.specs.private.layout.Judging.{HasNarrow, HasWide, IsNarrow, IsWide}
+use Rattle.omega_empty.specs.Judging.{HasNarrow, HasWide, IsNarrow, IsWide}
 
 -- an edge that a state lists, as an edge of the body
 contains_from : (state : State) (edges : List Edge) (k : ℕ) (edge : Edge) → k < length edges → edge ≡ get_or edges k edge

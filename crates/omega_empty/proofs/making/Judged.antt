@@ -4,7 +4,7 @@ use Rattle.std.specs.Prelude.{IsTrue, slice_get}
 use Rattle.omega_automaton.specs.Automaton.{BodyEdge, Description, edges_of}
 use Rattle.omega_empty.specs.EmptinessGame.{AreUsable}
 use Rattle.omega_empty.specs.Lasso.{IsUsable}
-use Rattle.omega_empty.specs.private.layout.Judging.{AreJudged}
+use Rattle.omega_empty.specs.Judging.{AreJudged}
 
 -- some edges and then others
 pub judged_on : (xs : List BodyEdge) (us : List Bool) (ys : List BodyEdge) (vs : List Bool) → AreJudged xs us → AreJudged ys vs → AreJudged (xs ++ ys) (us ++ vs)

@@ -13,7 +13,9 @@ use Rattle.omega_automaton.specs.declared.edge.Edge.{Edge}
 use Rattle.omega_automaton.specs.declared.state.State.{State}
 use Rattle.omega_game.specs.Limits.{most_nodes}
 use Rattle.omega_empty.specs.Counters.{counters}
-use Rattle.omega_empty.specs.EmptinessGame.{HasKind, has_branch, span, state_branches}
+use Rattle.omega_automaton.specs.AcceptanceKind.{HasKind}
+use Rattle.omega_automaton.specs.Branching.{has_branch, state_branches}
+use Rattle.omega_empty.specs.EmptinessGame.{span}
 use Rattle.omega_empty.specs.private.layout.Marks.{AreMarksBelow, IsSmall}
 use Rattle.omega_empty.specs.private.layout.Ready.{IsPlainState}
 use Rattle.omega_empty.proofs.making.MarkLists.{count_shallow}

@@ -14,7 +14,8 @@ use Rattle.omega_game.specs.Game.{Node, identifier_at}
 use Rattle.omega_game.specs.Winning.{IsClosedWalk, end_of, greatest_on}
 use Rattle.omega_game.specs.declared.player.Player.TheVariants.{Zero}
 use Rattle.omega_empty.specs.Counters.{counters}
-use Rattle.omega_empty.specs.EmptinessGame.{HasKind, IsEmptinessGame, span, state_id}
+use Rattle.omega_automaton.specs.AcceptanceKind.{HasKind}
+use Rattle.omega_empty.specs.EmptinessGame.{IsEmptinessGame, span, state_id}
 use Rattle.omega_empty.specs.GameLaws.{WonWalksAccept, numbers_on}
 use Rattle.omega_empty.specs.Lasso.{AcceptsFrom, IsAcceptingLasso, IsStart, Leads, marks_at}
 use Rattle.omega_empty.proofs.Counters.{AreWithin, closed_accepts, counter_behind, formula_of, priorities_from}

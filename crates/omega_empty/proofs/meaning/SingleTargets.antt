@@ -3,7 +3,7 @@ use Rattle.std.proofs.Common.{◌≡◌, ℕ, ◌<◌, ◌≤◌, false, List, [
 use Rattle.std.proofs.lemmas.List.Elements.{All-head}
 use Rattle.std.proofs.lemmas.Option.{get_or_from_slice_get, slice_get_within}
 use Rattle.omega_automaton.specs.Automaton.{AreBelow, BodyEdge, Description, IsAutomaton, edge_at, edges_of}
-use Rattle.omega_empty.specs.EmptinessGame.{has_branch}
+use Rattle.omega_automaton.specs.Branching.{has_branch}
 use Rattle.omega_empty.proofs.making.Flat.{IsListed, listed_flat}
 use Rattle.omega_empty.proofs.making.Plain.{single_target}
 use Rattle.omega_empty.proofs.playing.Places.{edge_kept}

@@ -18,7 +18,8 @@ use Rattle.omega_game.specs.declared.player.Player.TheVariants.{Zero, One}
 use Rattle.omega_region.proofs.Pigeonhole.{Repeats, repeats}
 use Rattle.omega_region.specs.Laws.{RegionsCover}
 use Rattle.omega_empty.specs.Counters.{counters}
-use Rattle.omega_empty.specs.EmptinessGame.{HasKind, IsEmptinessGame, span, state_id}
+use Rattle.omega_automaton.specs.AcceptanceKind.{HasKind}
+use Rattle.omega_empty.specs.EmptinessGame.{IsEmptinessGame, span, state_id}
 use Rattle.omega_empty.specs.Lasso.{IsAcceptingLasso, IsStart, Leads, marks_at}
 use Rattle.omega_empty.specs.Laws.{AcceptingLassosAreWon}
 use Rattle.omega_empty.proofs.Counters.{AreWithin, closed_accepts, counter_behind, counter_behind_below, formula_of, priorities_from}

@@ -26,10 +26,16 @@ pub enum TaskFault {
     /// 54: no node of the game has the identifier.
     #[error("no node of the game has the identifier")]
     UnknownNode,
+    /// 55: the automaton would have over 1,048,576 states or over 8,388,608 edges.
+    #[error("the automaton would have over 1048576 states or 8388608 edges")]
+    TooLarge,
+    /// 56: two starts, or two edges of this state that can be taken at one letter.
+    #[error("the automaton is not deterministic at state {0}")]
+    NotDeterministic(usize),
 }
 
 impl TaskFault {
-    ghost use Rattle.omega_text.specs.Refusal.{task_name, task_number};
+    ghost use Rattle.omega_text.specs.Refusal.{task_name, task_number, task_place};
 
     pub(crate) fn number(self) -> u32
         ensures { result ≡ task_number self }
@@ -42,6 +48,8 @@ impl TaskFault {
             TaskFault::Budget => 51,
             TaskFault::BadSolution => 53,
             TaskFault::UnknownNode => 54,
+            TaskFault::TooLarge => 55,
+            TaskFault::NotDeterministic(_) => 56,
         }
     }
 
@@ -56,6 +64,17 @@ impl TaskFault {
             TaskFault::Budget => "Budget",
             TaskFault::BadSolution => "BadSolution",
             TaskFault::UnknownNode => "UnknownNode",
+            TaskFault::TooLarge => "TooLarge",
+            TaskFault::NotDeterministic(_) => "NotDeterministic",
+        }
+    }
+
+    pub(crate) fn at(self) -> Option<usize>
+        ensures { result ≡ task_place self }
+    {
+        match self {
+            TaskFault::NotDeterministic(state) => Some(state),
+            _ => None,
         }
     }
 }

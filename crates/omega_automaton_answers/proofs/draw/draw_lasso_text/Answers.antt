@@ -1,6 +1,6 @@
 -- `draw_lasso_text`: what is drawn or refused is that of the automaton that was read.
 use Rattle.std.proofs.lemmas.Result.{IfErr-weaker, IfOk-weaker}
-use Rattle.omega_automaton_answers.proofs.Refused.{game-refused}
+use Rattle.omega_automaton_answers.proofs.Refused.{search-refused}
 use Rattle.omega_automaton_answers.proofs.draw.draw_lasso_text.Goals as goal
 
 pub returns-clause-answer : goal.returns-clause-answer
@@ -19,5 +19,5 @@ returns-clause-answer c =
 pub returns-clause-refused : goal.returns-clause-refused
 returns-clause-refused c =
     IfErr-weaker c.draw_searched.result _ _
-    (λ refusal h. game-refused c.args.text.items c.in_ok-automaton.automaton refusal c.in_ok-automaton.ensures.automaton h)
+    (λ refusal h. search-refused c.args.text.items c.in_ok-automaton.automaton refusal c.in_ok-automaton.ensures.automaton h)
     c.draw_searched.ensures.refused

@@ -5,7 +5,7 @@ use Rattle.std.proofs.lemmas.Result.{err_from_is_err_and}
 use Rattle.std.proofs.lemmas.List.Elements.{at_read}
 use Rattle.omega_automaton.specs.Automaton.{BodyEdge, edges_from}
 use Rattle.omega_automaton.specs.declared.edge.Edge.{Edge}
-use Rattle.omega_empty.specs.private.layout.Judging.{AreJudged, IsNarrow}
+use Rattle.omega_empty.specs.Judging.{AreJudged, IsNarrow}
 use Rattle.omega_empty.proofs.making.Flat.{wide_edge_refused}
 use Rattle.omega_empty.proofs.making.Judged.{judged_on, judged_one}
 use Rattle.omega_empty.proofs.making.Rows.{edges_take}

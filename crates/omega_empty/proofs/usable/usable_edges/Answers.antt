@@ -8,7 +8,7 @@ use Rattle.std.proofs.lemmas.List.Elements.{at_read}
 use Rattle.omega_automaton.specs.Automaton.{BodyEdge, edges_from}
 use Rattle.omega_automaton.specs.declared.state.State.{State}
 use Rattle.omega_empty.specs.Refusing.{HasWideLabel}
-use Rattle.omega_empty.specs.private.layout.Judging.{AreJudged, HasNarrow, HasWide}
+use Rattle.omega_empty.specs.Judging.{AreJudged, HasNarrow, HasWide}
 use Rattle.omega_empty.proofs.making.Flat.{narrow_labels, wide_label, wide_refused}
 use Rattle.omega_empty.proofs.making.Judged.{judged_on, judged_usable}
 use Rattle.omega_empty.proofs.making.Ranges.{flat_more}

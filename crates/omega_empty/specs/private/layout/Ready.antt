@@ -6,7 +6,9 @@ use Rattle.omega_automaton.specs.declared.edge.Edge.{Edge}
 use Rattle.omega_automaton.specs.declared.state.State.{State}
 use Rattle.omega_game.specs.Limits.{most_nodes}
 use Rattle.omega_empty.specs.Counters.{counters}
-use Rattle.omega_empty.specs.EmptinessGame.{AreUsable, HasKind, has_branch, span}
+use Rattle.omega_automaton.specs.AcceptanceKind.{HasKind}
+use Rattle.omega_automaton.specs.Branching.{has_branch}
+use Rattle.omega_empty.specs.EmptinessGame.{AreUsable, span}
 use Rattle.omega_empty.specs.declared.edge_ranges.EdgeRange.{EdgeRange}
 use Rattle.omega_empty.specs.private.layout.Marks.{AreMarksBelow, IsSmall}
 use Rattle.omega_empty.specs.private.layout.Ranges.{AreRanges}

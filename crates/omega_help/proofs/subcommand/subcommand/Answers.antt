@@ -9,7 +9,7 @@ use Rattle.omega_help.proofs.subcommand.subcommand.Goals as goal
 
 pub loop-option-init : goal.loop-option-init
 loop-option-init c =
-    let start : app_of c.after_help-command.result ≡ new_app c.args.name.now = search rules in
+    let start : app_of c.after_long_help-command.result ≡ new_app c.args.name.now = search rules in
     rw start (rules_added (new_app c.args.name.now) (map rule_for c.args.options.now))
 
 pub loop-option-preserved : goal.loop-option-preserved

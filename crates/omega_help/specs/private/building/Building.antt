@@ -2,7 +2,7 @@
 use Rattle.std.specs.Prelude.{List, [], ◌∷◌, true, codes}
 use Rattle.clap.specs.Simple.{new_shape}
 use Rattle.clap.specs.Words.{App, Rule, Shape, Text, with_rule, with_subcommand}
-use Rattle.omega_help.specs.Program.{canon, check, draw, empty, flag, game, optional, required, show, solve, verify}
+use Rattle.omega_help.specs.Program.{canon, check, draw, empty, flag, game, operand, optional, required, show, solve, verify}
 use Rattle.omega_help.specs.declared.options.OptionHelp.{OptionHelp}
 use Rattle.omega_help.specs.declared.options.Value.{Value}
 use Rattle.omega_help.specs.declared.options.Value.TheVariants as value
@@ -14,6 +14,7 @@ abbrev pub rule_by : Value → Text → Rule
 rule_by value.None name = flag name
 rule_by (value.Optional shown) name = optional name
 rule_by (value.Required shown) name = required name
+rule_by (value.Operand shown) name = operand name
 
 -- the option that help shows so
 abbrev pub rule_for : OptionHelp → Rule

@@ -1,6 +1,6 @@
 -- The states of a conj are those that were written.
 use Rattle.std.proofs.Common.{Ok, sym, ap, subst, ◌∙◌, ◌∷◌}
-use Rattle.omega_acc.specs.Depth.{IsMemory}
+use Rattle.omega_text.specs.Cases.{IsMemory}
 use Rattle.omega_raw.proofs.FollowLemmas.{all_any, joined_end}
 use Rattle.omega_raw.proofs.RowLemmas.{conj_found, conj_given}
 use Rattle.omega_raw.proofs.SpellingLemmas.{error_found}

@@ -2,7 +2,7 @@
 use Rattle.std.proofs.Common.{rules, true, []}
 use Rattle.std.proofs.Common.{◌≡◌, refl, sym, subst, ◌∙◌}
 use Rattle.std.specs.List.{AllByRecursion}
-use Rattle.omega_acc.specs.Depth.{IsMemory}
+use Rattle.omega_text.specs.Cases.{IsMemory}
 use Rattle.omega_raw.proofs.PartLemmas.{IsPart, IsReadTo, read_all, read_failed, read_more, read_none}
 use Rattle.omega_raw.proofs.SpellingLemmas.{error_found, shorter}
 use Rattle.omega_raw.specs.Grammar.{each}

@@ -1,6 +1,6 @@
 -- One edge more is read, or none stands there any more.
 use Rattle.std.proofs.Common.{◌≡◌, rules, true, [], refl, sym, subst}
-use Rattle.omega_acc.specs.Depth.{IsMemory}
+use Rattle.omega_text.specs.Cases.{IsMemory}
 use Rattle.omega_raw.proofs.PartLemmas.{IsPart, IsReadTo, read_all, read_failed, read_more, read_none}
 use Rattle.omega_raw.proofs.SpellingLemmas.{error_found, shorter}
 use Rattle.omega_raw.specs.private.steps.Reading.{EndsList}

@@ -1,8 +1,10 @@
 -- `respond`: where nothing is lifted nothing is told, and else what the answer to the text that was read tells.
+use Rattle.std.proofs.Common.{sym}
 use Rattle.omega_io.specs.Failures.{IsTransferRefusal}
 use Rattle.omega_budget.proofs.Watched.{none_watched, spares, watched_alike}
 use Rattle.omega_run.proofs.Counted.{file_counted, of_all, stream_counted, text_counted}
 use Rattle.omega_run.proofs.Lifted.{file_watched, stream_watched, text_watched}
+use Rattle.omega_run.proofs.TwoTexts.{about_refuses}
 use Rattle.omega_run.proofs.respond.respond.Goals as goal
 
 pub returns-in_err-show_stream-in-Stream-Show-clause-told : goal.returns-in_err-show_stream-in-Stream-Show-clause-told
@@ -39,21 +41,6 @@ returns-in_ok-made-in-Text-clause-told g c =
     text_watched _ _ _ _ _ _ _ _ _ _ _ c.kind_of.ensures c.in-Text.is
     (rw c.in_ok-made-in-Text.was at c.answer.ensures.told _ _ c.in_ok-text-in-Text.ensures.read)
 
-pub returns-in_err-solution-in-File-Verify-clause-told : goal.returns-in_err-solution-in-File-Verify-clause-told
-returns-in_err-solution-in-File-Verify-clause-told g c = file_watched _ _ _ _ _ _ _ _ _ _ c.kind_of.ensures c.in-File-Verify.is
-
-pub returns-in_ok-solution-in-File-Verify-clause-told : goal.returns-in_ok-solution-in-File-Verify-clause-told
-returns-in_ok-solution-in-File-Verify-clause-told g c = file_watched _ _ _ _ _ _ _ _ _ _ c.kind_of.ensures c.in-File-Verify.is
-
-pub returns-in_err-game-in-File-DrawSolution-clause-told : goal.returns-in_err-game-in-File-DrawSolution-clause-told
-returns-in_err-game-in-File-DrawSolution-clause-told g c = file_watched _ _ _ _ _ _ _ _ _ _ c.kind_of.ensures c.in-File-DrawSolution.is
-
-pub returns-in_err-made-in-File-DrawSolution-clause-told : goal.returns-in_err-made-in-File-DrawSolution-clause-told
-returns-in_err-made-in-File-DrawSolution-clause-told g c = file_watched _ _ _ _ _ _ _ _ _ _ c.kind_of.ensures c.in-File-DrawSolution.is
-
-pub returns-in_ok-made-in-File-DrawSolution-clause-told : goal.returns-in_ok-made-in-File-DrawSolution-clause-told
-returns-in_ok-made-in-File-DrawSolution-clause-told g c = file_watched _ _ _ _ _ _ _ _ _ _ c.kind_of.ensures c.in-File-DrawSolution.is
-
 pub returns-in_ok-show_stream-in-Stream-Show-clause-printed : goal.returns-in_ok-show_stream-in-Stream-Show-clause-printed
 returns-in_ok-show_stream-in-Stream-Show-clause-printed g c = stream_counted _ _ _ _ _ _ _ _ _ _ c.kind_of.ensures _ c.in-Stream-Show.is
 
@@ -68,9 +55,12 @@ returns-in_ok-made-in-Text-clause-printed g c =
     text_counted _ _ _ _ _ _ _ _ _ _ c.kind_of.ensures _ c.in-Text.is
     (rw c.in_ok-made-in-Text.was at c.answer.ensures.printed _ _ c.in_ok-text-in-Text.ensures.read)
 
-pub returns-in_ok-solution-in-File-Verify-clause-printed : goal.returns-in_ok-solution-in-File-Verify-clause-printed
-returns-in_ok-solution-in-File-Verify-clause-printed g c =
-    of_all c.verify_solution.result _ (λ made. file_counted _ _ _ _ _ _ _ _ _ _ c.kind_of.ensures _ c.in-File-Verify.is)
+pub returns-in-Ok-clause-told : goal.returns-in-Ok-clause-told
+returns-in-Ok-clause-told g c = file_watched _ _ _ _ _ _ _ _ _ _ c.kind_of.ensures c.in-File.is
 
-pub returns-in_ok-made-in-File-DrawSolution-clause-printed : goal.returns-in_ok-made-in-File-DrawSolution-clause-printed
-returns-in_ok-made-in-File-DrawSolution-clause-printed g c = file_counted _ _ _ _ _ _ _ _ _ _ c.kind_of.ensures _ c.in-File-DrawSolution.is
+pub returns-in-Err-clause-told : goal.returns-in-Err-clause-told
+returns-in-Err-clause-told g c = file_watched _ _ _ _ _ _ _ _ _ _ c.kind_of.ensures c.in-File.is
+
+pub returns-in-Err-clause-refused : goal.returns-in-Err-clause-refused
+returns-in-Err-clause-refused g c =
+    rw (sym c.kind_of.ensures, c.in-File.is) (about_refuses c.in-File.command c.args.budget _ _ _ _ c.in-Err.ensures.refused)

@@ -3,7 +3,7 @@ use Rattle.std.proofs.Common.{◌∙◌}
 use Rattle.clap.proofs.WalkLemmas.{first_value-rows}
 use Rattle.clap.specs.Words.{found_of}
 use Rattle.omega_words.specs.Found.{id_of}
-use Rattle.omega_command.specs.declared.options.OptionName.TheVariants.{Format, Player, From, Budget, Search, Game, Explain, Solution, Lasso, Progress}
+use Rattle.omega_command.specs.declared.options.OptionName.TheVariants.{Budget, Explain, File, Format, From, Game, Lasso, Player, Progress, Search, Solution}
 use Rattle.omega_words.proofs.found.options_in.Goals as goal
 
 pub returns : goal.returns
@@ -17,3 +17,4 @@ returns c Explain = c.get_str-7.ensures ∙ first_value-rows (found_of c.args.fo
 returns c Solution = c.get_str-8.ensures ∙ first_value-rows (found_of c.args.found.now) (id_of Solution)
 returns c Lasso = c.get_str-9.ensures ∙ first_value-rows (found_of c.args.found.now) (id_of Lasso)
 returns c Progress = c.get_str-10.ensures ∙ first_value-rows (found_of c.args.found.now) (id_of Progress)
+returns c File = c.get_str-11.ensures ∙ first_value-rows (found_of c.args.found.now) (id_of File)

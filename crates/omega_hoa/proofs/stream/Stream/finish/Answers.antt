@@ -2,7 +2,7 @@
 use Rattle.std.proofs.Common.{◌≡◌, ◌+◌, ◌∙◌, None, ap, length, sym, subst, arith}
 use Rattle.omega_hoa.specs.Feeding.{IsDivided, IsFed, IsTaken}
 use Rattle.omega_hoa.specs.Kept.{Kept}
-use Rattle.omega_hoa.proofs.Feeds.{answered_before, answered_now, answered_of, known_divided, known_lexemes, known_of, known_read, taken_of}
+use Rattle.omega_hoa.proofs.Feeds.{answered_before, answered_now, answered_of, kept_is_no_memory, known_divided, known_lexemes, known_of, known_read, taken_of}
 use Rattle.omega_hoa.proofs.Ones.{err_says, ok_says}
 use Rattle.omega_hoa.proofs.stream.Stream.finish.Goals as goal
 
@@ -14,7 +14,7 @@ returns-then-self-clause-refused c = λ none seen items fed.
     let known = known_of kept c.self.inside.tokenizer c.in-None.is c.self.invariant in
     let exact = c.goes_on_one_way.ensures in
     let lexemes = known_lexemes exact seen items kept c.self.inside.tokenizer taken known in
-    c.end_inside.ensures seen lexemes items kept.begins all (record {
+    c.end_inside.ensures.refused seen lexemes items kept.begins all (record {
       divided = subst (IsDivided seen lexemes items kept.begins) c.if-self.true (known_divided exact seen items kept c.self.inside.tokenizer taken known);
       finished = c.finish-settled.ensures.finishes seen lexemes (known_read exact seen items kept c.self.inside.tokenizer taken known);
     })
@@ -59,3 +59,6 @@ pub returns-clause-answered : goal.returns-clause-answered
 returns-clause-answered c = λ seen items fed.
     let none : c.args.self.refused ≡ None = sym (ap (λ kept. kept.refused) c.self.view_is) ∙ c.in-None.is in
     answered_of c.end_outside.result seen items c.args.self none fed (returns-clause-ok c) (returns-clause-refused c none)
+
+pub returns-in-Some-clause-memory : goal.returns-in-Some-clause-memory
+returns-in-Some-clause-memory c = kept_is_no_memory _ c.self.inside.tokenizer c.in-Some.refusal c.in-Some.is c.self.invariant

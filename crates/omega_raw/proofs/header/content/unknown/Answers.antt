@@ -1,6 +1,6 @@
 -- The values of an unknown header are those that were written.
 use Rattle.std.proofs.Common.{Ok, refl, sym, ap, subst, ◌∙◌}
-use Rattle.omega_acc.specs.Depth.{IsMemory}
+use Rattle.omega_text.specs.Cases.{IsMemory}
 use Rattle.omega_raw.proofs.ContentLemmas.{unknown_finds}
 use Rattle.omega_raw.proofs.FollowLemmas.{all_any, values_end}
 use Rattle.omega_raw.proofs.SpellingLemmas.{error_found}

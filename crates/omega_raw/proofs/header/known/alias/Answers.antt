@@ -1,6 +1,6 @@
 -- The name and the definition of an alias are those that were written.
 use Rattle.std.proofs.Common.{Ok, sym, ap, subst, ◌∙◌, ◌∷◌}
-use Rattle.omega_acc.specs.Depth.{IsMemory}
+use Rattle.omega_text.specs.Cases.{IsMemory}
 use Rattle.omega_raw.proofs.ContentLemmas.{alias_found}
 use Rattle.omega_raw.proofs.SpellingLemmas.{error_found, token_taken}
 use Rattle.omega_raw.specs.Symbols.{alias, label}

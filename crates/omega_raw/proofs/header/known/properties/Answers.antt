@@ -1,6 +1,6 @@
 -- What is read behind the header is what was written.
 use Rattle.std.proofs.Common.{Ok, refl, sym, ap, subst}
-use Rattle.omega_acc.specs.Depth.{IsMemory}
+use Rattle.omega_text.specs.Cases.{IsMemory}
 use Rattle.omega_raw.proofs.ContentLemmas.{properties_found}
 use Rattle.omega_raw.proofs.FollowLemmas.{all_any, words_end}
 use Rattle.omega_raw.proofs.SpellingLemmas.{error_found}

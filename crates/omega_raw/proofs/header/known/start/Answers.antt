@@ -1,6 +1,6 @@
 -- The states behind the header are those that were written.
 use Rattle.std.proofs.Common.{Ok, refl, sym, ap, subst}
-use Rattle.omega_acc.specs.Depth.{IsMemory}
+use Rattle.omega_text.specs.Cases.{IsMemory}
 use Rattle.omega_raw.proofs.ContentLemmas.{start_found}
 use Rattle.omega_raw.proofs.FollowLemmas.{start_ends}
 use Rattle.omega_raw.proofs.SpellingLemmas.{error_found}

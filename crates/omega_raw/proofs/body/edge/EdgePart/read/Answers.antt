@@ -1,6 +1,6 @@
 -- The edge that is read is the one that was written.
 use Rattle.std.proofs.Common.{sym, subst}
-use Rattle.omega_acc.specs.Depth.{IsMemory}
+use Rattle.omega_text.specs.Cases.{IsMemory}
 use Rattle.omega_raw.proofs.FollowLemmas.{some_any, guard_ends, targets_end, sig_ends}
 use Rattle.omega_raw.proofs.RowLemmas.{edge_same}
 use Rattle.omega_raw.proofs.SpellingLemmas.{error_found}

@@ -1,6 +1,6 @@
 -- The label of a part is the one that was written.
 use Rattle.std.proofs.Common.{sym, subst, ◌∷◌}
-use Rattle.omega_acc.specs.Depth.{IsMemory}
+use Rattle.omega_text.specs.Cases.{IsMemory}
 use Rattle.omega_raw.proofs.SpellingLemmas.{error_found}
 use Rattle.omega_raw.specs.Symbols.{label, sign}
 use Rattle.omega_text.specs.declared.hoa.kind.HoaKind.TheVariants as kind

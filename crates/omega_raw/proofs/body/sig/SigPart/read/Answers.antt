@@ -1,6 +1,6 @@
 -- The sets of a part are those that were written.
 use Rattle.std.proofs.Common.{refl, sym, subst, ◌∷◌}
-use Rattle.omega_acc.specs.Depth.{IsMemory}
+use Rattle.omega_text.specs.Cases.{IsMemory}
 use Rattle.omega_raw.proofs.FollowLemmas.{all_any}
 use Rattle.omega_raw.proofs.SpellingLemmas.{error_found}
 use Rattle.omega_raw.specs.Symbols.{sign}

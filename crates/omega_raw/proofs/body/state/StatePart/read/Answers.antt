@@ -1,6 +1,6 @@
 -- The state that is read is the one that was written.
 use Rattle.std.proofs.Common.{refl, sym, subst, ◌∷◌}
-use Rattle.omega_acc.specs.Depth.{IsMemory}
+use Rattle.omega_text.specs.Cases.{IsMemory}
 use Rattle.omega_raw.proofs.FollowLemmas.{some_any, sig_ends, edges_end, edges_begin, name_ends}
 use Rattle.omega_raw.proofs.RowLemmas.{state_same}
 use Rattle.omega_raw.proofs.SpellingLemmas.{error_found}

@@ -1,6 +1,6 @@
 -- The item that is read is the one that was written.
 use Rattle.std.proofs.Common.{sym, subst, ◌∙◌}
-use Rattle.omega_acc.specs.Depth.{IsMemory}
+use Rattle.omega_text.specs.Cases.{IsMemory}
 use Rattle.omega_raw.proofs.PartLemmas.{given_then}
 use Rattle.omega_raw.proofs.SpellingLemmas.{error_found, missing_memory, token_taken}
 use Rattle.omega_raw.specs.Grammar.{content_row, item_name}

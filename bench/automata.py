@@ -1,0 +1,163 @@
+"""Families of omega-automata for the benchmark, each a function from its sizes to a text of the Hanoi format."""
+import random
+
+from families import DEFAULT_SEED
+
+# How many pairs, or parts, the acceptance of the families for the search has.
+PAIRS = 8
+
+
+def header(states, propositions, acceptance, sets, name=None):
+    """The header of an automaton that begins in state 0."""
+    names = "".join(f' "p{at}"' for at in range(propositions))
+    named = f"acc-name: {name}\n" if name else ""
+    return (f"HOA: v1\nStates: {states}\nStart: 0\nAP: {propositions}{names}\n{named}"
+            f"Acceptance: {sets} {acceptance}\n--BODY--\n")
+
+
+def body(rows):
+    """States by their marks and their edges, each a label or none, a target and marks."""
+    out = []
+    for state, (marks, edges) in enumerate(rows):
+        out.append(f"State: {state}{marked(marks)}\n")
+        out += [f"{'' if label is None else f'[{label}] '}{target}{marked(sets)}\n" for label, target, sets in edges]
+    return "".join(out) + "--END--\n"
+
+
+def marked(sets):
+    """Sets as they stand behind a state or an edge."""
+    return f" {{{' '.join(map(str, sets))}}}" if sets else ""
+
+
+def valuation(draw, propositions):
+    """A label that says of each proposition whether it holds."""
+    return "&".join(f"{'!' if draw.randrange(2) else ''}{at}" for at in range(propositions)) or "t"
+
+
+def expression(draw, propositions, atoms):
+    """A random label of so many atoms."""
+    if atoms == 1:
+        return f"{'!' if draw.randrange(3) == 0 else ''}{draw.randrange(propositions)}"
+    left = 1 + draw.randrange(atoms - 1)
+    parts = (expression(draw, propositions, count) for count in (left, atoms - left))
+    joined = (" & " if draw.randrange(2) else " | ").join(parts)
+    return f"{'!' if draw.randrange(6) == 0 else ''}({joined})"
+
+
+def buchi(states, edges=4, propositions=4, seed=DEFAULT_SEED):
+    """Büchi acceptance by states, one in eight; labels are whole valuations."""
+    draw = random.Random(seed)
+    return header(states, propositions, "Inf(0)", 1, "Buchi") + body(
+        ([0] if draw.randrange(8) == 0 else [],
+         [(valuation(draw, propositions), draw.randrange(states), []) for _ in range(edges)])
+        for _ in range(states)
+    )
+
+
+def labels(states, edges=4, propositions=12, atoms=24, seed=DEFAULT_SEED):
+    """Büchi acceptance by edges, one in six; labels are random expressions."""
+    draw = random.Random(seed)
+    return header(states, propositions, "Inf(0)", 1, "Buchi") + body(
+        ([], [(expression(draw, propositions, atoms), draw.randrange(states), [0] if draw.randrange(6) == 0 else [])
+              for _ in range(edges)])
+        for _ in range(states)
+    )
+
+
+def implicit(states, propositions=4, seed=DEFAULT_SEED):
+    """Co-Büchi acceptance by edges, one in five, and an edge without a label for each valuation."""
+    draw = random.Random(seed)
+    return header(states, propositions, "Fin(0)", 1, "co-Buchi") + body(
+        ([], [(None, draw.randrange(states), [0] if draw.randrange(5) == 0 else []) for _ in range(2**propositions)])
+        for _ in range(states)
+    )
+
+
+def parity_formula(sets):
+    """`parity max even` of so many sets."""
+    formula = "Inf(0)" if sets else "f"
+    for at in range(1, sets):
+        formula = f"{'Fin' if at % 2 else 'Inf'}({at}) {'&' if at % 2 else '|'} ({formula})"
+    return formula
+
+
+def parity(states, edges=4, sets=8, seed=DEFAULT_SEED):
+    """Parity acceptance, with up to two marks on each edge."""
+    draw = random.Random(seed)
+    return header(states, 2, parity_formula(sets), sets, f"parity max even {sets}") + body(
+        ([], [(valuation(draw, 2), draw.randrange(states),
+               sorted({draw.randrange(sets) for _ in range(draw.randrange(3) if sets else 0)})) for _ in range(edges)])
+        for _ in range(states)
+    )
+
+
+def aliases(states, depth=15, seed=DEFAULT_SEED):
+    """Definitions each of which stands for twice the one before it."""
+    draw = random.Random(seed)
+    definitions = "Alias: @a0 0 & 1\n" + "".join(f"Alias: @a{at} @a{at - 1} & @a{at - 1}\n" for at in range(1, depth))
+    text = header(states, 4, "Inf(0)", 1, "Buchi").replace("acc-name", f"{definitions}acc-name", 1)
+    return text + body(([0], [(f"@a{depth - 1}", draw.randrange(states), [])]) for _ in range(states))
+
+
+def stream(count, seed=DEFAULT_SEED):
+    """So many small automata, of up to six states."""
+    draw = random.Random(seed)
+    return "".join(parity(1 + draw.randrange(6), 1 + draw.randrange(3), draw.randrange(5), draw.random())
+                   for _ in range(count))
+
+
+def without_lasso(states, sets_of, acceptance, sets, name=None, seed=DEFAULT_SEED):
+    """Two edges leave each state, without labels, and the automaton is one component for the most part. The marks of
+    an edge are those of the pair that is drawn for it."""
+    draw = random.Random(seed)
+    return header(states, 0, acceptance, sets, name) + body(
+        ([], [("t", draw.randrange(states), sets_of(draw.randrange(4 * PAIRS))) for _ in range(2)])
+        for _ in range(states)
+    )
+
+
+def rabin(states):
+    """Each edge of a set that must come again and again bears the set of its pair that must not: each pair is tried,
+    and none accepts."""
+    formula = " | ".join(f"(Fin({2 * at}) & Inf({2 * at + 1}))" for at in range(PAIRS))
+    return without_lasso(states, lambda at: [2 * at, 2 * at + 1] if at < PAIRS else [], formula, 2 * PAIRS,
+                         f"Rabin {PAIRS}")
+
+
+def streett(states):
+    """The first pair forbids its edges, and with them goes all that the second one needs, and so on: a round a pair.
+    What is left accepts."""
+    formula = " & ".join(f"(Fin({2 * at}) | Inf({2 * at + 1}))" for at in range(PAIRS))
+
+    def sets_of(at):
+        if at >= PAIRS:
+            return []
+        return [2 * at, 2 * at + 3] if at + 1 < PAIRS else [2 * at]
+
+    return without_lasso(states, sets_of, formula, 2 * PAIRS, f"Streett {PAIRS}")
+
+
+def generalized_rabin(states):
+    """Each part wants two sets again and again, and one of them comes only with the set that it must not have."""
+    formula = " | ".join(f"(Fin({3 * at}) & Inf({3 * at + 1}) & Inf({3 * at + 2}))" for at in range(PAIRS))
+
+    def sets_of(at):
+        if at >= 2 * PAIRS:
+            return []
+        return [3 * at, 3 * at + 1] if at < PAIRS else [3 * (at - PAIRS) + 2]
+
+    return without_lasso(states, sets_of, formula, 3 * PAIRS, f"generalized-Rabin {PAIRS} {' '.join(['2'] * PAIRS)}")
+
+
+# name: (what is measured with it, the text of a quick run, the text of a full run)
+AUTOMATA = {
+    "buchi": ("emptiness", lambda: buchi(10000), lambda: buchi(50000)),
+    "labels": ("emptiness", lambda: labels(1000), lambda: labels(8000)),
+    "implicit": ("emptiness", lambda: implicit(2000), lambda: implicit(20000)),
+    "parity": ("automata", lambda: parity(10000), lambda: parity(50000)),
+    "aliases": ("automata", lambda: aliases(20), lambda: aliases(100)),
+    "stream": ("automata", lambda: stream(2000), lambda: stream(20000)),
+    "rabin": ("search", lambda: rabin(20000), lambda: rabin(200000)),
+    "streett": ("search", lambda: streett(20000), lambda: streett(200000)),
+    "generalized-rabin": ("search", lambda: generalized_rabin(20000), lambda: generalized_rabin(200000)),
+}

@@ -1,0 +1,8 @@
+-- Lemmas of the search for a lasso: flags and numbers, the graph of an automaton, walks in it and lassos.
+pub mod Names
+pub mod Flags
+pub mod Listed
+pub mod Edges
+pub mod Walks
+pub mod Lassos
+pub mod Entering

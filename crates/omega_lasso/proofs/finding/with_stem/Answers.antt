@@ -1,0 +1,33 @@
+-- the stem leads to the cycle
+use Rattle.std.proofs.Common.{List, ℕ, get_or, sym, subst}
+use Rattle.omega_components.specs.Graph.{Shape, edge_at, listed}
+use Rattle.omega_components.specs.Reaching.{IsReached, IsWalkFrom}
+use Rattle.omega_accepting.specs.Rows.{row_at}
+use Rattle.omega_lasso.proofs.Lassos.{first_inside, is_lasso, seen}
+use Rattle.omega_lasso.proofs.finding.with_stem.Goals as goal
+
+pub from-target-requires : goal.from-target-requires
+from-target-requires c = first_inside c.requires.ready c.args.cycle.now c.requires.cycle.accepting
+
+pub unreachable-requires : goal.unreachable-requires
+unreachable-requires c =
+    let rows : List (List ℕ) = c.args.search.now.marks.now in
+    let graph : Shape = c.args.search.now.graph.now in
+    let sources : List ℕ = c.args.search.now.sources.now in
+    let edges : List ℕ = c.args.search.now.edges.now in
+    let none = rw c.in-None.is at c.in_ok-path.ensures.none in
+    none (row_at rows) (subst (IsReached (seen rows graph) (listed edges) sources) (sym c.from-target.ensures.from) c.requires.cycle.reached)
+
+pub returns-clause-verdict : goal.returns-clause-verdict
+returns-clause-verdict c =
+    let rows : List (List ℕ) = c.args.search.now.marks.now in
+    let graph : Shape = c.args.search.now.graph.now in
+    let sources : List ℕ = c.args.search.now.sources.now in
+    let edges : List ℕ = c.args.search.now.edges.now in
+    let stem : List ℕ = c.as_slice.result.now in
+    let target : ℕ = (edge_at graph (get_or c.args.cycle.now 0 0)).from in
+    let walk = rw c.in-Some.is at c.in_ok-path.ensures.walk in
+    let way : IsWalkFrom (seen rows graph) (listed edges) sources stem target =
+    subst (λ (xs : List ℕ). IsWalkFrom (seen rows graph) (listed edges) sources xs target) (sym c.as_slice.ensures.value)
+    (subst (IsWalkFrom (seen rows graph) (listed edges) sources c.in-Some.stem.items) c.from-target.ensures.from (walk (row_at rows))) in
+    c.turned.ensures.verdict c.args.search.now.automaton.now (is_lasso c.requires.ready stem c.args.cycle.now c.requires.cycle.accepting way)

@@ -1,0 +1,5 @@
+-- A search for an accepting lasso: what public contracts cite.
+pub use Rattle.omega_text.specs.Cases
+pub use Rattle.omega_text.specs.Refusal
+pub mod Searching
+pub mod private

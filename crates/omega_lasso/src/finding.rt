@@ -1,0 +1,115 @@
+//! An accepting lasso of any acceptance formula, found by a search of the automaton itself.
+ghost use Rattle.std.specs.Prelude.{◌≡◌, false, IfErr, IfOk, IsOkUnless, OnOk, filter, length, slice_index_or};
+ghost use Rattle.omega_automaton.specs.Branching.{has_branch};
+ghost use Rattle.omega_components.specs.Graph.{AreEdges, edge_at};
+ghost use Rattle.omega_empty.specs.Verdict.{IsVerdict};
+ghost use Rattle.omega_lasso.specs.Searching.{IsSearchRefusal, IsSearchable};
+ghost use Rattle.omega_lasso.specs.private.Searched.{AreUsableEdges, IsReachedCycle, IsSearch};
+
+use crate::edge_table::edge_table;
+use crate::numbering::number_states;
+use crate::search::Search;
+use crate::turning::turned;
+use crate::usable::usable_edges;
+use omega_accepting::accepting_walk;
+use omega_automaton::{Automaton, Refusal, has_branch};
+use omega_components::{Graph, path, reached};
+use omega_empty::Verdict;
+use omega_text::TaskFault;
+use std::alloc::Global;
+
+/// Whether an automaton is empty, or an accepting lasso, whatever its acceptance formula and its name. Refused are, the
+/// first by number: 41 (a start or an edge lists several states), 42 (a label mentions over 12 propositions, and
+/// `can_be_true` gave it up), or 60. The cost is that of `can_be_true` for each label, and of `accepting_walk` in the
+/// usable edges that a start reaches.
+pub fn lasso(alloc: Global, automaton: &Automaton) -> Result<Verdict, Refusal>
+    ensures verdict { IfOk result (IsVerdict automaton.now) }
+    ensures given { OnOk result (IsSearchable automaton.now) }
+    ensures refused { IfErr result (IsSearchRefusal automaton.now) }
+{
+    if has_branch(automaton) {
+        return Err(Refusal::Task(TaskFault::UniversalBranch));
+    }
+    let edges = usable_edges(alloc, automaton)?;
+    let verdict = searched(alloc, automaton, edges.as_slice())?;
+    Ok(verdict)
+}
+
+/// The verdict of an automaton whose usable edges are told. 60 alone.
+fn searched(alloc: Global, automaton: &Automaton, edges: &[u32]) -> Result<Verdict, Refusal>
+    requires plain { has_branch automaton.now ≡ false }
+    requires usable { AreUsableEdges automaton.now edges.now }
+    ensures verdict { IfOk result (IsVerdict automaton.now) }
+    ensures memory { IsOkUnless result Refusal.Memory }
+{
+    automaton.keeps_limits();
+    let table = edge_table(alloc, automaton)?;
+    let marks = table.marks.as_slice();
+    let numbered = number_states(alloc, automaton, table.ends.as_slice())?;
+    let sources = numbered.sources.as_slice();
+    let search = Search {
+        automaton,
+        marks,
+        graph: &numbered.graph,
+        sources,
+        edges,
+    };
+    let verdict = found_in(alloc, &search)?;
+    Ok(verdict)
+}
+
+/// The verdict of a search: the closed walks are sought among the usable edges that a source reaches. 60 alone.
+fn found_in(alloc: Global, search: &Search<'_>) -> Result<Verdict, Refusal>
+    requires { IsSearch search.now.automaton.now search.now.marks.now search.now.graph.now search.now.sources.now search.now.edges.now }
+    ensures verdict { IfOk result (IsVerdict search.now.automaton.now) }
+    ensures memory { IsOkUnless result Refusal.Memory }
+{
+    let states = reached(alloc, search.graph, search.edges, search.sources)?;
+    let flags = states.as_slice();
+    let edges = leaving(alloc, search.graph, search.edges, flags)?;
+    let kept = edges.as_slice();
+    let formula = search.automaton.acceptance().shape(alloc)?;
+    let found = accepting_walk(alloc, search.graph, search.marks, kept, &formula)?;
+    match found {
+        None => Ok(Verdict::Empty),
+        Some(cycle) => {
+            let walk = cycle.as_slice();
+            with_stem(alloc, search, walk)
+        }
+    }
+}
+
+/// The lasso of a closed walk that accepts, with a shortest stem to it. 60 alone.
+fn with_stem(alloc: Global, search: &Search<'_>, cycle: &[u32]) -> Result<Verdict, Refusal>
+    requires ready { IsSearch search.now.automaton.now search.now.marks.now search.now.graph.now search.now.sources.now search.now.edges.now }
+    requires cycle { IsReachedCycle search.now.automaton.now search.now.marks.now search.now.graph.now search.now.sources.now search.now.edges.now cycle.now }
+    ensures verdict { IfOk result (IsVerdict search.now.automaton.now) }
+    ensures memory { IsOkUnless result Refusal.Memory }
+{
+    let target = search.graph.from(cycle[0]);
+    match path(alloc, search.graph, search.edges, search.sources, target)? {
+        None => unreachable!(),
+        Some(stem) => turned(alloc, stem.as_slice(), cycle),
+    }
+}
+
+/// Those of some edges that leave a state with a flag. 60 alone.
+fn leaving(
+    alloc: Global,
+    graph: &Graph,
+    numbers: &[u32],
+    states: &[bool],
+) -> Result<Vec<u32>, Refusal>
+    requires edges { AreEdges graph.now numbers.now }
+    requires states { length states.now ≡ graph.now.states }
+    ensures left { IfOk result (λ edges. edges.items ≡ filter (λ number. slice_index_or states.now (edge_at graph.now number).from false) numbers.now) }
+    ensures memory { IsOkUnless result Refusal.Memory }
+{
+    let mut edges = Vec::new(alloc);
+    for number in numbers {
+        if states[graph.from(*number) as usize] {
+            edges.push(*number)?;
+        }
+    }
+    Ok(edges)
+}

@@ -1,0 +1,13 @@
+//! Emptiness of automata of any acceptance: an accepting lasso, found by a search of the automaton itself.
+#![tactic(auto)]
+
+mod edge_table;
+mod finding;
+mod numbering;
+mod search;
+mod turning;
+mod usable;
+
+pub use finding::lasso;
+pub use omega_automaton::{Automaton, Refusal};
+pub use omega_empty::Verdict;

@@ -1,0 +1,9 @@
+//! Refusals where more than standard input is read: which text or file they are about, and the lines that say so.
+#![tactic(auto)]
+
+mod lines;
+mod refused;
+
+pub use lines::{file_lines, lines_in};
+pub use omega_io::Refusal;
+pub use refused::{Refused, Which};

@@ -1,0 +1,36 @@
+ghost use Rattle.std.specs.Prelude.{◌≡◌, Some};
+
+use omega_io::{Input, Refusal};
+use std::io::Read;
+
+/// A text in memory as an input. Its reads do not fail.
+#[derive(Drop)]
+pub(crate) struct HeldText<'a> {
+    rest: &'a [u8],
+}
+
+impl<'a> HeldText<'a> {
+    pub(crate) fn new(text: &'a [u8]) -> HeldText<'a>
+        ensures bytes { ⟦<HeldText<'a> as Input>⟧.remaining result ≡ Some text.now }
+        ensures failures { ⟦<HeldText<'a> as Input>⟧.failed result ≡ 0 }
+    {
+        HeldText { rest: text }
+    }
+}
+
+impl<'a> Input for HeldText<'a> {
+    ghost remaining = { λ s. Some s.rest.now };
+
+    ghost failed = { λ s. 0 };
+
+    fn read(&mut self, into: &mut [u8]) -> Result<usize, Refusal> {
+        match self.rest.read(into) {
+            Ok(count) => Ok(count),
+            Err(_) => Ok(0),
+        }
+    }
+
+    fn failures(&self) -> u64 {
+        0
+    }
+}

@@ -1,0 +1,156 @@
+//! A task is done with the text of an input.
+ghost use Rattle.std.specs.Prelude.{◌≡◌, ◌-◌, ◌^◌, ◌<◌, ◌≤◌, string_bytes};
+ghost use Rattle.omega_command.specs.Line.{IsRunnableTask};
+ghost use Rattle.omega_command.specs.declared.command.Command.TheVariants as command;
+ghost use Rattle.omega_io.specs.Writing.{Tells};
+ghost use Rattle.omega_run.specs.Beside.{IsRunWithFile};
+ghost use Rattle.omega_run.specs.Obey.{IsPerformed, IsWatchedRun};
+ghost use Rattle.omega_run.specs.Perform.{streams};
+ghost use Rattle.omega_solve.specs.Limits.{most_lifts};
+
+use crate::beside::perform_beside;
+use crate::kinds::OfFile;
+use crate::reporting::{report, report_behind, report_file};
+use crate::run::run_command;
+use crate::watching::run_watched;
+use omega_budget::{LIFTS_BETWEEN_REPORTS, Unwatched};
+use omega_command::{Command, Task};
+use omega_io::{GameFiles, Input, Output};
+use omega_text::Seq;
+use std::alloc::Global;
+
+/// Does a task with the text of an input, tells of a refusal, and gives the status to end with.
+pub(crate) fn perform<F: GameFiles, R: Input, W: Output, E: Output>(
+    alloc: Global,
+    task: Task,
+    files: &F,
+    input: &mut R,
+    output: &mut W,
+    errors: &mut E,
+) -> u8
+    requires runnable { IsRunnableTask task }
+    requires reads { R.failed input.old < 2 ^ 64 - 1 }
+    requires writes { W.failed output.old < 2 ^ 64 - 1 }
+    requires tells { E.failed errors.old < 2 ^ 64 - 1 }
+    ensures { IsPerformed (F.reads files.now) (F.refuses files.now) task result
+        (Tells (E.contents errors.old) (E.contents errors.new) (E.failed errors.old) (E.failed errors.new))
+        (streams (R.remaining input.old) (R.failed input.old) (W.contents output.old) (W.failed output.old))
+        (streams (R.remaining input.new) (R.failed input.new) (W.contents output.new) (W.failed output.new)) }
+{
+    match task {
+        Task::Run(command, budget) => {
+            let outcome = run_command(alloc, command, input, output, budget, &Unwatched, &mut ());
+            report(alloc, outcome, errors)
+        }
+        Task::Watched(command, budget) => watch(alloc, command, budget, input, output, errors),
+        Task::Verify {
+            file,
+            from,
+            explain,
+        } => verify_file(
+            alloc,
+            file.as_str(),
+            from,
+            explain,
+            files,
+            input,
+            output,
+            errors,
+        ),
+        Task::DrawSolution { file } => {
+            draw_file(alloc, file.as_str(), files, input, output, errors)
+        }
+    }
+}
+
+/// Runs a command that is watched, tells of a refusal behind the lines of its progress, and gives the status to end
+/// with.
+fn watch<R: Input, W: Output, E: Output>(
+    alloc: Global,
+    command: Command,
+    budget: u64,
+    input: &mut R,
+    output: &mut W,
+    errors: &mut E,
+) -> u8
+    requires budget { budget ≤ most_lifts }
+    requires reads { R.failed input.old < 2 ^ 64 - 1 }
+    requires writes { W.failed output.old < 2 ^ 64 - 1 }
+    requires tells { E.failed errors.old < 2 ^ 64 - 1 }
+    ensures { IsWatchedRun command budget result
+        (Tells (E.contents errors.old) (E.contents errors.new) (E.failed errors.old) (E.failed errors.new))
+        (streams (R.remaining input.old) (R.failed input.old) (W.contents output.old) (W.failed output.old))
+        (streams (R.remaining input.new) (R.failed input.new) (W.contents output.new) (W.failed output.new)) }
+{
+    let sound = errors.failures();
+    let outcome = run_watched(
+        alloc,
+        command,
+        input,
+        output,
+        errors,
+        budget,
+        LIFTS_BETWEEN_REPORTS,
+    );
+    report_behind(alloc, outcome, sound, errors)
+}
+
+/// Verifies a solution of the game in a file, or of a part of it. The file is read before the solution is.
+fn verify_file<F: GameFiles, R: Input, W: Output, E: Output>(
+    alloc: Global,
+    game: &str,
+    from: Option<u32>,
+    explain: bool,
+    files: &F,
+    input: &mut R,
+    output: &mut W,
+    errors: &mut E,
+) -> u8
+    requires reads { R.failed input.old < 2 ^ 64 - 1 }
+    requires writes { W.failed output.old < 2 ^ 64 - 1 }
+    requires tells { E.failed errors.old < 2 ^ 64 - 1 }
+    ensures { IsRunWithFile (F.reads files.now) (F.refuses files.now) game.now (λ text. command.Verify text from explain) result
+        (Tells (E.contents errors.old) (E.contents errors.new) (E.failed errors.old) (E.failed errors.new))
+        (streams (R.remaining input.old) (R.failed input.old) (W.contents output.old) (W.failed output.old))
+        (streams (R.remaining input.new) (R.failed input.new) (W.contents output.new) (W.failed output.new)) }
+{
+    match files.read_file(alloc, game) {
+        Ok(text) => {
+            let command = OfFile::Verify {
+                game: Seq::from_vec(text),
+                from,
+                explain,
+            };
+            perform_beside(alloc, command, input, output, errors)
+        }
+        Err(refusal) => report_file(alloc, game, refusal, errors),
+    }
+}
+
+/// Draws a game with the solution in a file, which is read before the game is.
+fn draw_file<F: GameFiles, R: Input, W: Output, E: Output>(
+    alloc: Global,
+    solution: &str,
+    files: &F,
+    input: &mut R,
+    output: &mut W,
+    errors: &mut E,
+) -> u8
+    requires reads { R.failed input.old < 2 ^ 64 - 1 }
+    requires writes { W.failed output.old < 2 ^ 64 - 1 }
+    requires tells { E.failed errors.old < 2 ^ 64 - 1 }
+    ensures { IsRunWithFile (F.reads files.now) (F.refuses files.now) solution.now command.DrawSolution result
+        (Tells (E.contents errors.old) (E.contents errors.new) (E.failed errors.old) (E.failed errors.new))
+        (streams (R.remaining input.old) (R.failed input.old) (W.contents output.old) (W.failed output.old))
+        (streams (R.remaining input.new) (R.failed input.new) (W.contents output.new) (W.failed output.new)) }
+{
+    match files.read_file(alloc, solution) {
+        Ok(text) => {
+            let command = OfFile::DrawSolution {
+                solution: Seq::from_vec(text),
+            };
+            perform_beside(alloc, command, input, output, errors)
+        }
+        Err(refusal) => report_file(alloc, solution, refusal, errors),
+    }
+}
