@@ -2,7 +2,7 @@
 use Rattle.std.proofs.Common.{sym}
 use Rattle.omega_io.specs.Failures.{IsTransferRefusal}
 use Rattle.omega_budget.proofs.Watched.{none_watched, spares, watched_alike}
-use Rattle.omega_run.proofs.Counted.{file_counted, of_all, stream_counted, text_counted}
+use Rattle.omega_run.proofs.Counted.{stream_counted, text_counted}
 use Rattle.omega_run.proofs.Lifted.{file_watched, stream_watched, text_watched}
 use Rattle.omega_run.proofs.TwoTexts.{about_refuses}
 use Rattle.omega_run.proofs.respond.respond.Goals as goal

@@ -1,5 +1,5 @@
 -- How a run of a command of two texts ended, and what it was refused for.
-use Rattle.std.specs.Prelude.{List, Option, None, Result, Ok, Err, ℕ}
+use Rattle.std.specs.Prelude.{Option, None, Result, Ok, Err}
 use Rattle.omega_text.specs.declared.refusal.Refusal.{Refusal}
 use Rattle.omega_refused.specs.declared.refused.Refused.{Refused}
 use Rattle.omega_refused.specs.declared.refused.Which.{Which}
