@@ -112,7 +112,8 @@ fn asked_of(alloc: Global, words: &[u8]) -> Result<Line, Refusal>
     match words_in(alloc, words)? {
         Some(words) => read_words(alloc, words.as_slice()),
         None => {
-            let fault = "error: the command line is not UTF-8\n\nFor more information, try '--help'.\n";
+            let fault =
+                "error: the command line is not UTF-8\n\nFor more information, try '--help'.\n";
             Ok(Line::Fault(String::from_str(alloc, fault)?))
         }
     }

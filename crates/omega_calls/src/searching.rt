@@ -73,13 +73,7 @@ fn accepted(alloc: Global, text: &[u8]) -> Result<Vec<u8>, Refusal> {
     let graph = graph(alloc)?;
     let none = Numbers::from_slice(alloc, &[])?;
     let marks = [Numbers::one(0), Numbers::one(1), none, Numbers::one(1)];
-    let walk = accepting_walk(
-        alloc,
-        &graph,
-        marks.as_slice(),
-        EDGES.as_slice(),
-        &shape,
-    )?;
+    let walk = accepting_walk(alloc, &graph, marks.as_slice(), EDGES.as_slice(), &shape)?;
     written_walk(alloc, walk)
 }
 
