@@ -28,8 +28,9 @@ pub struct Ran {
 }
 
 /// Does what the program does with a command line, whose words behind the program's name are each ended by a NUL; what
-/// stands behind the last NUL is not read. The input is its standard input, and each file that a word names, the operand
-/// too, has the text `file`. What it writes is copied as far as there is room for it, and its whole length is given.
+/// stands behind the last NUL is not read. The input is its standard input, and each file that a word names, the
+/// operand too, has the text `file`. What it writes is copied as far as there is room for it, and its whole length is
+/// given.
 #[unsafe(no_mangle)]
 pub extern "C" fn omega_run(
     alloc: Global,

@@ -5,8 +5,8 @@ ghost use Rattle.omega_automaton.specs.Branching.{has_branch, state_branches};
 use crate::automaton::Automaton;
 use crate::state::State;
 
-/// Whether a start or an edge lists two states or more, so that the automaton branches universally (HOA v1, section 3.2).
-/// A pass over the edges, or over those in front of the first that branches.
+/// Whether a start or an edge lists two states or more, so that the automaton branches universally (HOA v1, section
+/// 3.2). A pass over the edges, or over those in front of the first that branches.
 pub fn has_branch(automaton: &Automaton) -> bool
     ensures { result ≡ has_branch automaton.now }
 {
