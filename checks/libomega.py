@@ -21,6 +21,8 @@ GAMES = 2000
 MOST_NODES = 200
 # Enough for nearly all of these games.
 MOST_LIFTS = 3_000_000
+# Options with a value that names no file, and the status of a file that cannot be read.
+VALUED, UNREAD = ("--format", "--player", "--from", "--budget"), 5
 # The name of a file behind an option.
 NAMED = re.compile(r"--(?:game|solution|automaton|with)[= ](\S*)")
 
@@ -229,9 +231,15 @@ def row_runs(omega):
     with open(ROWS) as file:
         for row in rows_of(file.read()):
             for command in row.commands:
-                # The library has one file, whatever its name.
-                if all(name == "g" for name in NAMED.findall(command)):
+                if row.status == FAULT or reads_only_g(row, command):
                     yield f"line {row.number}: {command}", row_run_fault(omega, row, command)
+
+
+def reads_only_g(row, command):
+    """Whether each file that a command line names is the row's: the library has one file, whatever its name."""
+    words = command.split()
+    operands = [word for before, word in zip(words, words[1:]) if not word.startswith("-") and before not in VALUED]
+    return row.status != UNREAD and all(name == "g" for name in [*NAMED.findall(command), *operands])
 
 
 def row_run_fault(omega, row, command):
