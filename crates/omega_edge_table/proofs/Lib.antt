@@ -1,0 +1,3 @@
+-- Lemmas of edges by their numbers.
+pub mod Placed
+pub mod Standing

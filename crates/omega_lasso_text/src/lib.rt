@@ -1,0 +1,19 @@
+//! Texts of lassos, as numbers of edges: read and written exactly.
+#![tactic(auto)]
+
+mod format;
+mod kind;
+mod lasso;
+pub mod laws;
+mod reader;
+mod reading;
+mod stage;
+mod syntax;
+mod token;
+mod writing;
+
+pub use kind::LassoKind;
+pub use lasso::LassoText;
+pub use omega_text::{Refusal, Seq};
+pub use reading::read_lasso;
+pub use writing::write_lasso;

@@ -1,0 +1,63 @@
+-- Letters of words as text: what a label demands of the propositions, by their names, as Spot writes formulas.
+use Rattle.std.specs.Prelude.{ℕ, ◌+◌, Bool, false, ◌&&◌, ◌||◌, if◌then◌else◌, nat_lt, List, [], ◌∷◌, ◌++◌, get_or, Option, None, Some, codes}
+use Rattle.std.specs.List.{list_all}
+use Rattle.omega_text.specs.Bytes.{is_digit, is_letter}
+use Rattle.omega_acc.specs.label.Label.{LabelTree, conjunction, constant, disjunction, negation, proposition}
+use Rattle.omega_automaton.specs.Automaton.{BodyEdge, Description, edge_at}
+use Rattle.omega_empty.specs.Lasso.{label_of}
+use Rattle.omega_empty.specs.Words.{has_bit, index_in}
+
+-- whether a byte goes on in an identifier: a letter, an underscore or a digit
+abbrev pub goes_on : ℕ → Bool
+goes_on byte = is_letter byte || is_digit byte
+
+-- whether a name is an identifier
+abbrev pub is_identifier : List ℕ → Bool
+is_identifier [] = false
+is_identifier (byte ∷ rest) = is_letter byte && list_all goes_on rest
+
+-- a name, in quotes where it is no identifier
+abbrev pub name_text : List ℕ → List ℕ
+name_text name = if is_identifier name then name else codes "\"" ++ (name ++ codes "\"")
+
+-- a text, in parentheses where it needs them
+abbrev pub enclosed : Bool → List ℕ → List ℕ
+enclosed needed text = if needed then codes "(" ++ (text ++ codes ")") else text
+
+-- a label by the names of the propositions; what stands below `&` has tightness 1, and what stands below `!` 2
+abbrev pub label_words : ℕ → List (List ℕ) → LabelTree → List ℕ
+label_words tightness names (constant value) = if value then codes "1" else codes "0"
+label_words tightness names (proposition number) = name_text (get_or names number [])
+label_words tightness names (negation part) = codes "!" ++ label_words 2 names part
+label_words tightness names (conjunction left right) =
+    enclosed (nat_lt 1 tightness) (label_words 1 names left ++ (codes " & " ++ label_words 1 names right))
+label_words tightness names (disjunction left right) =
+    enclosed (nat_lt 0 tightness) (label_words 0 names left ++ (codes " | " ++ label_words 0 names right))
+
+-- a proposition that holds in the valuation of an index, or its negation
+abbrev pub literal_text : ℕ → ℕ → List ℕ → List ℕ
+literal_text index p name = if has_bit index p then name_text name else codes "!" ++ name_text name
+
+-- those of the propositions from one on, each behind `&`
+abbrev pub literals_behind : ℕ → ℕ → List (List ℕ) → List ℕ
+literals_behind index p [] = []
+literals_behind index p (name ∷ names) = (codes " & " ++ literal_text index p name) ++ literals_behind index (p + 1) names
+
+-- the valuation of an index; `1` where there are no propositions
+abbrev pub valuation_text : ℕ → List (List ℕ) → List ℕ
+valuation_text index [] = codes "1"
+valuation_text index (name ∷ names) = literal_text index 0 name ++ literals_behind index 1 names
+
+-- the letter of an edge with this label, or with none and so by its index within its state
+abbrev pub text_of_letter : List (List ℕ) → ℕ → Option LabelTree → List ℕ
+text_of_letter names index None = valuation_text index names
+text_of_letter names index (Some label) = label_words 0 names label
+
+-- the letter of the edge of a number that is this one; nothing where there is none
+abbrev pub letter_at : Description → ℕ → Option BodyEdge → List ℕ
+letter_at a number None = []
+letter_at a number (Some edge) = text_of_letter a.propositions (index_in a.defined number) (label_of edge)
+
+-- the letter of the edge of a number
+abbrev pub letter_text : Description → ℕ → List ℕ
+letter_text a number = letter_at a number (edge_at a number)

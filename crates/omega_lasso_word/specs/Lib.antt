@@ -1,0 +1,6 @@
+-- Words of lassos: what public contracts cite.
+pub use Rattle.omega_text.specs.Cases
+pub use Rattle.omega_text.specs.Refusal
+pub mod Letters
+pub mod WordText
+pub mod Laws

@@ -1,0 +1,10 @@
+//! The word of a lasso: what each of its edges demands of the propositions, by their names.
+#![tactic(auto)]
+
+pub mod laws;
+mod letters;
+mod names;
+mod word;
+
+pub use omega_automaton::{Automaton, Refusal};
+pub use word::word_of;
