@@ -1,0 +1,2 @@
+-- Lemmas of `verify`.
+pub mod Refusals

@@ -1,0 +1,95 @@
+ghost use Rattle.std.specs.Prelude.{◌≡◌, ◌++◌, IfErr, IfOk, IsOkUnless, OnOk};
+ghost use Rattle.omega_text.specs.Cases.{or_memory};
+ghost use Rattle.omega_hoa.specs.Alone.{IsAutomatonRefusal, IsAutomatonText};
+ghost use Rattle.omega_lasso_judge.specs.Refusing.{IsJudgeRefusal};
+ghost use Rattle.omega_lasso_text.specs.Refusing.{IsReadLassoRefusal};
+ghost use Rattle.omega_lasso_text.specs.Text.{IsLassoText};
+ghost use Rattle.omega_refused.specs.Refused.{IsRefusedOf};
+ghost use Rattle.omega_lasso_answers.specs.Verify.{IsLassoAnswer, IsLassoVerdict, RefusesAutomaton, RefusesLasso, no_text};
+
+use omega_automaton::{Automaton, Refusal};
+use omega_hoa::read_one;
+use omega_io::Exit;
+use omega_lasso_judge::{LassoFault, judge_lasso, write_lasso_fault};
+use omega_lasso_text::{LassoText, read_lasso};
+use omega_refused::{Refused, Which};
+use std::alloc::Global;
+
+/// Says whether the lasso that a text stands for, by the numbers of its edges, is an accepting lasso of the automaton
+/// of another text, without a search for one; where it is not, also why, if that is asked for. Both texts are let go
+/// once they are read.
+///
+/// The refusal of the automaton's text, or else that of the lasso's, or else 41 or 42, which are about the automaton: 1
+/// to 4, 20 to 33, 41, 42 or 60; the automaton's text is the first.
+pub fn verify_lasso(
+    alloc: Global,
+    automaton: Vec<u8>,
+    text: Vec<u8>,
+    explain: bool,
+) -> Result<(Exit, Vec<u8>), Refused>
+    ensures answer { IfOk result (λ made. IsLassoAnswer automaton.items text.items explain made.0 made.1.items) }
+    ensures refused { IfErr result (IsRefusedOf (RefusesAutomaton automaton.items text.items) (RefusesLasso automaton.items text.items)) }
+{
+    let automaton = match automaton_in(alloc, automaton) {
+        Ok(automaton) => automaton,
+        Err(refusal) => return Err(Refused::of(Which::First, refusal)),
+    };
+    let lasso = match lasso_in(alloc, text) {
+        Ok(lasso) => lasso,
+        Err(refusal) => return Err(Refused::of(Which::Second, refusal)),
+    };
+    match verdict_on(alloc, &automaton, &lasso, explain) {
+        Ok(made) => Ok(made),
+        Err(refusal) => Err(Refused::of(Which::First, refusal)),
+    }
+}
+
+/// The automaton of a text, which is let go.
+fn automaton_in(alloc: Global, text: Vec<u8>) -> Result<Automaton, Refusal>
+    ensures automaton { IfOk result (IsAutomatonText text.items) }
+    ensures refused { IfErr result (or_memory (IsAutomatonRefusal text.items)) }
+{
+    read_one(alloc, text.as_slice())
+}
+
+/// The lasso of a text, which is let go.
+fn lasso_in(alloc: Global, text: Vec<u8>) -> Result<LassoText, Refusal>
+    ensures lasso { IfOk result (IsLassoText text.items) }
+    ensures refused { IfErr result (IsReadLassoRefusal text.items) }
+{
+    read_lasso(alloc, text.as_slice())
+}
+
+/// The verdict on a lasso of an automaton. 41, 42 or 60.
+fn verdict_on(
+    alloc: Global,
+    automaton: &Automaton,
+    lasso: &LassoText,
+    explain: bool,
+) -> Result<(Exit, Vec<u8>), Refusal>
+    ensures verdict { IfOk result (λ made. IsLassoVerdict automaton.now lasso.now explain made.0 made.1.items) }
+    ensures refused { IfErr result (IsJudgeRefusal automaton.now lasso.now.stem lasso.now.cycle) }
+{
+    match judge_lasso(
+        alloc,
+        automaton,
+        lasso.stem.as_slice(),
+        lasso.cycle.as_slice(),
+    )? {
+        None => Ok((Exit::Done, Vec::from_slice(alloc, b"yes\n")?)),
+        Some(fault) => Ok((Exit::No, no_text(alloc, fault, explain)?)),
+    }
+}
+
+/// `no`, with the fault on a line of its own, if that is asked for. 60 alone.
+fn no_text(alloc: Global, fault: LassoFault, explain: bool) -> Result<Vec<u8>, Refusal>
+    ensures text { IfOk result (λ text. text.items ≡ no_text explain fault) }
+    ensures memory { IsOkUnless result Refusal.Memory }
+{
+    let mut out = Vec::from_slice(alloc, b"no\n")?;
+    if explain {
+        write_lasso_fault(fault, &mut out)?;
+        out.extend_from_slice(b"\n")?;
+    }
+    Ok(out)
+}

@@ -1,0 +1,108 @@
+-- An accepting lasso has no fault.
+use Rattle.std.proofs.Common.{ℕ, zero, suc, ◌<◌, List, [], ◌∷◌, ◌++◌, length, get_or, All, sym, ap, subst, ◌∙◌, arith}
+use Rattle.std.proofs.lemmas.Bool.{false≢true}
+use Rattle.std.proofs.lemmas.List.Elements.{All-append, All-cons, All-get_or, All-nil, All-weaker}
+use Rattle.std.proofs.lemmas.Option.{slice_get_within}
+use Rattle.omega_automaton.specs.Automaton.{Description, edges_of}
+use Rattle.omega_empty.specs.Lasso.{IsAcceptingLasso, IsLasso, IsStart, IsStep, Leads}
+use Rattle.omega_lasso_judge.specs.Conditions.{FailsFirst, Follows, IsConnected, IsNumber, IsUsableNumber, LeavesStart, once_round}
+use Rattle.omega_lasso_judge.specs.Fault.{IsLassoFault}
+use Rattle.omega_lasso_judge.specs.declared.fault.LassoFault.{LassoFault}
+use Rattle.omega_lasso_judge.specs.declared.fault.LassoFault.TheVariants.{Apart, NeverTrue, NoCycle, NoStart, NotAccepted, NotThere}
+use Rattle.omega_lasso_judge.proofs.Connecting.{Links, linked_from}
+
+module _ (a : Description) where
+  -- the edges of a way are usable
+  usable_on : (from : ℕ) (numbers : List ℕ) (to : ℕ) → Leads a from numbers to → All (IsUsableNumber a) numbers
+  usable_on from [] to leads = All-nil (IsUsableNumber a)
+  usable_on from (number ∷ numbers) to leads =
+      All-cons (IsUsableNumber a) number numbers
+      (record { edge = leads.1.edge; numbered = leads.1.numbered; usable = leads.1.usable })
+      (usable_on leads.0 numbers to leads.2)
+
+  is_number : (number : ℕ) → IsUsableNumber a number → IsNumber a number
+  is_number number usable = slice_get_within (edges_of a) number usable.edge usable.numbered
+
+  -- an edge leaves a state
+  Leaves : ℕ → ℕ → Type 0
+  Leaves number state = (to : ℕ) × IsStep a state number to
+
+  follows : (before number from state : ℕ) → IsStep a from before state → Leaves number state → Follows a before number
+  unfolding Leaves
+  follows before number from state step leaves = record {
+    entering = step.edge;
+    numbered_before = step.numbered;
+    leaving = leaves.1.edge;
+    numbered = leaves.1.numbered;
+    enters = step.enters ∙ ap (λ (s : ℕ). s ∷ []) (sym leaves.1.leaves);
+  }
+
+  one_more : (before number : ℕ) (numbers : List ℕ) → Follows a before number → Links a (number ∷ numbers) → Links a (before ∷ number ∷ numbers)
+  one_more before number numbers is links zero below = is
+  one_more before number numbers is links (suc k) below = links k (omega arith)
+
+  leaves_at : (from number : ℕ) (numbers : List ℕ) (to : ℕ) → Leads a from (number ∷ numbers) to → Leaves number from
+  unfolding Leaves
+  leaves_at from number numbers to leads = (leads.0, leads.1)
+
+  -- the edges of a way, and those behind it, follow one another
+  links_on : (from : ℕ) (numbers : List ℕ) (to last : ℕ) (rest : List ℕ) → Leads a from numbers to → Leaves last to
+      → Links a (last ∷ rest) → Links a (numbers ++ last ∷ rest)
+  links_on from [] to last rest leads leaves links = links
+  links_on from (number ∷ []) to last rest leads leaves links =
+      one_more number last rest (follows number last from leads.0 leads.1 (subst (Leaves last) (sym leads.2) leaves)) links
+  links_on from (number ∷ next ∷ numbers) to last rest leads leaves links =
+      one_more number next (numbers ++ last ∷ rest) (follows number next from leads.0 leads.1 (leaves_at leads.0 next numbers to leads.2))
+      (links_on leads.0 (next ∷ numbers) to last rest leads.2 leaves links)
+
+  alone : (number : ℕ) → Links a (number ∷ [])
+  alone number k below = absurd (omega arith)
+
+  starts_at : (start number : ℕ) → IsStart a start → Leaves number start → LeavesStart a number
+  unfolding Leaves
+  starts_at start number begins leaves =
+      record { edge = leaves.1.edge; numbered = leaves.1.numbered; starts = subst (IsStart a) (sym leaves.1.leaves) begins }
+
+  first_starts : (start knot : ℕ) (stem : List ℕ) (first : ℕ) (cycle : List ℕ) → IsStart a start → Leads a start stem knot → Leaves first knot
+      → LeavesStart a (get_or (stem ++ first ∷ cycle) 0 0)
+  first_starts start knot [] first cycle begins leads leaves = starts_at start first begins (subst (Leaves first) (sym leads) leaves)
+  first_starts start knot (number ∷ stem) first cycle begins leads leaves = starts_at start number begins (leaves_at start number stem knot leads)
+
+  pub all_usable : (stem cycle : List ℕ) → IsLasso a stem cycle → All (IsUsableNumber a) (stem ++ cycle)
+  all_usable stem cycle lasso =
+      All-append (IsUsableNumber a) stem cycle (usable_on lasso.start stem lasso.knot lasso.stem_leads) (usable_on lasso.knot cycle lasso.knot lasso.cycle_leads)
+
+  -- a lasso is connected
+  pub connected : (stem cycle : List ℕ) → IsLasso a stem cycle → IsConnected a stem cycle
+  connected stem [] lasso = let longer : 0 < 0 = lasso.longer in absurd (omega arith)
+  connected stem (first ∷ cycle) lasso =
+      let leaves = leaves_at lasso.knot first cycle lasso.knot lasso.cycle_leads in
+      let around : Links a ((first ∷ cycle) ++ first ∷ []) = links_on lasso.knot (first ∷ cycle) lasso.knot first [] lasso.cycle_leads leaves (alone first) in
+      record {
+        begun = record {
+          edges = record {
+            longer = lasso.longer;
+            numbered = All-weaker (IsUsableNumber a) (IsNumber a) is_number (stem ++ first ∷ cycle) (all_usable stem (first ∷ cycle) lasso);
+          };
+          begins = first_starts lasso.start lasso.knot stem first cycle lasso.begins lasso.stem_leads leaves;
+        };
+        linked = linked_from a (once_round stem (first ∷ cycle))
+            (links_on lasso.start stem lasso.knot first (cycle ++ first ∷ []) lasso.stem_leads leaves around);
+      }
+
+  pub none_fails : (condition : ℕ → Type 0) (numbers : List ℕ) (number : ℕ) → All condition numbers → FailsFirst condition numbers number → ⊥
+  none_fails condition numbers number all fails =
+      fails.stops_here (subst condition (sym fails.number_is) (All-get_or condition numbers fails.place 0 fails.within all))
+
+  -- an accepting lasso has no fault
+  pub not_accepting : (stem cycle : List ℕ) (fault : LassoFault) → IsLassoFault a stem cycle fault → IsAcceptingLasso a stem cycle → ⊥
+  not_accepting stem cycle NoCycle is accepting = let longer = accepting.lasso.longer in omega (arith, ap length is)
+  not_accepting stem cycle (NotThere number) is accepting =
+      none_fails (IsNumber a) (stem ++ cycle) number (connected stem cycle accepting.lasso).begun.edges.numbered is.1
+  not_accepting stem cycle (NoStart number) is accepting =
+      is.2 (subst (LeavesStart a) (sym is.1) (connected stem cycle accepting.lasso).begun.begins)
+  not_accepting stem cycle (Apart number) is accepting =
+      is.1.apart (subst (Follows a (get_or (once_round stem cycle) is.1.before 0)) (sym is.1.number_is)
+      ((connected stem cycle accepting.lasso).linked is.1.before is.1.within))
+  not_accepting stem cycle (NeverTrue number) is accepting = none_fails (IsUsableNumber a) (stem ++ cycle) number (all_usable stem cycle accepting.lasso) is.1
+  not_accepting stem cycle NotAccepted is accepting = false≢true (sym is.1 ∙ accepting.accepted)

@@ -1,0 +1,6 @@
+-- Lemmas of the referee: how far marks go on, what accepts, what connected edges are, faults, and verdicts.
+pub mod Marking
+pub mod Connecting
+pub mod Excluding
+pub mod Deciding
+pub mod Verdicts

@@ -1,0 +1,72 @@
+-- What makes a lasso, given by numbers of edges, one of an automaton, condition by condition (HOA v1, section 3;
+-- docs/formats.md, automata).
+use Rattle.std.specs.Prelude.{◌≡◌, ℕ, ◌+◌, ◌<◌, List, [], ◌∷◌, ◌++◌, length, take, All, Some, slice_index}
+use Rattle.omega_automaton.specs.Automaton.{BodyEdge, Description, edge_at, edge_count}
+use Rattle.omega_empty.specs.Lasso.{IsStart, IsUsable}
+
+-- a number of a list stops, and each number in front of it passes
+pub record IsFirst (passes stops : ℕ → Type 0) (numbers : List ℕ) (number : ℕ) : Type 0 where
+  pub place : ℕ
+  pub within : place < length numbers
+  pub number_is : number ≡ slice_index numbers place
+  pub before : (earlier : ℕ) → earlier < place → passes (slice_index numbers earlier)
+  pub stops_here : stops number
+
+-- a number is the first of a list that fails a condition
+abbrev pub FailsFirst : (ℕ → Type 0) → List ℕ → ℕ → Type 0
+FailsFirst condition numbers number = IsFirst condition (λ other. ¬ condition other) numbers number
+
+-- the number of an edge
+abbrev pub IsNumber : Description → ℕ → Type 0
+IsNumber a number = number < edge_count a
+
+-- the number of a usable edge
+pub record IsUsableNumber (a : Description) (number : ℕ) : Type 0 where
+  pub edge : BodyEdge
+  pub numbered : edge_at a number ≡ Some edge
+  pub usable : IsUsable edge
+
+-- the number of an edge that leaves a start
+pub record LeavesStart (a : Description) (number : ℕ) : Type 0 where
+  pub edge : BodyEdge
+  pub numbered : edge_at a number ≡ Some edge
+  pub starts : IsStart a edge.source.number
+
+-- an edge follows another: it leaves the state that the other one enters
+pub record Follows (a : Description) (before number : ℕ) : Type 0 where
+  pub entering : BodyEdge
+  pub numbered_before : edge_at a before ≡ Some entering
+  pub leaving : BodyEdge
+  pub numbered : edge_at a number ≡ Some leaving
+  pub enters : entering.edge.targets ≡ leaving.source.number ∷ []
+
+-- each edge but the first follows the one before it
+abbrev pub AreLinked : Description → List ℕ → Type 0
+AreLinked a numbers = (k : ℕ) → k + 1 < length numbers → Follows a (slice_index numbers k) (slice_index numbers (k + 1))
+
+-- an edge is the first that does not follow the one before it
+pub record IsFirstApart (a : Description) (numbers : List ℕ) (number : ℕ) : Type 0 where
+  pub before : ℕ
+  pub within : before + 1 < length numbers
+  pub number_is : number ≡ slice_index numbers (before + 1)
+  pub linked : (k : ℕ) → k < before → Follows a (slice_index numbers k) (slice_index numbers (k + 1))
+  pub apart : ¬ Follows a (slice_index numbers before) number
+
+-- the edges of a lasso, and behind the last one the first of the cycle again, to which it returns
+abbrev pub once_round : List ℕ → List ℕ → List ℕ
+once_round stem cycle = stem ++ (cycle ++ take 1 cycle)
+
+-- the cycle has an edge, and each number is that of an edge
+pub record HasEdges (a : Description) (stem cycle : List ℕ) : Type 0 where
+  pub longer : 0 < length cycle
+  pub numbered : All (IsNumber a) (stem ++ cycle)
+
+-- and the first edge leaves a start
+pub record IsBegun (a : Description) (stem cycle : List ℕ) : Type 0 where
+  pub edges : HasEdges a stem cycle
+  pub begins : LeavesStart a (slice_index (stem ++ cycle) 0)
+
+-- and each edge follows the one before it, the first of the cycle also the last
+pub record IsConnected (a : Description) (stem cycle : List ℕ) : Type 0 where
+  pub begun : IsBegun a stem cycle
+  pub linked : AreLinked a (once_round stem cycle)

@@ -1,0 +1,13 @@
+-- What is said of a fault.
+use Rattle.std.specs.Prelude.{ℕ, List, ◌++◌, codes, decimal}
+use Rattle.omega_lasso_judge.specs.declared.fault.LassoFault.{LassoFault}
+use Rattle.omega_lasso_judge.specs.declared.fault.LassoFault.TheVariants.{Apart, NeverTrue, NoCycle, NoStart, NotAccepted, NotThere}
+
+-- the text of a fault, with the number of the edge
+abbrev pub fault_text : LassoFault → List ℕ
+fault_text NoCycle = codes "the cycle has no edge"
+fault_text (NotThere edge) = codes "edge " ++ (decimal edge ++ codes " is not there")
+fault_text (NoStart edge) = codes "edge " ++ (decimal edge ++ codes " leaves no start")
+fault_text (Apart edge) = codes "edge " ++ (decimal edge ++ codes " does not follow")
+fault_text (NeverTrue edge) = codes "edge " ++ (decimal edge ++ codes " can not be taken")
+fault_text NotAccepted = codes "the cycle does not accept"

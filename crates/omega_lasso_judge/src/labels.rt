@@ -1,0 +1,66 @@
+//! Whether the labels of edges can be true.
+ghost use Rattle.std.specs.Prelude.{◌≡◌, ◌↔◌, All, IfErr, IfNone, IfOk, IfSome, IsTrue};
+ghost use Rattle.std.specs.Option.{option_copied};
+ghost use Rattle.omega_text.specs.Cases.{never, or_memory, or_task};
+ghost use Rattle.omega_text.specs.declared.refusal.task.TaskFault.TheVariants.{TooManyPropositions};
+ghost use Rattle.omega_acc.specs.label.Satisfiable.{IsSatisfiable};
+ghost use Rattle.omega_empty.specs.Judging.{IsWide};
+ghost use Rattle.omega_empty.specs.Lasso.{IsUsable};
+ghost use Rattle.omega_lasso_judge.specs.Conditions.{FailsFirst, IsNumber, IsUsableNumber};
+ghost use Rattle.omega_lasso_judge.specs.Refusing.{HasWideLabel, IsUndecidedAlong};
+ghost use Rattle.omega_edge_table.specs.Places.{ArePlaces};
+
+use crate::edge_table::EdgeTable;
+use omega_acc::Label;
+use omega_automaton::Refusal;
+use omega_satisfying::can_be_true;
+use std::alloc::Global;
+
+/// The first of some edges whose label is never true. 42 where a label in front of that mentions over 12 propositions
+/// and `can_be_true` gave it up, or 60.
+pub(crate) fn first_never_true(
+    alloc: Global,
+    table: &EdgeTable<'_>,
+    numbers: &[u32],
+) -> Result<Option<u32>, Refusal>
+    requires places { ArePlaces table.now.automaton.now table.now.places.now }
+    requires there { All (IsNumber table.now.automaton.now) numbers.now }
+    ensures some { IfOk result (λ found. IfSome found (FailsFirst (IsUsableNumber table.now.automaton.now) numbers.now)) }
+    ensures none { IfOk result (λ found. IfNone found (All (IsUsableNumber table.now.automaton.now) numbers.now)) }
+    ensures refused { IfErr result (or_task (λ fault. (fault ≡ TooManyPropositions) × IsUndecidedAlong table.now.automaton.now numbers.now) (or_memory never)) }
+{
+    for number in numbers {
+        if !is_usable(alloc, table, *number)? {
+            return Ok(Some(*number));
+        }
+    }
+    Ok(None)
+}
+
+/// Whether an edge is usable. 42 or 60.
+fn is_usable(alloc: Global, table: &EdgeTable<'_>, number: u32) -> Result<bool, Refusal>
+    requires places { ArePlaces table.now.automaton.now table.now.places.now }
+    requires there { IsNumber table.now.automaton.now number }
+    ensures judged { IfOk result (λ usable. IsTrue usable ↔ IsUsableNumber table.now.automaton.now number) }
+    ensures refused { IfErr result (or_task (λ fault. (fault ≡ TooManyPropositions) × HasWideLabel table.now.automaton.now number) (or_memory never)) }
+{
+    let found = table.find(number);
+    match &found.source.label {
+        Some(label) => can_hold(alloc, Some(label)),
+        None => can_hold(alloc, found.edge.label()),
+    }
+}
+
+/// Whether a label can be true, as one that is not there is. 42 or 60.
+fn can_hold(alloc: Global, label: Option<&Label>) -> Result<bool, Refusal>
+    ensures judged { IfOk result (λ possible. IsTrue possible ↔ IfSome (option_copied label.entry) IsSatisfiable) }
+    ensures refused { IfErr result (or_task (λ fault. (fault ≡ TooManyPropositions) × IsWide (option_copied label.entry)) (or_memory never)) }
+{
+    match label {
+        None => Ok(true),
+        Some(label) => {
+            let possible = can_be_true(alloc, label)?;
+            Ok(possible)
+        }
+    }
+}

@@ -1,0 +1,7 @@
+//! What holds of the faults of lassos, for callers' proofs: the call does nothing and states one law.
+ghost use Rattle.omega_lasso_judge.specs.Laws.{LassoFaultsAreOne};
+
+/// A lasso has at most one fault.
+pub fn lasso_faults_are_one()
+    ensures { LassoFaultsAreOne }
+{}

@@ -1,0 +1,77 @@
+//! Whether numbers are those of edges, and how the edges follow one another.
+ghost use Rattle.std.specs.Prelude.{◌≡◌, ◌<◌, ◌↔◌, [], ◌∷◌, All, IfNone, IfSome, IsTrue};
+ghost use Rattle.omega_empty.specs.Lasso.{IsStart};
+ghost use Rattle.omega_lasso_judge.specs.Conditions.{AreLinked, FailsFirst, Follows, IsFirstApart, IsNumber, LeavesStart};
+ghost use Rattle.omega_edge_table.specs.Places.{ArePlaces};
+
+use crate::edge_table::EdgeTable;
+use omega_automaton::Automaton;
+
+/// The first of some numbers that is not that of an edge.
+pub(crate) fn first_not_there(automaton: &Automaton, numbers: &[u32]) -> Option<u32>
+    ensures some { IfSome result (FailsFirst (IsNumber automaton.now) numbers.now) }
+    ensures none { IfNone result (All (IsNumber automaton.now) numbers.now) }
+{
+    for number in numbers {
+        if *number >= automaton.edge_count() {
+            return Some(*number);
+        }
+    }
+    None
+}
+
+/// Whether an edge leaves a start. Linear in the starts.
+pub(crate) fn leaves_start(table: &EdgeTable<'_>, number: u32) -> bool
+    requires places { ArePlaces table.now.automaton.now table.now.places.now }
+    requires there { IsNumber table.now.automaton.now number }
+    ensures { IsTrue result ↔ LeavesStart table.now.automaton.now number }
+{
+    let state = table.find(number).source.number;
+    is_start(table.automaton, state)
+}
+
+/// Whether a state is a start.
+fn is_start(automaton: &Automaton, state: u32) -> bool
+    ensures { IsTrue result ↔ IsStart automaton.now state }
+{
+    for start in automaton.starts() {
+        if is_alone(start.as_slice(), state) {
+            return true;
+        }
+    }
+    false
+}
+
+/// Whether a list is that of one number.
+fn is_alone(numbers: &[u32], number: u32) -> bool
+    ensures { IsTrue result ↔ (numbers.now ≡ number ∷ []) }
+{
+    numbers.len() == 1 && numbers[0] == number
+}
+
+/// The first of some edges that does not follow the one before it.
+pub(crate) fn first_apart(table: &EdgeTable<'_>, numbers: &[u32]) -> Option<u32>
+    requires places { ArePlaces table.now.automaton.now table.now.places.now }
+    requires there { All (IsNumber table.now.automaton.now) numbers.now }
+    ensures some { IfSome result (IsFirstApart table.now.automaton.now numbers.now) }
+    ensures none { IfNone result (AreLinked table.now.automaton.now numbers.now) }
+{
+    for at in 1..numbers.len() {
+        if !follows(table, numbers[at - 1], numbers[at]) {
+            return Some(numbers[at]);
+        }
+    }
+    None
+}
+
+/// Whether an edge leaves the state that another enters, and that one alone.
+fn follows(table: &EdgeTable<'_>, before: u32, number: u32) -> bool
+    requires places { ArePlaces table.now.automaton.now table.now.places.now }
+    requires before { IsNumber table.now.automaton.now before }
+    requires there { IsNumber table.now.automaton.now number }
+    ensures { IsTrue result ↔ Follows table.now.automaton.now before number }
+{
+    let entering = table.find(before);
+    let leaving = table.find(number);
+    is_alone(entering.edge.targets(), leaving.source.number)
+}
