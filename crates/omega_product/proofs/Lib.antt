@@ -1,0 +1,13 @@
+pub mod Membership
+pub mod Refused
+pub mod Depths
+pub mod BuchiKinds
+pub mod Accepted
+pub mod Holding
+pub mod Rows
+pub mod Reaching
+pub mod Steps
+pub mod Meaning
+pub mod Formulas
+pub mod Unmet
+pub mod Counting

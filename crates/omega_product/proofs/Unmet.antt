@@ -1,0 +1,76 @@
+-- Edges that are not judged are a reason to refuse the product.
+use Rattle.std.proofs.Common.{◌≡◌, ℕ, ◌<◌, List, length, Contains, get_or, sym, subst}
+use Rattle.omega_text.specs.Cases.{never, or_memory, or_task}
+use Rattle.omega_text.specs.declared.refusal.Refusal.{Refusal}
+use Rattle.omega_text.specs.declared.refusal.task.TaskFault.{TaskFault}
+use Rattle.omega_text.specs.declared.refusal.task.TaskFault.TheVariants.{BadSolution, Budget, NotDeterministic, NotParity, TooLarge, TooManyPropositions, TooWide, UniversalBranch, UnknownNode}
+use Rattle.omega_acc.specs.Limits.{most_mentioned}
+use Rattle.omega_acc.specs.label.Label.{LabelTree, conjunction}
+use Rattle.omega_acc.specs.label.Satisfiable.{mentioned}
+use Rattle.omega_acc.specs.label.Shape.{FitsALabel}
+use Rattle.omega_satisfying.specs.Undecided.{IsUndecided}
+use Rattle.omega_automaton.specs.Automaton.{Description}
+use Rattle.omega_product.specs.Transitions.{FitsAText}
+use Rattle.omega_product.specs.private.Unfit.{IsUnfit}
+use Rattle.omega_product.proofs.Depths.{unfit_text}
+use Rattle.omega_product.specs.Pairs.{AreFound, Pair, first_leaving, second_leaving}
+use Rattle.omega_product.specs.Refusing.{AreMet, IsJoinFault, unfit_meeting}
+use Rattle.omega_product.specs.private.Meeting.{HasUnmet, HasUnmetPartner, IsUnmet}
+use Rattle.omega_product.specs.declared.transition.Transition.{Transition}
+use Rattle.omega_product.proofs.Refused.{task_weaker}
+
+-- an element of a list by its index
+pub listed_at : {X : Type 0} (xs : List X) (i : ℕ) (x : X) → i < length xs → x ≡ get_or xs i x → Contains xs x
+listed_at xs i x below here = (i, below, sym here)
+
+-- an edge of the second
+pub partner_unmet : (transition : Transition) (others : List Transition) (other : Transition) → Contains others other → (refusal : Refusal)
+    → or_task (IsUnmet transition other) (or_memory never) refusal → or_task (HasUnmetPartner transition others) (or_memory never) refusal
+partner_unmet transition others other listed refusal h =
+    task_weaker (IsUnmet transition other) (HasUnmetPartner transition others) (λ fault unmet. record { other = other; listed = listed; unmet = unmet }) refusal h
+
+-- an edge of the first
+pub edge_unmet : (transitions others : List Transition) (transition : Transition) → Contains transitions transition → (refusal : Refusal)
+    → or_task (HasUnmetPartner transition others) (or_memory never) refusal → or_task (HasUnmet transitions others) (or_memory never) refusal
+edge_unmet transitions others transition listed refusal h =
+    task_weaker (HasUnmetPartner transition others) (HasUnmet transitions others)
+    (λ fault partner. record { transition = transition; listed = listed; partner = partner }) refusal h
+
+-- edges that leave a pair which is reached
+module _ (one other : Description) (pairs : List Pair) (done : ℕ) (found : AreFound one other done pairs) (pair : Pair) (reached : Contains pairs pair) where
+  met : (fault : TaskFault) (unmet : HasUnmet (first_leaving one other pair) (second_leaving one other pair) fault)
+      → AreMet one other unmet.transition unmet.partner.other
+  met fault unmet =
+      record { pairs = pairs; done = done; found = found; pair = pair; reached = reached; first = unmet.listed; second = unmet.partner.listed }
+
+  join_fault : (fault : TaskFault) → HasUnmet (first_leaving one other pair) (second_leaving one other pair) fault → IsJoinFault one other fault
+  join_fault NotParity unmet = unmet.partner.unmet
+  join_fault UniversalBranch unmet = unmet.partner.unmet
+  join_fault TooManyPropositions unmet =
+      record { transition = unmet.transition; partner = unmet.partner.other; met = met TooManyPropositions unmet; wide = unmet.partner.unmet }
+  join_fault TooWide unmet = unmet.partner.unmet
+  join_fault Budget unmet = unmet.partner.unmet
+  join_fault BadSolution unmet = unmet.partner.unmet
+  join_fault UnknownNode unmet = unmet.partner.unmet
+  join_fault TooLarge unmet =
+      unfit_meeting (record { transition = unmet.transition; partner = unmet.partner.other; met = met TooLarge unmet; unfit = unmet.partner.unmet })
+  join_fault (NotDeterministic state) unmet = unmet.partner.unmet
+
+  pub join_refused : (refusal : Refusal) → or_task (HasUnmet (first_leaving one other pair) (second_leaving one other pair)) (or_memory never) refusal
+      → or_task (IsJoinFault one other) (or_memory never) refusal
+  join_refused refusal h =
+      task_weaker (HasUnmet (first_leaving one other pair) (second_leaving one other pair)) (IsJoinFault one other) join_fault refusal h
+
+-- a label that is too deep or too large is one of two edges
+pub unfit_unmet : (transition other : Transition) (label : LabelTree) → label ≡ conjunction transition.label other.label → (refusal : Refusal)
+    → IsUnfit label refusal → or_task (IsUnmet transition other) (or_memory never) refusal
+unfit_unmet transition other label is refusal h =
+    task_weaker (λ fault. (fault ≡ TooLarge) × (FitsALabel label → ⊥)) (IsUnmet transition other)
+    (λ fault p. subst (IsUnmet transition other) (sym p.0) (subst (λ (l : LabelTree). FitsAText l → ⊥) is (unfit_text label p.1))) refusal h
+
+-- one that may not be decided too
+pub wide_unmet : (transition other : Transition) (label : LabelTree) → label ≡ conjunction transition.label other.label → (refusal : Refusal)
+    → IsUndecided label refusal → or_task (IsUnmet transition other) (or_memory never) refusal
+wide_unmet transition other label is refusal h =
+    task_weaker (λ fault. (fault ≡ TooManyPropositions) × (most_mentioned < length (mentioned label))) (IsUnmet transition other)
+    (λ fault p. subst (IsUnmet transition other) (sym p.0) (subst (λ (l : LabelTree). most_mentioned < length (mentioned l)) is p.1)) refusal h

@@ -1,0 +1,8 @@
+-- the formula of the sets so far
+use Rattle.std.proofs.Common.{◌≡◌}
+use Rattle.omega_acc.specs.WritingLaws.{acc_written}
+use Rattle.omega_acc.specs.formula.Kind.{buchi_formula}
+use Rattle.omega_product.proofs.acceptance.buchi_formula.Given as goal
+
+abbrev pub invariant-loop-set : goal.invariant-loop-set
+invariant-loop-set l = l.formula ≡ acc_written (buchi_formula l.set)

@@ -1,0 +1,12 @@
+-- Automata together: what public contracts cite; in `private` what private ones alone do.
+pub use Rattle.omega_text.specs.Cases
+pub use Rattle.omega_text.specs.Refusal
+pub mod Joining
+pub mod Transitions
+pub mod Pairs
+pub mod Acceptance
+pub mod Product
+pub mod Limits
+pub mod Written
+pub mod Refusing
+pub mod private

@@ -1,0 +1,54 @@
+-- The product of two automata: it accepts what both accept.
+use Rattle.std.specs.Prelude.{◌≡◌, ◌+◌, List, [], ◌∷◌, ◌++◌, length, map, Some, None}
+use Rattle.std.specs.List.{AllZip, flat_map}
+use Rattle.omega_acc.specs.label.Label.{conjunction}
+use Rattle.omega_automaton.specs.Automaton.{Description}
+use Rattle.omega_automaton.specs.Meaning.{AreMarksOf}
+use Rattle.omega_automaton.specs.declared.edge.Edge.{Edge}
+use Rattle.omega_automaton.specs.declared.state.State.{State}
+use Rattle.omega_product.specs.Acceptance.{IsJointAcceptance}
+use Rattle.omega_product.specs.Joining.{joined_names}
+use Rattle.omega_product.specs.Pairs.{AreReached, Pair, first_leaving, number_of, pair_name, partners, second_leaving, start_pairs}
+use Rattle.omega_product.specs.declared.transition.Transition.{Transition}
+
+-- an edge of the first and one of the second taken together
+abbrev pub taken_together : List Pair → Transition → Transition → Transition
+taken_together pairs transition other = record {
+  label = conjunction transition.label other.label;
+  target = number_of pairs (transition.target, other.target);
+  marks = transition.marks ++ other.marks;
+}
+
+-- the edges of two states taken together: those of the first in their order, and for each those of the second
+abbrev pub joint_transitions : List Pair → List Transition → List Transition → List Transition
+joint_transitions pairs transitions others =
+    flat_map (λ transition. map (taken_together pairs transition) (partners transition others)) transitions
+
+-- an edge of the product
+pub record IsJointEdge (transition : Transition) (edge : Edge) : Type 0 where
+  pub label : edge.label ≡ Some transition.label
+  pub targets : edge.targets ≡ transition.target ∷ []
+  pub marks : AreMarksOf transition.marks edge.marks
+
+-- a state of the product: a pair, by its number and its name, with the edges of both taken together
+pub record IsPairState (one other : Description) (pairs : List Pair) (pair : Pair) (state : State) : Type 0 where
+  pub label : state.label ≡ None
+  pub number : state.number ≡ number_of pairs pair
+  pub name : state.name ≡ Some (pair_name pair)
+  pub marks : state.marks ≡ []
+  pub edges : AllZip IsJointEdge (joint_transitions pairs (first_leaving one other pair) (second_leaving one other pair)) state.edges
+
+-- an automaton is the product of two
+pub record IsProduct (one other a : Description) : Type 0 where
+  pub pairs : List Pair
+  pub reached : AreReached one other pairs
+  pub tool : a.tool ≡ None
+  pub name : a.name ≡ None
+  pub states : a.states ≡ length pairs
+  pub starts : a.starts ≡ map (λ pair. number_of pairs pair ∷ []) (start_pairs one other)
+  pub propositions : a.propositions ≡ joined_names one.propositions other.propositions
+  pub sets : a.sets ≡ one.sets + other.sets
+  pub accepted : IsJointAcceptance one other a.acc_name a.acceptance
+  pub properties : a.properties ≡ []
+  pub unknown : a.unknown ≡ []
+  pub defined : AllZip (IsPairState one other pairs) pairs a.defined

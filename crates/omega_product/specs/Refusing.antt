@@ -1,0 +1,129 @@
+-- Which refusal a product meets: 41, 42 where it is not decided whether two labels can hold together, or 55 where it
+-- would be too large, or want of memory.
+use Rattle.std.specs.Prelude.{◌≡◌, ◌<◌, ℕ, ◌+◌, ◌||◌, true, false, List, length, Contains, Some, sum_by}
+use Rattle.omega_text.specs.Cases.{never, or_memory, or_task}
+use Rattle.omega_text.specs.Limits.{most_number}
+use Rattle.omega_text.specs.declared.refusal.Refusal.{Refusal}
+use Rattle.omega_text.specs.declared.refusal.automaton.AutomatonFault.{AutomatonFault}
+use Rattle.omega_text.specs.declared.refusal.task.TaskFault.{TaskFault}
+use Rattle.omega_text.specs.declared.refusal.task.TaskFault.TheVariants.{BadSolution, Budget, NotDeterministic, NotParity, TooLarge, TooManyPropositions, TooWide, UniversalBranch, UnknownNode}
+use Rattle.omega_acc.specs.Limits.{most_depth, most_mentioned}
+use Rattle.omega_acc.specs.WritingLaws.{acc_written}
+use Rattle.omega_acc.specs.formula.Raw.{raw_acc_depth}
+use Rattle.omega_acc.specs.formula.Acceptance as acc
+use Rattle.omega_acc.specs.label.Label.{conjunction}
+use Rattle.omega_acc.specs.label.Satisfiable.{mentioned}
+use Rattle.omega_acc.specs.label.Shape.{FitsALabel}
+use Rattle.omega_automaton.specs.Automaton.{Description}
+use Rattle.omega_automaton.specs.Branching.{has_branch}
+use Rattle.omega_automaton.specs.Faults.{automaton_fault_of}
+use Rattle.omega_automaton.specs.Limits.{most_propositions}
+use Rattle.omega_automaton.specs.declared.state.State.{State}
+use Rattle.omega_product.specs.Acceptance.{moved_behind}
+use Rattle.omega_product.specs.Joining.{joined_names}
+use Rattle.omega_product.specs.Limits.{most_edges, most_states}
+use Rattle.omega_product.specs.Pairs.{AreFound, AreReached, Pair, first_leaving, first_standing, second_leaving, second_standing, targets_of}
+use Rattle.omega_product.specs.Transitions.{FitsAText, Standing, transitions_from}
+use Rattle.omega_product.specs.Written.{IsWrittenProduct}
+use Rattle.omega_product.specs.declared.transition.Transition.{Transition}
+use Rattle.omega_raw.specs.declared.raw_automaton.RawAutomaton.{RawAutomaton}
+
+-- 41 does not apply: each start and each edge of both lists one state
+abbrev pub IsPlain : Description → Description → Type 0
+IsPlain one other = (has_branch one || has_branch other) ≡ false
+
+-- an edge of the first and one of the second that leave a pair which is reached
+pub record AreMet (one other : Description) (transition partner : Transition) : Type 0 where
+  pub pairs : List Pair
+  pub done : ℕ
+  pub found : AreFound one other done pairs
+  pub pair : Pair
+  pub reached : Contains pairs pair
+  pub first : Contains (first_leaving one other pair) transition
+  pub second : Contains (second_leaving one other pair) partner
+
+-- two such edges mention so many propositions that it may not be decided whether their labels can hold together
+pub record HasWideMeeting (one other : Description) : Type 0 where
+  pub transition : Transition
+  pub partner : Transition
+  pub met : AreMet one other transition partner
+  pub wide : most_mentioned < length (mentioned (conjunction transition.label partner.label))
+
+-- the label of two such edges together is too deep or too large for a text
+pub record HasUnfitMeeting (one other : Description) : Type 0 where
+  pub transition : Transition
+  pub partner : Transition
+  pub met : AreMet one other transition partner
+  pub unfit : FitsAText (conjunction transition.label partner.label) → ⊥
+
+-- the label of one of some edges, as a product sees them, is too deep or too large
+pub record HasUnfitEdge (transitions : List Transition) : Type 0 where
+  pub transition : Transition
+  pub listed : Contains transitions transition
+  pub unfit : FitsALabel transition.label → ⊥
+
+-- the same of an edge of some states
+pub record HasUnfitLabel (standing : Standing) (states : List State) : Type 0 where
+  pub state : State
+  pub listed : Contains states state
+  pub edge : HasUnfitEdge (transitions_from standing state 0 state.edges)
+
+-- more pairs are reached than there may be states
+pub record HasManyPairs (one other : Description) : Type 0 where
+  pub pairs : List Pair
+  pub done : ℕ
+  pub found : AreFound one other done pairs
+  pub many : most_states < length pairs
+
+-- more edges leave the pairs that are reached than there may be
+pub record HasManyEdges (one other : Description) : Type 0 where
+  pub pairs : List Pair
+  pub reached : AreReached one other pairs
+  pub many : most_edges < sum_by (λ pair. length (targets_of one other pair)) pairs
+
+-- the product, as it is written, breaks a limit of automata
+pub record BreaksLimit (one other : Description) : Type 0 where
+  pub written : RawAutomaton
+  pub product : IsWrittenProduct one other written
+  pub fault : AutomatonFault
+  pub broken : automaton_fault_of written ≡ Some fault
+
+-- why a product would be too large
+pub data IsTooLarge (one other : Description) : Type 0 where
+  many_sets : most_number < one.sets + other.sets → IsTooLarge one other
+  many_names : most_propositions < length (joined_names one.propositions other.propositions) → IsTooLarge one other
+  deep_acceptance : most_depth < raw_acc_depth (acc_written (acc.conjunction one.acceptance (moved_behind one.sets other.acceptance))) → IsTooLarge one other
+  unfit_first : HasUnfitLabel (first_standing one other) one.defined → IsTooLarge one other
+  unfit_second : HasUnfitLabel (second_standing one other) other.defined → IsTooLarge one other
+  unfit_meeting : HasUnfitMeeting one other → IsTooLarge one other
+  many_pairs : HasManyPairs one other → IsTooLarge one other
+  many_edges : HasManyEdges one other → IsTooLarge one other
+  broken_limit : BreaksLimit one other → IsTooLarge one other
+
+-- 42 or 55, where 41 does not apply
+abbrev pub IsJoinFault : Description → Description → TaskFault → Type 0
+IsJoinFault one other NotParity = ⊥
+IsJoinFault one other UniversalBranch = ⊥
+IsJoinFault one other TooManyPropositions = HasWideMeeting one other
+IsJoinFault one other TooWide = ⊥
+IsJoinFault one other Budget = ⊥
+IsJoinFault one other BadSolution = ⊥
+IsJoinFault one other UnknownNode = ⊥
+IsJoinFault one other TooLarge = IsTooLarge one other
+IsJoinFault one other (NotDeterministic state) = ⊥
+
+-- 41, or else 42 or 55
+abbrev pub IsProductFault : Description → Description → TaskFault → Type 0
+IsProductFault one other NotParity = ⊥
+IsProductFault one other UniversalBranch = (has_branch one || has_branch other) ≡ true
+IsProductFault one other TooManyPropositions = IsPlain one other × HasWideMeeting one other
+IsProductFault one other TooWide = ⊥
+IsProductFault one other Budget = ⊥
+IsProductFault one other BadSolution = ⊥
+IsProductFault one other UnknownNode = ⊥
+IsProductFault one other TooLarge = IsPlain one other × IsTooLarge one other
+IsProductFault one other (NotDeterministic state) = ⊥
+
+-- the refusal of a product
+abbrev pub IsProductRefusal : Description → Description → Refusal → Type 0
+IsProductRefusal one other = or_task (IsProductFault one other) (or_memory never)

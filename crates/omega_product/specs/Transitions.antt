@@ -1,0 +1,72 @@
+-- The edges of an automaton as its product with another sees them: labels and marks of states moved to edges, labels
+-- for edges that have none, propositions joined by name, sets behind those of the other (HOA v1, semantics).
+use Rattle.std.specs.Prelude.{◌≤◌, ℕ, zero, suc, ◌+◌, ◌/◌, ◌%◌, ◌^◌, ◌==◌, Bool, true, false, ◌||◌, if◌then◌else◌, List, [], ◌∷◌, ◌++◌, map, slice_index_or}
+use Rattle.std.specs.Option.{option_or, unwrap_or}
+use Rattle.omega_acc.specs.Limits.{most_depth, most_size}
+use Rattle.omega_acc.specs.WritingLaws.{label_written}
+use Rattle.omega_acc.specs.label.Label.{LabelTree, conjunction, constant, label_size, negation, proposition, propositions, truth}
+use Rattle.omega_acc.specs.label.Raw.{raw_depth}
+use Rattle.omega_automaton.specs.declared.edge.Edge.{Edge}
+use Rattle.omega_automaton.specs.declared.state.State.{State}
+use Rattle.omega_product.specs.Joining.{relabelled}
+use Rattle.omega_product.specs.declared.transition.Transition.{Transition}
+
+-- a proposition that holds in the valuation of an index, or its negation
+abbrev pub literal : ℕ → ℕ → LabelTree
+literal index p = if (index / 2 ^ p) % 2 == 1 then proposition p else negation (proposition p)
+
+-- the label of the valuation of an index over so many propositions
+abbrev pub valuation_label : ℕ → ℕ → LabelTree
+valuation_label index zero = constant true
+valuation_label index (suc zero) = literal index 0
+valuation_label index (suc (suc p)) = conjunction (valuation_label index (suc p)) (literal index (suc p))
+
+-- the label of an edge by its index within its state: that of the state, or else its own, or else that of the valuation
+abbrev pub label_at : ℕ → State → ℕ → Edge → LabelTree
+label_at count state index edge = unwrap_or (option_or state.label edge.label) (valuation_label index count)
+
+-- how an automaton stands within a product: its count of propositions, their places among the joined ones,
+-- and how many sets stand before its own
+pub record Standing : Type 0 where
+  pub count : ℕ
+  pub places : List ℕ
+  pub before : ℕ
+
+-- an edge of a state by its index
+abbrev pub transition_of : Standing → State → ℕ → Edge → Transition
+transition_of standing state index edge = record {
+  label = relabelled standing.places (label_at standing.count state index edge);
+  target = slice_index_or edge.targets 0 0;
+  marks = map (λ set. standing.before + set) (state.marks ++ edge.marks);
+}
+
+-- edges of a state, the first of which has an index
+abbrev pub transitions_from : Standing → State → ℕ → List Edge → List Transition
+transitions_from standing state index [] = []
+transitions_from standing state index (edge ∷ edges) =
+    transition_of standing state index edge ∷ transitions_from standing state (index + 1) edges
+
+-- the edges of the state of a number among states, none where none has it
+abbrev pub transitions_at : Standing → List State → ℕ → List Transition
+transitions_at standing [] number = []
+transitions_at standing (state ∷ states) number =
+    if state.number == number then transitions_from standing state 0 state.edges else transitions_at standing states number
+
+-- propositions, but one of them holds or not as said
+abbrev pub with_value : ℕ → Bool → (ℕ → Bool) → ℕ → Bool
+with_value p value held q = if q == p then value else held q
+
+-- whether a label is true under some values of these propositions
+abbrev pub is_true_under_some : List ℕ → (ℕ → Bool) → LabelTree → Bool
+is_true_under_some [] held label = truth held label
+is_true_under_some (p ∷ ps) held label =
+    is_true_under_some ps (with_value p true held) label || is_true_under_some ps (with_value p false held) label
+
+-- whether a label can be true
+abbrev pub can_hold : LabelTree → Bool
+can_hold label = is_true_under_some (propositions label) (λ p. false) label
+
+-- a label can be written in a text: it is not over 256 deep with the parentheses that it needs, and not too large
+pub record FitsAText (label : LabelTree) : Type 0 where
+  pub shallow : raw_depth (label_written label) ≤ most_depth
+  pub small : label_size label ≤ most_size

@@ -1,0 +1,89 @@
+-- A product as a text writes it, before it is judged: labels and the acceptance with parentheses only where they are
+-- needed.
+use Rattle.std.specs.Prelude.{◌≡◌, ℕ, ◌+◌, List, [], ◌∷◌, ◌++◌, length, map, Option, Some, None, codes}
+use Rattle.omega_acc.specs.formula.Acceptance.{AccTree}
+use Rattle.omega_acc.specs.formula.Raw.{RawAccTree}
+use Rattle.omega_acc.specs.WritingLaws.{acc_written, label_written}
+use Rattle.omega_acc.specs.declared.formula.name.AccName.{AccName}
+use Rattle.omega_automaton.specs.Automaton.{Description}
+use Rattle.omega_automaton.specs.Meaning.{Means}
+use Rattle.omega_raw.specs.declared.raw_automaton.RawAutomaton.{RawAutomaton}
+use Rattle.omega_raw.specs.declared.raw_edge.RawEdge.{RawEdge}
+use Rattle.omega_raw.specs.declared.raw_item.RawItem.{RawItem}
+use Rattle.omega_raw.specs.declared.raw_item.RawItem.TheVariants as item
+use Rattle.omega_raw.specs.declared.raw_state.RawState.{RawState}
+use Rattle.omega_product.specs.Joining.{joined_names}
+use Rattle.omega_product.specs.Pairs.{AreReached, Pair, first_leaving, number_of, pair_name, second_leaving, start_pairs}
+use Rattle.omega_product.specs.Acceptance.{IsJointAcceptance}
+use Rattle.omega_product.specs.Product.{joint_transitions}
+use Rattle.omega_product.specs.declared.transition.Transition.{Transition}
+
+-- an edge
+abbrev pub raw_edge : Transition → RawEdge
+raw_edge transition = record {
+  label = Some (label_written transition.label);
+  targets = transition.target ∷ [];
+  marks = Some transition.marks;
+}
+
+-- a state with such edges
+abbrev pub raw_state : List Pair → Pair → List Transition → RawState
+raw_state pairs pair transitions = record {
+  label = None;
+  number = number_of pairs pair;
+  name = Some (pair_name pair);
+  marks = None;
+  edges = map raw_edge transitions;
+}
+
+-- the state of a pair
+abbrev pub raw_state_of : Description → Description → List Pair → Pair → RawState
+raw_state_of one other pairs pair =
+    raw_state pairs pair (joint_transitions pairs (first_leaving one other pair) (second_leaving one other pair))
+
+-- the start of a pair
+abbrev pub raw_start : List Pair → Pair → RawItem
+raw_start pairs pair = item.Start (number_of pairs pair ∷ [])
+
+-- the item that names an acceptance, if it has a name
+abbrev pub name_items : Option AccName → List RawItem
+name_items None = []
+name_items (Some name) = item.AccName name ∷ []
+
+-- the header, by the names of the propositions, the count of sets, the name and the formula of the acceptance, and the
+-- pairs that begin
+abbrev pub raw_items : List (List ℕ) → ℕ → Option AccName → RawAccTree → List Pair → List Pair → List RawItem
+raw_items names sets name formula starts pairs =
+    (item.States (length pairs) ∷ item.Propositions (length names) names ∷ item.Acceptance sets formula ∷ []) ++ name_items name
+    ++ map (raw_start pairs) starts
+
+-- an automaton with a header and a body
+abbrev pub raw_of : List RawItem → List RawState → RawAutomaton
+raw_of items states = record { version = codes "v1"; items = items; states = states }
+
+-- the product of two automata with these pairs and this acceptance
+abbrev pub raw_product : Description → Description → List Pair → Option AccName → RawAccTree → RawAutomaton
+raw_product one other pairs name formula =
+    raw_of (raw_items (joined_names one.propositions other.propositions) (one.sets + other.sets) name formula (start_pairs one other) pairs)
+    (map (raw_state_of one other pairs) pairs)
+
+-- this is the acceptance of a product, as it is written
+pub record IsAcceptanceWritten (one other : Description) (name : Option AccName) (formula : RawAccTree) : Type 0 where
+  pub tree : AccTree
+  pub joint : IsJointAcceptance one other name tree
+  pub written : formula ≡ acc_written tree
+
+-- this is the product of two automata, as it is written
+pub record IsWrittenProduct (one other : Description) (written : RawAutomaton) : Type 0 where
+  pub pairs : List Pair
+  pub reached : AreReached one other pairs
+  pub name : Option AccName
+  pub formula : RawAccTree
+  pub accepted : IsAcceptanceWritten one other name formula
+  pub is : written ≡ raw_product one other pairs name formula
+
+-- the automaton is what a product that is written so means
+pub record IsWritten (one other a : Description) : Type 0 where
+  pub written : RawAutomaton
+  pub product : IsWrittenProduct one other written
+  pub means : Means written a

@@ -1,0 +1,163 @@
+//! The acceptance of a product, as it is written.
+
+ghost use Rattle.std.specs.Prelude.{◌≡◌, ◌+◌, ◌<◌, ◌≤◌, IfErr, IfOk, Some};
+ghost use Rattle.omega_text.specs.Cases.{IsMemory};
+ghost use Rattle.omega_acc.specs.Limits.{most_depth};
+ghost use Rattle.omega_acc.specs.WritingLaws.{acc_written};
+ghost use Rattle.omega_acc.specs.formula.Acceptance.{conjunction, disjunction};
+ghost use Rattle.omega_acc.specs.formula.Kind.{buchi_formula};
+ghost use Rattle.omega_acc.specs.formula.Raw.{raw_acc_depth};
+ghost use Rattle.omega_acc.specs.formula.Shape.{acc_tree_of_shape};
+ghost use Rattle.omega_product.specs.Acceptance.{buchi_name as name_of_buchi, moved_behind};
+ghost use Rattle.omega_product.specs.private.Unfit.{IsLarge};
+ghost use Rattle.omega_product.specs.Written.{IsAcceptanceWritten};
+
+use crate::buchi::buchi_sets;
+use crate::formula_writing::written_formula;
+use crate::numbers::behind;
+use omega_acc::{AccName, AccShape, Parameter, RawAcc};
+use omega_automaton::Automaton;
+use omega_text::{ByteString, Refusal, Seq};
+use std::alloc::Global;
+
+/// An acceptance as it is written: its name, if it has one, and its formula.
+#[derive(Drop)]
+pub(crate) struct WrittenAcceptance {
+    pub(crate) name: Option<AccName>,
+    pub(crate) formula: RawAcc,
+}
+
+/// The acceptance of both: that of the first, and that of the second behind its sets; generalized Büchi where both are
+/// Büchi or generalized Büchi. 55 where it is too deep.
+pub(crate) fn joint_acceptance(
+    alloc: Global,
+    one: &Automaton,
+    other: &Automaton,
+) -> Result<WrittenAcceptance, Refusal>
+    ensures ok { IfOk result (λ written. IsAcceptanceWritten one.now other.now written.name written.formula) }
+    ensures err { IfErr result (IsLarge (most_depth < raw_acc_depth (acc_written (conjunction one.now.acceptance (moved_behind one.now.sets other.now.acceptance))))) }
+{
+    match buchi_sets(one) {
+        None => conjoined(alloc, one, other),
+        Some(first) => match buchi_sets(other) {
+            None => conjoined(alloc, one, other),
+            Some(second) => buchi_of_both(alloc, first + second),
+        },
+    }
+}
+
+/// The generalized Büchi acceptance of so many sets.
+fn buchi_of_both(alloc: Global, sets: u32) -> Result<WrittenAcceptance, Refusal>
+    requires some { 1 ≤ sets }
+    requires few { sets ≤ most_depth }
+    ensures name { IfOk result (λ written. written.name ≡ Some (name_of_buchi sets)) }
+    ensures formula { IfOk result (λ written. written.formula ≡ acc_written (buchi_formula sets)) }
+    ensures err { IfErr result IsMemory }
+{
+    let name = buchi_name(alloc, sets)?;
+    let formula = buchi_formula(alloc, sets)?;
+    Ok(WrittenAcceptance {
+        name: Some(name),
+        formula,
+    })
+}
+
+/// The name of the generalized Büchi acceptance of so many sets.
+fn buchi_name(alloc: Global, sets: u32) -> Result<AccName, Refusal>
+    ensures ok { IfOk result (λ name. name ≡ name_of_buchi sets) }
+    ensures err { IfErr result IsMemory }
+{
+    let name = ByteString::from_slice(alloc, b"generalized-Buchi")?;
+    let parameters = vec![in alloc; Parameter::Number(sets)]?;
+    Ok(AccName {
+        name,
+        parameters: Seq::from_vec(parameters),
+    })
+}
+
+/// The generalized Büchi formula of so many sets.
+fn buchi_formula(alloc: Global, sets: u32) -> Result<RawAcc, Refusal>
+    requires some { 1 ≤ sets }
+    requires few { sets ≤ most_depth }
+    ensures ok { IfOk result (λ formula. formula ≡ acc_written (buchi_formula sets)) }
+    ensures err { IfErr result IsMemory }
+{
+    let mut formula = RawAcc::atom(alloc, b"Inf", false, 0)?;
+    for set in 1..sets {
+        let atom = RawAcc::atom(alloc, b"Inf", false, set)?;
+        formula = formula.and(atom)?;
+    }
+    Ok(formula)
+}
+
+/// The conjunction of both formulas, without a name. 55 where it is too deep.
+fn conjoined(
+    alloc: Global,
+    one: &Automaton,
+    other: &Automaton,
+) -> Result<WrittenAcceptance, Refusal>
+    ensures name { IfOk result (λ written. written.name ≡ None) }
+    ensures formula { IfOk result (λ written. written.formula ≡ acc_written (conjunction one.now.acceptance (moved_behind one.now.sets other.now.acceptance))) }
+    ensures err { IfErr result (IsLarge (most_depth < raw_acc_depth (acc_written (conjunction one.now.acceptance (moved_behind one.now.sets other.now.acceptance))))) }
+{
+    let first = one.acceptance().shape(alloc)?;
+    let second = moved_acceptance(alloc, other, one.set_count())?;
+    let shape = both(alloc, first, second)?;
+    let formula = written_formula(alloc, &shape)?;
+    Ok(WrittenAcceptance {
+        name: None,
+        formula,
+    })
+}
+
+/// The formula of an automaton whose sets are behind so many others.
+fn moved_acceptance(alloc: Global, automaton: &Automaton, before: u32) -> Result<AccShape, Refusal>
+    ensures ok { IfOk result (λ shape. acc_tree_of_shape shape ≡ moved_behind before automaton.now.acceptance) }
+    ensures err { IfErr result IsMemory }
+{
+    let shape = automaton.acceptance().shape(alloc)?;
+    moved(alloc, &shape, before)
+}
+
+/// A formula whose sets are behind so many others. Refusal 60 also where a number would not fit, which no set of a
+/// product has.
+fn moved(alloc: Global, shape: &AccShape, before: u32) -> Result<AccShape, Refusal>
+    ensures ok { IfOk result (λ moved. acc_tree_of_shape moved ≡ moved_behind before (acc_tree_of_shape shape.now)) }
+    ensures err { IfErr result IsMemory }
+{
+    match shape {
+        AccShape::Constant(value) => Ok(AccShape::Constant(*value)),
+        AccShape::Inf(negated, set) => Ok(AccShape::Inf(*negated, behind(before, *set)?)),
+        AccShape::Fin(negated, set) => Ok(AccShape::Fin(*negated, behind(before, *set)?)),
+        AccShape::And(left, right) => {
+            let left = moved(alloc, left, before)?;
+            let right = moved(alloc, right, before)?;
+            both(alloc, left, right)
+        }
+        AccShape::Or(left, right) => {
+            let left = moved(alloc, left, before)?;
+            let right = moved(alloc, right, before)?;
+            either(alloc, left, right)
+        }
+    }
+}
+
+/// Both formulas joined by `&`.
+fn both(alloc: Global, left: AccShape, right: AccShape) -> Result<AccShape, Refusal>
+    ensures ok { IfOk result (λ shape. acc_tree_of_shape shape ≡ conjunction (acc_tree_of_shape left) (acc_tree_of_shape right)) }
+    ensures err { IfErr result IsMemory }
+{
+    let left = Box::new(alloc, left)?;
+    let right = Box::new(alloc, right)?;
+    Ok(AccShape::And(left, right))
+}
+
+/// Both formulas joined by `|`.
+fn either(alloc: Global, left: AccShape, right: AccShape) -> Result<AccShape, Refusal>
+    ensures ok { IfOk result (λ shape. acc_tree_of_shape shape ≡ disjunction (acc_tree_of_shape left) (acc_tree_of_shape right)) }
+    ensures err { IfErr result IsMemory }
+{
+    let left = Box::new(alloc, left)?;
+    let right = Box::new(alloc, right)?;
+    Ok(AccShape::Or(left, right))
+}

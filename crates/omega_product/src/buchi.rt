@@ -1,0 +1,50 @@
+//! Automata that are Büchi or generalized Büchi.
+
+ghost use Rattle.std.specs.Prelude.{◌≡◌, ◌≤◌, ℕ, IfSome, MatchOption, Some};
+ghost use Rattle.omega_acc.specs.Limits.{most_buchi_sets};
+ghost use Rattle.omega_acc.specs.declared.formula.kind.AccKind.{AccKind};
+ghost use Rattle.omega_automaton.specs.AcceptanceKind.{HasKind};
+ghost use Rattle.omega_product.specs.Acceptance.{IsBuchi, buchi_sets as sets_of_kind};
+
+use omega_acc::{AccKind, Order, Parity, acceptance_kind};
+use omega_automaton::Automaton;
+
+/// By how many sets an automaton is Büchi or generalized Büchi, none where it is neither. Takes no memory.
+pub(crate) fn buchi_sets(automaton: &Automaton) -> Option<u32>
+    ensures sets { MatchOption result ((sets : ℕ) → IsBuchi automaton.now sets → ⊥) (IsBuchi automaton.now) }
+    ensures some { IfSome result (λ sets. 1 ≤ sets) }
+    ensures few { IfSome result (λ sets. sets ≤ most_buchi_sets) }
+{
+    match kind_of(automaton) {
+        None => None,
+        Some(kind) => sets_of(kind),
+    }
+}
+
+/// The acceptance kind of an automaton, if it has one.
+fn kind_of(automaton: &Automaton) -> Option<AccKind>
+    ensures { MatchOption result ((kind : AccKind) → HasKind automaton.now kind → ⊥) (HasKind automaton.now) }
+{
+    match automaton.acc_name() {
+        None => None,
+        Some(name) => {
+            match acceptance_kind(name, automaton.set_count(), automaton.acceptance()) {
+                Ok(kind) => Some(kind),
+                Err(_) => None,
+            }
+        }
+    }
+}
+
+/// How many sets have to occur, where a kind is Büchi or generalized Büchi.
+fn sets_of(kind: AccKind) -> Option<u32>
+    ensures { result ≡ sets_of_kind kind }
+{
+    match kind {
+        AccKind::GenBuchi(sets) => Some(sets),
+        AccKind::Parity(parity) => match (parity.order, parity.parity) {
+            (Order::Max, Parity::Even) => { if parity.count == 1 { Some(1) } else { None } }
+            _ => None,
+        },
+    }
+}

@@ -1,0 +1,106 @@
+//! The edges of a product.
+
+ghost use Rattle.std.specs.Prelude.{◌≡◌, ◌<◌, ◌≤◌, ◌^◌, ◌++◌, length, map, IfErr, IfOk, OnOk};
+ghost use Rattle.omega_text.specs.Cases.{IsMemory, never, or_memory, or_task};
+ghost use Rattle.omega_acc.specs.label.Label.{conjunction};
+ghost use Rattle.omega_acc.specs.label.Shape.{label_tree_of_shape};
+ghost use Rattle.omega_product.specs.Pairs.{number_of as number_in, partners};
+ghost use Rattle.omega_product.specs.Product.{joint_transitions, taken_together};
+ghost use Rattle.omega_product.specs.Limits.{most_states};
+ghost use Rattle.omega_product.specs.private.Meeting.{HasUnmet, HasUnmetPartner, IsUnmet};
+ghost use Rattle.omega_product.specs.Written.{raw_edge};
+
+use crate::label_writing::written_label;
+use crate::meeting::meeting;
+use crate::transition::Transition;
+use indexmap::IndexSet;
+use omega_acc::LabelShape;
+use omega_raw::{RawEdge, RawEdges};
+use omega_text::{Marks, Numbers, Refusal};
+use std::alloc::Global;
+
+/// The edges of two states taken together. 42 where it is not decided whether two of them can be, and 55 where their
+/// label is too deep or too large.
+pub(crate) fn joint_edges(
+    alloc: Global,
+    found: &IndexSet<(u32, u32)>,
+    firsts: &[Transition],
+    seconds: &[Transition],
+) -> Result<RawEdges, Refusal>
+    requires { length found.now.keys ≤ most_states }
+    ensures ok { IfOk result (λ edges. edges ≡ map raw_edge (joint_transitions found.now.keys firsts.now seconds.now)) }
+    ensures err { IfErr result (or_task (HasUnmet firsts.now seconds.now) (or_memory never)) }
+{
+    let mut edges = RawEdges::new(alloc);
+    for first in firsts {
+        push_joint(alloc, &mut edges, found, first, seconds)?;
+    }
+    Ok(edges)
+}
+
+/// Puts last an edge taken together with those of a state.
+fn push_joint(
+    alloc: Global,
+    edges: &mut RawEdges,
+    found: &IndexSet<(u32, u32)>,
+    first: &Transition,
+    seconds: &[Transition],
+) -> Result<(), Refusal>
+    requires { length found.now.keys ≤ most_states }
+    ensures ok { OnOk result (edges.new ≡ edges.old ++ map raw_edge (map (taken_together found.now.keys first.now) (partners first.now seconds.now))) }
+    ensures err { IfErr result (or_task (HasUnmetPartner first.now seconds.now) (or_memory never)) }
+{
+    for second in seconds {
+        if let Some(label) = meeting(alloc, first, second)? {
+            let edge = joint_edge(alloc, found, first, second, &label)?;
+            edges.push(alloc, edge)?;
+        }
+    }
+    Ok(())
+}
+
+/// An edge of the first and one of the second taken together, by their label. 55 where that is too deep.
+fn joint_edge(
+    alloc: Global,
+    found: &IndexSet<(u32, u32)>,
+    first: &Transition,
+    second: &Transition,
+    label: &LabelShape,
+) -> Result<RawEdge, Refusal>
+    requires few { length found.now.keys ≤ most_states }
+    requires label { label_tree_of_shape label.now ≡ conjunction first.now.label second.now.label }
+    ensures ok { IfOk result (λ edge. edge ≡ raw_edge (taken_together found.now.keys first.now second.now)) }
+    ensures err { IfErr result (or_task (IsUnmet first.now second.now) (or_memory never)) }
+{
+    let marks = joined(alloc, first.marks.as_slice(), second.marks.as_slice())?;
+    let target = number_of(found, (first.target, second.target));
+    let label = written_label(alloc, label)?;
+    Ok(RawEdge {
+        label: Some(label),
+        targets: Numbers::one(target),
+        marks: Marks::of(marks),
+    })
+}
+
+/// The number of a pair, or how many there are where it is not among them.
+pub(crate) fn number_of(found: &IndexSet<(u32, u32)>, pair: (u32, u32)) -> u32
+    requires { length found.now.keys ≤ most_states }
+    ensures { result ≡ number_in found.now.keys pair }
+{
+    match found.get_index_of(&pair) {
+        Some(number) => number as u32,
+        None => found.len() as u32,
+    }
+}
+
+/// Numbers and others behind them.
+fn joined(alloc: Global, numbers: &[u32], others: &[u32]) -> Result<Numbers, Refusal>
+    ensures ok { IfOk result (λ all. all ≡ numbers.now ++ others.now) }
+    ensures err { IfErr result IsMemory }
+{
+    let mut all = Numbers::from_slice(alloc, numbers)?;
+    for other in others {
+        all.push(alloc, *other)?;
+    }
+    Ok(all)
+}

@@ -1,0 +1,60 @@
+//! Edges of two automata that can be taken together.
+
+ghost use Rattle.std.specs.Prelude.{◌≡◌, IfErr, IfOk};
+ghost use Rattle.omega_text.specs.Cases.{IsMemory, never, or_memory, or_task};
+ghost use Rattle.omega_acc.specs.label.Label.{conjunction};
+ghost use Rattle.omega_acc.specs.label.Shape.{label_tree_of_shape};
+ghost use Rattle.omega_product.specs.Pairs.{can_meet};
+ghost use Rattle.omega_product.specs.private.Meeting.{IsMeeting, IsUnmet};
+
+use crate::labels::{both, label_of_shape};
+use crate::transition::Transition;
+use omega_acc::LabelShape;
+use omega_satisfying::can_be_true;
+use omega_text::Refusal;
+use std::alloc::Global;
+
+/// The label of an edge of the first and one of the second taken together, none where they can't be. 42 where that is
+/// not decided, and 55 where their label is too deep or too large.
+pub(crate) fn meeting(
+    alloc: Global,
+    first: &Transition,
+    second: &Transition,
+) -> Result<Option<LabelShape>, Refusal>
+    ensures ok { IfOk result (IsMeeting first.now second.now) }
+    ensures err { IfErr result (or_task (IsUnmet first.now second.now) (or_memory never)) }
+{
+    let shape = joint_shape(alloc, first, second)?;
+    let label = label_of_shape(alloc, &shape)?;
+    let possible = can_be_true(alloc, &label)?;
+    if possible { Ok(Some(shape)) } else { Ok(None) }
+}
+
+/// Whether an edge of the first and one of the second can be taken together. 42 and 55 as above.
+pub(crate) fn can_meet(
+    alloc: Global,
+    first: &Transition,
+    second: &Transition,
+) -> Result<bool, Refusal>
+    ensures ok { IfOk result (λ meets. meets ≡ can_meet first.now second.now) }
+    ensures err { IfErr result (or_task (IsUnmet first.now second.now) (or_memory never)) }
+{
+    match meeting(alloc, first, second)? {
+        Some(_) => Ok(true),
+        None => Ok(false),
+    }
+}
+
+/// The label of both taken together.
+fn joint_shape(
+    alloc: Global,
+    first: &Transition,
+    second: &Transition,
+) -> Result<LabelShape, Refusal>
+    ensures ok { IfOk result (λ shape. label_tree_of_shape shape ≡ conjunction first.now.label second.now.label) }
+    ensures err { IfErr result IsMemory }
+{
+    let left = first.label.shape(alloc)?;
+    let right = second.label.shape(alloc)?;
+    both(alloc, left, right)
+}

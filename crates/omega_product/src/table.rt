@@ -1,0 +1,80 @@
+ghost use Rattle.std.specs.Prelude.{◌≡◌, ◌∷◌, [], ◌++◌, List, get_or, IfErr, IfOk, OnOk};
+ghost use Rattle.omega_text.specs.Cases.{IsMemory};
+ghost use Rattle.omega_automaton.specs.declared.state.State.{State};
+ghost use Rattle.omega_product.specs.Transitions.{Standing, transitions_at};
+ghost use Rattle.omega_product.specs.Refusing.{HasUnfitLabel};
+ghost use Rattle.omega_product.specs.private.Tables.{AreRows, standing_at};
+ghost use Rattle.omega_product.specs.private.Unfit.{IsLarge};
+
+use crate::transition::Transition;
+use crate::transitions::transitions_of;
+use indexmap::IndexSet;
+use omega_automaton::Automaton;
+use omega_text::{Refusal, Seq};
+use std::alloc::Global;
+
+/// The edges of the states of an automaton, by the numbers of the states.
+#[derive(Drop)]
+pub(crate) struct Table {
+    pub(crate) numbers: IndexSet<u32>,
+    pub(crate) rows: Vec<Seq<Transition>>,
+}
+
+impl Table {
+    /// The edges of an automaton, by the places of its propositions and the count of sets before its own.
+    /// 55 where a label is too deep or too large.
+    #[tactic(auto, using(crate::proofs::Rows::rows_more))]
+    pub(crate) fn of(
+        alloc: Global,
+        automaton: &Automaton,
+        places: &[u32],
+        before: u32,
+    ) -> Result<Table, Refusal>
+        ensures ok { IfOk result (λ table. AreRows (standing_at places.now before) automaton.now.defined table.numbers.keys table.rows.items) }
+        ensures err { IfErr result (IsLarge (HasUnfitLabel (standing_at places.now before) automaton.now.defined)) }
+    {
+        let mut table = Table {
+            numbers: IndexSet::new(alloc),
+            rows: Vec::new(alloc),
+        };
+        for state in automaton.defined() {
+            let row = transitions_of(alloc, state, places, before)?;
+            table.add(state.number, row)?;
+        }
+        Ok(table)
+    }
+
+    /// Puts the edges of a state last. Refusal 60 also where a state of that number is there, which no automaton has.
+    fn add(&mut self, number: u32, row: Seq<Transition>) -> Result<(), Refusal>
+        ensures numbers { OnOk result (self.new.numbers.keys ≡ self.old.numbers.keys ++ number ∷ []) }
+        ensures rows { OnOk result (self.new.rows.items ≡ self.old.rows.items ++ row ∷ []) }
+        ensures err { IfErr result IsMemory }
+    {
+        if !self.numbers.insert(number)? {
+            return Err(Refusal::Memory);
+        }
+        self.rows.push(row)?;
+        Ok(())
+    }
+
+    /// The edges of the state of a number, none where none has it.
+    pub(crate) fn transitions(&self, number: u32) -> &[Transition]
+        ensures { (standing : Standing) (states : List State) → AreRows standing states self.now.numbers.keys self.now.rows.items → result.now ≡ transitions_at standing states number }
+    {
+        match self.numbers.get_index_of(&number) {
+            Some(place) => self.row(place),
+            None => &[],
+        }
+    }
+
+    /// The edges at a place, none behind the last.
+    fn row(&self, place: usize) -> &[Transition]
+        ensures { result.now ≡ get_or self.now.rows.items place [] }
+    {
+        if place < self.rows.len() {
+            self.rows[place].as_slice()
+        } else {
+            &[]
+        }
+    }
+}

@@ -1,0 +1,117 @@
+//! The edges of a state as a product sees them.
+
+ghost use Rattle.std.specs.Prelude.{◌≡◌, ◌+◌, ◌++◌, IfErr, IfOk, OnOk, length, map};
+ghost use Rattle.omega_text.specs.Cases.{IsMemory};
+ghost use Rattle.omega_acc.specs.label.Shape.{label_tree_of_shape};
+ghost use Rattle.omega_product.specs.Joining.{relabelled};
+ghost use Rattle.omega_product.specs.Refusing.{HasUnfitEdge};
+ghost use Rattle.omega_product.specs.Transitions.{label_at as label_of_edge, transition_of as transition_of_edge};
+ghost use Rattle.omega_product.specs.private.Tables.{row_of, standing_at};
+ghost use Rattle.omega_product.specs.private.Unfit.{IsLarge, IsUnfit};
+
+use crate::labels::{label_of_shape, renumbered, valuation};
+use crate::numbers::behind;
+use crate::transition::Transition;
+use omega_acc::{Label, LabelShape};
+use omega_automaton::{EdgeRef, State};
+use omega_text::{Numbers, Refusal, Seq};
+use std::alloc::Global;
+
+/// The edges of a state, by the places of the propositions and the count of sets before its own. 55 where a label is
+/// too deep or too large.
+pub(crate) fn transitions_of(
+    alloc: Global,
+    state: &State,
+    places: &[u32],
+    before: u32,
+) -> Result<Seq<Transition>, Refusal>
+    ensures ok { IfOk result (λ row. row ≡ row_of (standing_at places.now before) state.now) }
+    ensures err { IfErr result (IsLarge (HasUnfitEdge (row_of (standing_at places.now before) state.now))) }
+{
+    let mut row = Vec::with_capacity(alloc, state.edges.len())?;
+    for at in 0..state.edges.len() {
+        let edge = state.edges.edge(at);
+        let transition = transition_of(alloc, state, &edge, at, places, before)?;
+        row.push(transition)?;
+    }
+    Ok(Seq::from_vec(row))
+}
+
+/// The edge of a state at an index. 55 where its label is too deep or too large.
+fn transition_of(
+    alloc: Global,
+    state: &State,
+    edge: &EdgeRef<'_>,
+    at: usize,
+    places: &[u32],
+    before: u32,
+) -> Result<Transition, Refusal>
+    ensures ok { IfOk result (λ transition. transition ≡ transition_of_edge (standing_at places.now before) state.now at edge.now) }
+    ensures err { IfErr result (IsUnfit (relabelled places.now (label_of_edge (length places.now) state.now at edge.now))) }
+{
+    let shape = shape_of(alloc, state, edge, at, places)?;
+    let label = label_of_shape(alloc, &shape)?;
+    let target = edge.targets().first().copied().unwrap_or(0);
+    let marks = marks_behind(alloc, state.marks.as_slice(), edge.marks(), before)?;
+    Ok(Transition {
+        label,
+        target,
+        marks,
+    })
+}
+
+/// The label of an edge of a state by its index, over the joined propositions. 55 where it is too deep.
+fn shape_of(
+    alloc: Global,
+    state: &State,
+    edge: &EdgeRef<'_>,
+    at: usize,
+    places: &[u32],
+) -> Result<LabelShape, Refusal>
+    ensures ok { IfOk result (λ shape. label_tree_of_shape shape ≡ relabelled places.now (label_of_edge (length places.now) state.now at edge.now)) }
+    ensures err { IfErr result (IsUnfit (relabelled places.now (label_of_edge (length places.now) state.now at edge.now))) }
+{
+    match (&state.label, edge.label()) {
+        (Some(label), _) => renumbered_label(alloc, label, places),
+        (None, Some(label)) => renumbered_label(alloc, label, places),
+        (None, None) => valuation(alloc, at, places),
+    }
+}
+
+/// A label over the joined propositions.
+fn renumbered_label(alloc: Global, label: &Label, places: &[u32]) -> Result<LabelShape, Refusal>
+    ensures ok { IfOk result (λ shape. label_tree_of_shape shape ≡ relabelled places.now label.now) }
+    ensures err { IfErr result IsMemory }
+{
+    let shape = label.shape(alloc)?;
+    renumbered(alloc, &shape, places)
+}
+
+/// The marks of a state and of an edge behind so many sets. Refusal 60 also where a number would not fit, which no
+/// set of an automaton within the limits has.
+fn marks_behind(
+    alloc: Global,
+    of_state: &[u32],
+    of_edge: &[u32],
+    before: u32,
+) -> Result<Numbers, Refusal>
+    ensures ok { IfOk result (λ marks. marks ≡ map (λ set. before + set) (of_state.now ++ of_edge.now)) }
+    ensures err { IfErr result IsMemory }
+{
+    let mut marks = Numbers::new();
+    push_behind(alloc, &mut marks, of_state, before)?;
+    push_behind(alloc, &mut marks, of_edge, before)?;
+    Ok(marks)
+}
+
+/// Puts sets last, behind so many others.
+fn push_behind(alloc: Global, marks: &mut Numbers, sets: &[u32], before: u32) -> Result<(), Refusal>
+    ensures ok { OnOk result (marks.new ≡ marks.old ++ map (λ set. before + set) sets.now) }
+    ensures err { IfErr result IsMemory }
+{
+    for set in sets {
+        let behind = behind(before, *set)?;
+        marks.push(alloc, behind)?;
+    }
+    Ok(())
+}

@@ -1,0 +1,2 @@
+-- What holds of automata together: what public contracts cite.
+pub mod Laws

@@ -1,0 +1,2 @@
+pub mod Quotable
+pub mod ReadBack
