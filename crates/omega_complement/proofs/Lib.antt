@@ -1,0 +1,11 @@
+pub mod Bits
+pub mod Depths
+pub mod Faults
+pub mod Full
+pub mod Judged
+pub mod Rests
+pub mod RoomTests
+pub mod Rows
+pub mod StateNumbers
+pub mod Turned
+pub mod Valuations

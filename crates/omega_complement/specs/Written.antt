@@ -1,0 +1,116 @@
+-- The complement of a deterministic automaton as it is written: header, states and edges (HOA v1, header and body).
+use Rattle.std.specs.Prelude.{◌≡◌, ◌⊎◌, ◌↔◌, ℕ, ◌+◌, ◌<◌, Bool, true, false, IsTrue, if◌then◌else◌, List, [], ◌∷◌, ◌++◌, length, slice_index_or, Option, None, Some, codes}
+use Rattle.std.specs.List.{AllZip, range_with_len}
+use Rattle.omega_acc.specs.formula.Acceptance.{AccTree}
+use Rattle.omega_acc.specs.formula.Acceptance as acc
+use Rattle.omega_acc.specs.formula.Raw.{RawAccTree}
+use Rattle.omega_acc.specs.formula.Raw as raw_acc
+use Rattle.omega_acc.specs.label.Label.{LabelTree}
+use Rattle.omega_acc.specs.label.Label as label
+use Rattle.omega_acc.specs.label.Raw.{RawLabelTree}
+use Rattle.omega_acc.specs.label.Raw as raw_label
+use Rattle.omega_automaton.specs.Automaton.{Description}
+use Rattle.omega_automaton.specs.declared.edge.Edge.{Edge}
+use Rattle.omega_automaton.specs.declared.state.State.{State}
+use Rattle.omega_raw.specs.declared.raw_automaton.RawAutomaton.{RawAutomaton}
+use Rattle.omega_raw.specs.declared.raw_edge.RawEdge.{RawEdge}
+use Rattle.omega_raw.specs.declared.raw_item.RawItem.{RawItem}
+use Rattle.omega_raw.specs.declared.raw_item.RawItem.TheVariants as item
+use Rattle.omega_raw.specs.declared.raw_state.RawState.{RawState}
+use Rattle.omega_complement.specs.Dual.{dual}
+use Rattle.omega_complement.specs.Labels.{each_by_index, label_at, labels_at, labels_of, state_at}
+use Rattle.omega_complement.specs.Letters.{IsRest, LacksLetter}
+
+-- a label as it is written
+abbrev pub raw_tree : LabelTree → RawLabelTree
+raw_tree (label.constant value) = raw_label.constant value
+raw_tree (label.proposition number) = raw_label.proposition number
+raw_tree (label.negation part) = raw_label.negation (raw_tree part)
+raw_tree (label.conjunction left right) = raw_label.conjunction (raw_tree left) (raw_tree right)
+raw_tree (label.disjunction left right) = raw_label.disjunction (raw_tree left) (raw_tree right)
+
+-- an acceptance formula as it is written
+abbrev pub raw_acc_tree : AccTree → RawAccTree
+raw_acc_tree (acc.constant value) = raw_acc.constant value
+raw_acc_tree (acc.inf negated set) = raw_acc.atom (codes "Inf") negated set
+raw_acc_tree (acc.fin negated set) = raw_acc.atom (codes "Fin") negated set
+raw_acc_tree (acc.conjunction left right) = raw_acc.conjunction (raw_acc_tree left) (raw_acc_tree right)
+raw_acc_tree (acc.disjunction left right) = raw_acc.disjunction (raw_acc_tree left) (raw_acc_tree right)
+
+-- an edge of a state by its index, to which label and marks of the state have moved
+abbrev pub turned_edge : ℕ → State → ℕ → Edge → RawEdge
+turned_edge count state index edge = record {
+  label = Some (raw_tree (label_at count state index edge));
+  targets = edge.targets;
+  marks = Some (state.marks ++ edge.marks);
+}
+
+-- the edges of a state
+abbrev pub turned_edges : ℕ → State → List RawEdge
+turned_edges count state = each_by_index (turned_edge count state) 0 state.edges
+
+-- the letters at which no edge can be taken, as they are written; none where there is an edge for each letter
+abbrev pub IsMissing : List LabelTree → Option RawLabelTree → Type 0
+IsMissing labels None = LacksLetter labels → ⊥
+IsMissing labels (Some written) = LacksLetter labels × ((rest : LabelTree) × IsRest labels rest × (written ≡ raw_tree rest))
+
+-- the further edge to the sink for the letters that are missing
+abbrev pub further_edges : ℕ → Option RawLabelTree → List RawEdge
+further_edges sink None = []
+further_edges sink (Some missing) = record { label = Some missing; targets = sink ∷ []; marks = None } ∷ []
+
+-- a state of the complement is one of the automaton with an edge for each letter, by the count of propositions and the
+-- number of the sink
+pub record IsTurned (count sink : ℕ) (state : State) (raw : RawState) : Type 0 where
+  pub missing : Option RawLabelTree
+  pub is_missing : IsMissing (labels_of count state) missing
+  pub label : raw.label ≡ None
+  pub number : raw.number ≡ state.number
+  pub name : raw.name ≡ state.name
+  pub marks : raw.marks ≡ None
+  pub edges : raw.edges ≡ turned_edges count state ++ further_edges sink missing
+
+-- a further state is needed, the sink: there is no start, or some state lacks a letter
+abbrev pub NeedsSink : Description → Type 0
+NeedsSink a = (a.starts ≡ []) ⊎ ((number : ℕ) × (number < a.states) × LacksLetter (labels_at a number))
+
+-- one for the sink, if there is one
+abbrev pub one_if : Bool → ℕ
+one_if sink = if sink then 1 else 0
+
+-- the sink, which keeps each word and is in a set of its own
+abbrev pub sink_state : Description → RawState
+sink_state a = record {
+  label = None;
+  number = a.states;
+  name = None;
+  marks = None;
+  edges = record { label = Some (raw_label.constant true); targets = a.states ∷ []; marks = Some (a.sets ∷ []) } ∷ [];
+}
+
+-- the states behind those of the automaton
+abbrev pub sinks : Description → Bool → List RawState
+sinks a sink = if sink then sink_state a ∷ [] else []
+
+-- the acceptance: the dual, or else for ever in the sink
+abbrev pub complement_acceptance : Description → Bool → RawAccTree
+complement_acceptance a sink =
+    if sink then raw_acc.disjunction (raw_acc_tree (dual a.acceptance)) (raw_acc.atom (codes "Inf") false a.sets)
+    else raw_acc_tree (dual a.acceptance)
+
+-- the header; without a start the sink is one
+abbrev pub header : Description → Bool → List RawItem
+header a sink =
+    item.States (a.states + one_if sink) ∷ item.Start (slice_index_or a.starts 0 (a.states ∷ []))
+    ∷ item.Propositions (length a.propositions) a.propositions
+    ∷ item.Acceptance (a.sets + one_if sink) (complement_acceptance a sink) ∷ []
+
+-- what is written is the complement: the states by their numbers, the sink last
+pub record IsWrittenComplement (a : Description) (raw : RawAutomaton) : Type 0 where
+  pub sink : Bool
+  pub needed : IsTrue sink ↔ NeedsSink a
+  pub version : raw.version ≡ codes "v1"
+  pub items : raw.items ≡ header a sink
+  pub turned : List RawState
+  pub states : AllZip (λ number. IsTurned (length a.propositions) a.states (state_at a number)) (range_with_len 0 a.states) turned
+  pub body : raw.states ≡ turned ++ sinks a sink

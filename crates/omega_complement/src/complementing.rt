@@ -1,0 +1,65 @@
+//! The complement of a deterministic automaton.
+
+ghost use Rattle.std.specs.Prelude.{◌≡◌, ◌≤◌, ℕ, length, IfErr, IfOk, OnOk};
+ghost use Rattle.omega_text.specs.Cases.{never, or_memory, or_task};
+ghost use Rattle.omega_text.specs.declared.refusal.task.TaskFault.TheVariants.{NotDeterministic};
+ghost use Rattle.omega_complement.specs.Complement.{IsComplement, IsGiven};
+ghost use Rattle.omega_complement.specs.Refusing.{IsUncomplemented, IsSecondStart};
+
+use crate::acceptance::dual_acceptance;
+use crate::forming::{formed, written_complement};
+use crate::room::has_no_room;
+use crate::states::turned_states;
+use omega_automaton::{Automaton, has_branch};
+use omega_text::{Refusal, TaskFault};
+use std::alloc::Global;
+
+/// The complement of a deterministic automaton: over the same propositions it accepts exactly the words that the
+/// automaton does not (HOA v1, acceptance and semantics of labels).
+///
+/// States keep their numbers and names, edges their order and targets; labels and marks of states move to their edges,
+/// and edges that are written without a label get that of their valuation. The acceptance is the dual one. Where a
+/// state lacks letters it has a further edge for them, to a further state, the sink, which keeps each word and is in a
+/// set of its own, behind the others: then the acceptance is `dual | Inf(set)`. Without a start the sink is the start.
+///
+/// Refusals, the first that applies: 41 where a start or an edge lists several states; 55 where a further state, a
+/// further edge for each state, a further set or a formula one deeper would pass a limit (1,048,576 states, 8,388,608
+/// edges, 2,147,483,647 sets, depth 256); 56 where there are two starts, with the state of the second; then, state by
+/// state in the order of their numbers, 56 with the number of a state two of whose edges can be taken at one letter,
+/// 42 where a label mentions over 12 propositions and `can_be_true` gave it up, and 55 where a label would be over 256
+/// deep or have over 65,536 atoms and operators; 55 where all labels together would pass their limit; or 60.
+///
+/// Judges each two edges of a state together and the letters that all of them leave; of a state that has an edge for
+/// each valuation nothing.
+pub fn complement(alloc: Global, automaton: &Automaton) -> Result<Automaton, Refusal>
+    ensures complement { IfOk result (IsComplement automaton.now) }
+    ensures given { OnOk result (IsGiven automaton.now) }
+    ensures refused { IfErr result (IsUncomplemented automaton.now) }
+{
+    if has_branch(automaton) {
+        return Err(Refusal::Task(TaskFault::UniversalBranch));
+    }
+    let dual = dual_acceptance(alloc, automaton)?;
+    if has_no_room(automaton, &dual) {
+        return Err(Refusal::Task(TaskFault::TooLarge));
+    }
+    judge_starts(automaton)?;
+    let body = turned_states(alloc, automaton)?;
+    let raw = written_complement(alloc, automaton, dual, body)?;
+    let complement = formed(alloc, raw)?;
+    Ok(complement)
+}
+
+/// Nothing where there is one start at most. 56 with the state of the second.
+fn judge_starts(automaton: &Automaton) -> Result<(), Refusal>
+    ensures one { OnOk result (length automaton.now.starts ≤ 1) }
+    ensures err { IfErr result (or_task (λ fault. ((state : ℕ) × (fault ≡ NotDeterministic state) × IsSecondStart automaton.now state)) never) }
+{
+    match automaton.starts() {
+        [_, second, ..] => {
+            let state = second.as_slice().first().copied().unwrap_or(0);
+            Err(Refusal::Task(TaskFault::NotDeterministic(state as usize)))
+        }
+        _ => Ok(()),
+    }
+}

@@ -1,0 +1,187 @@
+//! A complement as it is written, and the automaton that it means.
+
+ghost use Rattle.std.specs.Prelude.{◌≡◌, ◌↔◌, ◌<◌, ◌++◌, ◌∷◌, [], ℕ, IsTrue, false, length, slice_index_or, IfErr, IfOk};
+ghost use Rattle.omega_text.specs.Cases.{IsMemory};
+ghost use Rattle.omega_automaton.specs.Meaning.{Means};
+ghost use Rattle.omega_complement.specs.Complement.{has_no_room};
+ghost use Rattle.omega_complement.specs.Dual.{dual};
+ghost use Rattle.omega_complement.specs.Labels.{labels_at};
+ghost use Rattle.omega_complement.specs.Letters.{LacksLetter};
+ghost use Rattle.omega_complement.specs.Written.{IsWrittenComplement, NeedsSink, complement_acceptance, header, raw_acc_tree, sink_state, sinks};
+ghost use Rattle.omega_complement.specs.private.Turned.{AreTurned, IsUnformed};
+
+use crate::states::Body;
+use omega_acc::{RawAcc, RawLabel};
+use omega_automaton::{Automaton, RawAutomaton, StateName, automaton_of};
+use omega_raw::{RawEdge, RawEdges, RawItem, RawState};
+use omega_text::{AutomatonFault, ByteString, Marks, Numbers, Refusal, Seq, TaskFault};
+use std::alloc::Global;
+
+/// The complement as it is written, of the dual acceptance and the states. 60 alone.
+pub(crate) fn written_complement(
+    alloc: Global,
+    automaton: &Automaton,
+    formula: RawAcc,
+    body: Body,
+) -> Result<RawAutomaton, Refusal>
+    requires room { has_no_room automaton.now ≡ false }
+    requires dual { formula ≡ raw_acc_tree (dual automaton.now.acceptance) }
+    requires turned { AreTurned automaton.now automaton.now.states body.states.items body.lacks }
+    ensures written { IfOk result (IsWrittenComplement automaton.now) }
+    ensures err { IfErr result IsMemory }
+{
+    let sink = needs_sink(automaton, body.lacks);
+    let items = header(alloc, automaton, formula, sink)?;
+    let states = with_sink(alloc, automaton, body.states, sink)?;
+    let version = ByteString::from_slice(alloc, b"v1")?;
+    Ok(RawAutomaton {
+        version,
+        items: Seq::from_vec(items),
+        states: Seq::from_vec(states),
+    })
+}
+
+/// Whether a further state is needed, where it is told whether a state lacks a letter.
+fn needs_sink(automaton: &Automaton, lacks: bool) -> bool
+    requires { IsTrue lacks ↔ ((number : ℕ) × (number < automaton.now.states) × LacksLetter (labels_at automaton.now number)) }
+    ensures { IsTrue result ↔ NeedsSink automaton.now }
+{
+    if automaton.starts().is_empty() {
+        true
+    } else {
+        lacks
+    }
+}
+
+/// The states, and the sink behind them if there is one. 60 alone.
+fn with_sink(
+    alloc: Global,
+    automaton: &Automaton,
+    states: Vec<RawState>,
+    sink: bool,
+) -> Result<Vec<RawState>, Refusal>
+    ensures states { IfOk result (λ all. all.items ≡ states.items ++ sinks automaton.now sink) }
+    ensures err { IfErr result IsMemory }
+{
+    let mut all = states;
+    if sink {
+        all.push(sink_state(alloc, automaton)?)?;
+    }
+    Ok(all)
+}
+
+/// The header, where there is a sink or none. 60 alone.
+fn header(
+    alloc: Global,
+    automaton: &Automaton,
+    formula: RawAcc,
+    sink: bool,
+) -> Result<Vec<RawItem>, Refusal>
+    requires room { has_no_room automaton.now ≡ false }
+    requires dual { formula ≡ raw_acc_tree (dual automaton.now.acceptance) }
+    ensures items { IfOk result (λ items. items.items ≡ header automaton.now sink) }
+    ensures err { IfErr result IsMemory }
+{
+    let further = u32::from(sink);
+    let acceptance = acceptance_of(alloc, automaton, formula, sink)?;
+    let mut items = Vec::new(alloc);
+    items.push(RawItem::States(automaton.state_count() + further))?;
+    items.push(RawItem::Start(start_of(alloc, automaton)?))?;
+    items.push(propositions(alloc, automaton)?)?;
+    items.push(RawItem::Acceptance {
+        count: automaton.set_count() + further,
+        formula: acceptance,
+    })?;
+    Ok(items)
+}
+
+/// The acceptance, where there is a sink or none. 60 alone.
+fn acceptance_of(
+    alloc: Global,
+    automaton: &Automaton,
+    formula: RawAcc,
+    sink: bool,
+) -> Result<RawAcc, Refusal>
+    requires room { has_no_room automaton.now ≡ false }
+    requires dual { formula ≡ raw_acc_tree (dual automaton.now.acceptance) }
+    ensures acceptance { IfOk result (λ written. written ≡ complement_acceptance automaton.now sink) }
+    ensures err { IfErr result IsMemory }
+{
+    if !sink {
+        return Ok(formula);
+    }
+    formula.or(RawAcc::atom(alloc, b"Inf", false, automaton.set_count())?)
+}
+
+/// The start, or the sink where there is none. 60 alone.
+fn start_of(alloc: Global, automaton: &Automaton) -> Result<Numbers, Refusal>
+    ensures start { IfOk result (λ start. start ≡ slice_index_or automaton.now.starts 0 (automaton.now.states ∷ [])) }
+    ensures err { IfErr result IsMemory }
+{
+    match automaton.starts().first() {
+        None => Ok(Numbers::one(automaton.state_count())),
+        Some(start) => Ok(Numbers::from_slice(alloc, start.as_slice())?),
+    }
+}
+
+/// The propositions. 60 alone.
+fn propositions(alloc: Global, automaton: &Automaton) -> Result<RawItem, Refusal>
+    ensures item { IfOk result (λ item. item ≡ RawItem.Propositions (length automaton.now.propositions) automaton.now.propositions) }
+    ensures err { IfErr result IsMemory }
+{
+    automaton.keeps_limits();
+    let names = automaton.propositions();
+    let count = names.len() as u32;
+    Ok(RawItem::Propositions {
+        count,
+        names: Seq::from_vec(copied(alloc, names)?),
+    })
+}
+
+/// The same names. 60 alone.
+fn copied(alloc: Global, names: &[ByteString]) -> Result<Vec<ByteString>, Refusal>
+    ensures same { IfOk result (λ same. same.items ≡ names.now) }
+    ensures err { IfErr result IsMemory }
+{
+    let mut same = Vec::with_capacity(alloc, names.len())?;
+    for name in names {
+        same.push(ByteString::from_slice(alloc, name.as_slice())?)?;
+    }
+    Ok(same)
+}
+
+/// The sink. 60 alone.
+fn sink_state(alloc: Global, automaton: &Automaton) -> Result<RawState, Refusal>
+    ensures sink { IfOk result (λ state. state ≡ sink_state automaton.now) }
+    ensures err { IfErr result IsMemory }
+{
+    let mut edges = RawEdges::new(alloc);
+    let edge = RawEdge {
+        label: Some(RawLabel::constant(alloc, true)?),
+        targets: Numbers::one(automaton.state_count()),
+        marks: Marks::of(Numbers::one(automaton.set_count())),
+    };
+    edges.push(alloc, edge)?;
+    Ok(RawState {
+        label: None,
+        number: automaton.state_count(),
+        name: StateName::absent(),
+        marks: Marks::absent(),
+        edges,
+    })
+}
+
+/// The automaton that is written so. 55 where a limit of expressions is broken, or 60. No other fault can be of a
+/// complement, as `complements_are_writable` of `omega_complement_laws` says.
+pub(crate) fn formed(alloc: Global, raw: RawAutomaton) -> Result<Automaton, Refusal>
+    ensures means { IfOk result (Means raw) }
+    ensures err { IfErr result (IsUnformed raw) }
+{
+    match automaton_of(alloc, raw) {
+        Ok(automaton) => Ok(automaton),
+        Err(Refusal::Automaton(AutomatonFault::TooDeep | AutomatonFault::Expansion)) => {
+            Err(Refusal::Task(TaskFault::TooLarge))
+        }
+        Err(_) => Err(Refusal::Memory),
+    }
+}

@@ -1,0 +1,31 @@
+ghost use Rattle.std.specs.Prelude.{◌≡◌, ◌++◌, ◌∷◌, [], map, IfErr, IfOk, OnOk};
+ghost use Rattle.omega_text.specs.Cases.{IsMemory};
+
+use indexmap::IndexSet;
+use omega_automaton::Automaton;
+use omega_text::Refusal;
+use std::alloc::Global;
+
+/// The numbers of the states that an automaton defines, in the order written. 60 alone, also where two states have one
+/// number, as no automaton has.
+pub(crate) fn places_of(alloc: Global, automaton: &Automaton) -> Result<IndexSet<u32>, Refusal>
+    ensures numbers { IfOk result (λ numbers. numbers.keys ≡ map (λ state. state.number) automaton.now.defined) }
+    ensures err { IfErr result IsMemory }
+{
+    let mut numbers = IndexSet::new(alloc);
+    for state in automaton.defined() {
+        add(&mut numbers, state.number)?;
+    }
+    Ok(numbers)
+}
+
+/// Puts a number last. 60 alone, also where it is there already.
+fn add(numbers: &mut IndexSet<u32>, number: u32) -> Result<(), Refusal>
+    ensures numbers { OnOk result (numbers.new.keys ≡ numbers.old.keys ++ number ∷ []) }
+    ensures err { IfErr result IsMemory }
+{
+    if !numbers.insert(number)? {
+        return Err(Refusal::Memory);
+    }
+    Ok(())
+}

@@ -1,0 +1,58 @@
+//! The letters at which no edge of a state can be taken.
+
+ghost use Rattle.std.specs.Prelude.{◌≡◌, ◌<◌, false, length, IfErr, IfOk};
+ghost use Rattle.omega_text.specs.Cases.{IsMemory};
+ghost use Rattle.omega_acc.specs.label.Shape.{label_tree_of_shape};
+ghost use Rattle.omega_complement.specs.Letters.{IsAnyOf, IsRest};
+ghost use Rattle.omega_complement.specs.Written.{IsMissing};
+ghost use Rattle.omega_complement.specs.private.Turned.{IsStateRefusal};
+
+use crate::judging::can_hold;
+use crate::writing::written;
+use omega_acc::{Label, LabelShape, RawLabel};
+use omega_text::Refusal;
+use std::alloc::Global;
+
+/// The letters at which no edge can be taken, none where there is an edge for each letter. 42, 55 or 60.
+pub(crate) fn missing(
+    alloc: Global,
+    labels: &[Label],
+    _number: u32,
+) -> Result<Option<RawLabel>, Refusal>
+    ensures missing { IfOk result (IsMissing labels.now) }
+    ensures err { IfErr result (IsStateRefusal false labels.now _number) }
+{
+    let rest = rest_of(alloc, labels)?;
+    if can_hold(alloc, &rest)? {
+        Ok(Some(written(alloc, &rest)?))
+    } else {
+        Ok(None)
+    }
+}
+
+/// The label of the letters at which no edge can be taken. 60 alone.
+fn rest_of(alloc: Global, labels: &[Label]) -> Result<LabelShape, Refusal>
+    ensures rest { IfOk result (λ shape. IsRest labels.now (label_tree_of_shape shape)) }
+    ensures err { IfErr result IsMemory }
+{
+    if labels.is_empty() {
+        return Ok(LabelShape::Constant(true));
+    }
+    let any = any_of(alloc, labels)?;
+    Ok(LabelShape::Not(Box::new(alloc, any)?))
+}
+
+/// The alternative of labels, by halves, so that it is as shallow as can be. 60 alone.
+fn any_of(alloc: Global, labels: &[Label]) -> Result<LabelShape, Refusal>
+    requires { 0 < length labels.now }
+    ensures any { IfOk result (λ shape. IsAnyOf labels.now (label_tree_of_shape shape)) }
+    ensures err { IfErr result IsMemory }
+{
+    if labels.len() == 1 {
+        return labels[0].shape(alloc);
+    }
+    let middle = labels.len() / 2;
+    let left = any_of(alloc, &labels[..middle])?;
+    let right = any_of(alloc, &labels[middle..])?;
+    Ok(LabelShape::Or(Box::new(alloc, left)?, Box::new(alloc, right)?))
+}

@@ -1,0 +1,96 @@
+//! The states of a complement.
+
+ghost use Rattle.std.specs.Prelude.{◌≡◌, ◌↔◌, ◌||◌, length, map, IsTrue, IfErr, IfOk, OnOk};
+ghost use Rattle.omega_complement.specs.Labels.{is_full, labels_at, state_at, undefined as undefined_state};
+ghost use Rattle.omega_complement.specs.Letters.{AreApart, LacksLetter};
+ghost use Rattle.omega_complement.specs.Written.{IsTurned};
+ghost use Rattle.omega_complement.specs.private.Turned.{AreRefused, AreTurned, IsStateRefusal};
+
+use crate::places::places_of;
+use crate::turning::{Turned, turned_state};
+use indexmap::IndexSet;
+use omega_automaton::{Automaton, Edges, State, StateName};
+use omega_raw::RawState;
+use omega_text::{Numbers, Refusal, Seq};
+use std::alloc::Global;
+
+/// The states of a complement but the sink, and whether one of them has an edge to it.
+#[derive(Drop)]
+pub(crate) struct Body {
+    pub(crate) states: Vec<RawState>,
+    pub(crate) lacks: bool,
+}
+
+/// The states of an automaton by their numbers, each with an edge for each letter. Of the first that has one, 42, 55 or
+/// 56, or 60.
+pub(crate) fn turned_states(alloc: Global, automaton: &Automaton) -> Result<Body, Refusal>
+    ensures turned { IfOk result (λ body. AreTurned automaton.now automaton.now.states body.states.items body.lacks) }
+    ensures err { IfErr result (AreRefused automaton.now) }
+{
+    let places = places_of(alloc, automaton)?;
+    let mut states = Vec::new(alloc);
+    let mut lacks = false;
+    for number in 0..automaton.state_count() {
+        let next = turned_at(alloc, automaton, &places, number)?;
+        lacks = either(lacks, next.lacks);
+        states.push(next.state)?;
+    }
+    Ok(Body { states, lacks })
+}
+
+/// Whether one of two holds.
+fn either(one: bool, other: bool) -> bool
+    ensures { result ≡ (one || other) }
+{
+    one || other
+}
+
+/// The state of a number, with an edge for each letter. 42, 55, 56 or 60.
+fn turned_at(
+    alloc: Global,
+    automaton: &Automaton,
+    places: &IndexSet<u32>,
+    number: u32,
+) -> Result<Turned, Refusal>
+    requires { places.now.keys ≡ map (λ state. state.number) automaton.now.defined }
+    ensures turned { IfOk result (λ turned. IsTurned (length automaton.now.propositions) automaton.now.states (state_at automaton.now number) turned.state) }
+    ensures lacks { IfOk result (λ turned. IsTrue turned.lacks ↔ LacksLetter (labels_at automaton.now number)) }
+    ensures apart { OnOk result (AreApart (labels_at automaton.now number)) }
+    ensures err { IfErr result (IsStateRefusal (is_full (length automaton.now.propositions) (state_at automaton.now number)) (labels_at automaton.now number) number) }
+{
+    let count = automaton.propositions().len();
+    let sink = automaton.state_count();
+    let spare = undefined(alloc, number);
+    let state = state_of(automaton, places, number, &spare);
+    turned_state(alloc, count, sink, state)
+}
+
+/// The state of a number, or the spare one where the body does not define it.
+fn state_of<'a>(
+    automaton: &'a Automaton,
+    places: &IndexSet<u32>,
+    number: u32,
+    spare: &'a State,
+) -> &'a State
+    requires places { places.now.keys ≡ map (λ state. state.number) automaton.now.defined }
+    requires spare { spare.now ≡ undefined_state number }
+    ensures { result.now ≡ state_at automaton.now number }
+{
+    match places.get_index_of(&number) {
+        Some(place) => &automaton.defined()[place],
+        None => spare,
+    }
+}
+
+/// A state that the body does not define: it has no edges.
+fn undefined(alloc: Global, number: u32) -> State
+    ensures { result ≡ undefined_state number }
+{
+    State {
+        label: None,
+        number,
+        name: StateName::absent(),
+        marks: Numbers::new(),
+        edges: Edges::from_seq(Seq::new(alloc)),
+    }
+}

@@ -1,0 +1,197 @@
+//! A state of a complement.
+
+ghost use Rattle.std.specs.Prelude.{◌≡◌, ◌↔◌, ◌++◌, ◌==◌, length, IsTrue, is_none, IfErr, IfOk, OnOk, Some};
+ghost use Rattle.std.specs.List.{list_all};
+ghost use Rattle.omega_text.specs.Cases.{IsMemory};
+ghost use Rattle.omega_complement.specs.Labels.{is_full as has_all_edges, label_at, labels_of as labels_of_state};
+ghost use Rattle.omega_complement.specs.Letters.{AreApart, LacksLetter};
+ghost use Rattle.omega_complement.specs.Written.{IsMissing, IsTurned, further_edges, turned_edge as edge_turned, turned_edges as edges_turned};
+ghost use Rattle.omega_complement.specs.private.Turned.{IsStateRefusal};
+
+use crate::judging::judge_apart;
+use crate::labels::labels_of;
+use crate::rest::missing;
+use crate::writing::written_label;
+use omega_acc::{Label, RawLabel};
+use omega_automaton::{EdgeRef, State, StateName};
+use omega_raw::{RawEdge, RawEdges, RawState};
+use omega_text::{ByteString, Marks, Numbers, Refusal};
+use std::alloc::Global;
+
+/// A state of a complement, and whether it has an edge to the sink.
+#[derive(Drop)]
+pub(crate) struct Turned {
+    pub(crate) state: RawState,
+    pub(crate) lacks: bool,
+}
+
+/// A state with an edge for each letter, by the count of propositions and the number of the sink. 42, 55, 56 or 60.
+pub(crate) fn turned_state(
+    alloc: Global,
+    count: usize,
+    sink: u32,
+    state: &State,
+) -> Result<Turned, Refusal>
+    ensures turned { IfOk result (λ turned. IsTurned count sink state.now turned.state) }
+    ensures lacks { IfOk result (λ turned. IsTrue turned.lacks ↔ LacksLetter (labels_of_state count state.now)) }
+    ensures apart { OnOk result (AreApart (labels_of_state count state.now)) }
+    ensures err { IfErr result (IsStateRefusal (has_all_edges count state.now) (labels_of_state count state.now) state.now.number) }
+{
+    let labels = labels_of(alloc, count, state)?;
+    let missing = judged(alloc, count, state, labels.as_slice())?;
+    let lacks = missing.is_some();
+    let mut edges = turned_edges(alloc, count, state, labels.as_slice())?;
+    add_further(alloc, &mut edges, missing, sink)?;
+    let name = name_of(alloc, state)?;
+    Ok(Turned {
+        state: RawState {
+            label: None,
+            number: state.number,
+            name,
+            marks: Marks::absent(),
+            edges,
+        },
+        lacks,
+    })
+}
+
+/// The letters that a state lacks, where each letter has one edge at most. Of a state that has an edge for each
+/// valuation nothing is judged. 42, 55, 56 or 60.
+fn judged(
+    alloc: Global,
+    count: usize,
+    state: &State,
+    labels: &[Label],
+) -> Result<Option<RawLabel>, Refusal>
+    requires { labels.now ≡ labels_of_state count state.now }
+    ensures missing { IfOk result (IsMissing labels.now) }
+    ensures apart { OnOk result (AreApart labels.now) }
+    ensures err { IfErr result (IsStateRefusal (has_all_edges count state.now) labels.now state.now.number) }
+{
+    if is_full(count, state) {
+        return Ok(None);
+    }
+    judge_apart(alloc, labels, state.number)?;
+    missing(alloc, labels, state.number)
+}
+
+/// Whether a state has an edge for each valuation of so many propositions, and no labels.
+fn is_full(count: usize, state: &State) -> bool
+    ensures { result ≡ has_all_edges count state.now }
+{
+    let edges = state.edges.len();
+    if state.label.is_some() {
+        return false;
+    }
+    if count >= 64 {
+        return false;
+    }
+    if !has_no_labels(state) {
+        return false;
+    }
+    edges == 1 << count
+}
+
+/// Whether no edge of a state has a label.
+fn has_no_labels(state: &State) -> bool
+    ensures { result ≡ list_all (λ edge. is_none edge.label) state.now.edges }
+{
+    for at in 0..state.edges.len() {
+        if state.edges.edge(at).label().is_some() {
+            return false;
+        }
+    }
+    true
+}
+
+/// The edges of a state, to which its label and its marks have moved. 60 alone.
+fn turned_edges(
+    alloc: Global,
+    count: usize,
+    state: &State,
+    labels: &[Label],
+) -> Result<RawEdges, Refusal>
+    requires { labels.now ≡ labels_of_state count state.now }
+    ensures edges { IfOk result (λ edges. edges ≡ edges_turned count state.now) }
+    ensures err { IfErr result IsMemory }
+{
+    let mut edges = RawEdges::new(alloc);
+    for (at, label) in labels.iter().enumerate() {
+        let edge = state.edges.edge(at);
+        let turned = turned_edge(alloc, count, state, label, &edge, at)?;
+        edges.push(alloc, turned)?;
+    }
+    Ok(edges)
+}
+
+/// The edge of a state at an index, of its label. The count and the index are named for the contract alone. 60 alone.
+fn turned_edge(
+    alloc: Global,
+    _count: usize,
+    state: &State,
+    label: &Label,
+    edge: &EdgeRef<'_>,
+    _at: usize,
+) -> Result<RawEdge, Refusal>
+    requires { label.now ≡ label_at _count state.now _at edge.now }
+    ensures edge { IfOk result (λ turned. turned ≡ edge_turned _count state.now _at edge.now) }
+    ensures err { IfErr result IsMemory }
+{
+    let label = written_label(alloc, label)?;
+    let targets = Numbers::from_slice(alloc, edge.targets())?;
+    let mut marks = Numbers::from_slice(alloc, state.marks.as_slice())?;
+    add_all(alloc, &mut marks, edge.marks())?;
+    Ok(RawEdge {
+        label: Some(label),
+        targets,
+        marks: Marks::of(marks),
+    })
+}
+
+/// Puts numbers last. 60 alone.
+fn add_all(alloc: Global, numbers: &mut Numbers, others: &[u32]) -> Result<(), Refusal>
+    ensures numbers { OnOk result (numbers.new ≡ numbers.old ++ others.now) }
+    ensures err { IfErr result IsMemory }
+{
+    for other in others {
+        numbers.push(alloc, *other)?;
+    }
+    Ok(())
+}
+
+/// Puts last the edge to the sink, if letters are missing. 60 alone.
+fn add_further(
+    alloc: Global,
+    edges: &mut RawEdges,
+    missing: Option<RawLabel>,
+    sink: u32,
+) -> Result<(), Refusal>
+    ensures edges { OnOk result (edges.new ≡ edges.old ++ further_edges sink missing) }
+    ensures err { IfErr result IsMemory }
+{
+    if let Some(label) = missing {
+        edges.push(
+            alloc,
+            RawEdge {
+                label: Some(label),
+                targets: Numbers::one(sink),
+                marks: Marks::absent(),
+            },
+        )?;
+    }
+    Ok(())
+}
+
+/// The name of a state. 60 alone.
+fn name_of(alloc: Global, state: &State) -> Result<StateName, Refusal>
+    ensures name { IfOk result (λ name. name ≡ state.now.name) }
+    ensures err { IfErr result IsMemory }
+{
+    match state.name.as_slice() {
+        None => Ok(StateName::absent()),
+        Some(bytes) => {
+            let bytes = ByteString::from_slice(alloc, bytes)?;
+            Ok(StateName::of(alloc, bytes)?)
+        }
+    }
+}

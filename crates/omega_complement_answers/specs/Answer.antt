@@ -1,0 +1,28 @@
+-- What `complement` answers for the text of one automaton: the canonical text of its complement; and its refusals.
+use Rattle.std.specs.Prelude.{◌≡◌, ◌⊎◌, List, ℕ}
+use Rattle.omega_text.specs.declared.refusal.Refusal.{Refusal}
+use Rattle.omega_automaton.specs.Automaton.{Description}
+use Rattle.omega_canon.specs.Canonical.{canonical_automaton}
+use Rattle.omega_complement.specs.Complement.{IsComplement, IsGiven}
+use Rattle.omega_complement.specs.Refusing.{IsUncomplemented}
+use Rattle.omega_hoa.specs.Alone.{IsAutomatonRefusal, IsAutomatonText}
+
+-- what `complement` answers: the text stands for a deterministic automaton, and the canonical text of its complement is
+-- written
+pub record IsComplementAnswer (text output : List ℕ) : Type 0 where
+  pub automaton : Description
+  pub read : IsAutomatonText text automaton
+  pub given : IsGiven automaton
+  pub complement : Description
+  pub right : IsComplement automaton complement
+  pub written : output ≡ canonical_automaton complement
+
+-- the text stands for an automaton of which no complement is made: 41, 42, 55 or 56
+pub record RefusesComplement (text : List ℕ) (refusal : Refusal) : Type 0 where
+  pub automaton : Description
+  pub read : IsAutomatonText text automaton
+  pub refused : IsUncomplemented automaton refusal
+
+-- the refusal of `complement`: that of the text, or else that of its automaton
+abbrev pub IsComplementRefusal : List ℕ → Refusal → Type 0
+IsComplementRefusal text refusal = IsAutomatonRefusal text refusal ⊎ RefusesComplement text refusal

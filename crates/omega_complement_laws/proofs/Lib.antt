@@ -1,0 +1,10 @@
+pub mod Apart
+pub mod Cover
+pub mod Formulas
+pub mod Meant
+pub mod Moves
+pub mod Numbered
+pub mod One
+pub mod Parts
+pub mod Plain
+pub mod Writable

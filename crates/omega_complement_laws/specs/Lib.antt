@@ -1,0 +1,2 @@
+-- The laws of complements.
+pub mod Laws
