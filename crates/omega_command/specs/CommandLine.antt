@@ -77,7 +77,10 @@ text_of name.From options = option_map (λ text. text.now) options.from
 text_of name.Budget options = option_map (λ text. text.now) options.budget
 text_of name.Search options = option_map (λ text. text.now) options.search
 text_of name.Game options = option_map (λ text. text.now) options.game
+text_of name.Automaton options = option_map (λ text. text.now) options.automaton
 text_of name.Explain options = option_map (λ text. text.now) options.explain
+text_of name.Word options = option_map (λ text. text.now) options.word
+text_of name.With options = option_map (λ text. text.now) options.with
 text_of name.Solution options = option_map (λ text. text.now) options.solution
 text_of name.Lasso options = option_map (λ text. text.now) options.lasso
 text_of name.Progress options = option_map (λ text. text.now) options.progress
@@ -93,8 +96,9 @@ AsksToLift subcommand options (command.Solve player from) budget =
 AsksToLift subcommand options (command.Search from) budget =
     (subcommand ≡ codes "solve") × GivesFlag (text_of name.Search options) true × (text_of name.Player options ≡ None)
     × Gives (IsNumberText most_number) (text_of name.From options) from × GivesBudget (text_of name.Budget options) budget
-AsksToLift subcommand options command.Empty budget =
-    (subcommand ≡ codes "empty") × GivesFlag (text_of name.Search options) false × GivesBudget (text_of name.Budget options) budget
+AsksToLift subcommand options (command.Empty word) budget =
+    (subcommand ≡ codes "empty") × GivesFlag (text_of name.Search options) false
+    × GivesFlag (text_of name.Word options) word × GivesBudget (text_of name.Budget options) budget
 AsksToLift subcommand options other budget = ⊥
 
 -- the subcommand of this name, with these options, asks for the task
@@ -114,12 +118,15 @@ AsksFor subcommand options (task.Run (command.Solve player from) budget) =
 AsksFor subcommand options (task.Run (command.Search from) budget) =
     AsksToLift subcommand options (command.Search from) budget × GivesFlag (text_of name.Progress options) false
 AsksFor subcommand options (task.Run (command.Verify game from explain) budget) = ⊥
-AsksFor subcommand options (task.Run command.Empty budget) =
-    AsksToLift subcommand options command.Empty budget × GivesFlag (text_of name.Progress options) false
-AsksFor subcommand options (task.Run command.EmptySearch budget) =
-    (subcommand ≡ codes "empty") × GivesFlag (text_of name.Search options) true × (text_of name.Budget options ≡ None)
-    × GivesFlag (text_of name.Progress options) false × (budget ≡ most_budget)
+AsksFor subcommand options (task.Run (command.VerifyLasso automaton explain) budget) = ⊥
+AsksFor subcommand options (task.Run (command.Empty word) budget) =
+    AsksToLift subcommand options (command.Empty word) budget × GivesFlag (text_of name.Progress options) false
+AsksFor subcommand options (task.Run (command.EmptySearch word) budget) =
+    (subcommand ≡ codes "empty") × GivesFlag (text_of name.Search options) true × GivesFlag (text_of name.Word options) word
+    × (text_of name.Budget options ≡ None) × GivesFlag (text_of name.Progress options) false × (budget ≡ most_budget)
 AsksFor subcommand options (task.Run command.Game budget) = (subcommand ≡ codes "game") × (budget ≡ most_budget)
+AsksFor subcommand options (task.Run (command.Meet other) budget) = ⊥
+AsksFor subcommand options (task.Run command.Complement budget) = (subcommand ≡ codes "complement") × (budget ≡ most_budget)
 AsksFor subcommand options (task.Run (command.Draw format) budget) =
     (subcommand ≡ codes "draw") × Gives IsFormatText (text_of name.Format options) (Some format)
     × (text_of name.Solution options ≡ None) × GivesFlag (text_of name.Lasso options) false × (budget ≡ most_budget)
@@ -130,8 +137,13 @@ AsksFor subcommand options (task.Run command.DrawLasso budget) =
 AsksFor subcommand options (task.Watched command budget) =
     AsksToLift subcommand options command budget × GivesFlag (text_of name.Progress options) true
 AsksFor subcommand options (task.Verify file from explain) =
-    (subcommand ≡ codes "verify") × (text_of name.Game options ≡ Some (string_bytes file))
+    (subcommand ≡ codes "verify") × (text_of name.Game options ≡ Some (string_bytes file)) × (text_of name.Automaton options ≡ None)
     × Gives (IsNumberText most_number) (text_of name.From options) from × GivesFlag (text_of name.Explain options) explain
+AsksFor subcommand options (task.VerifyLasso file explain) =
+    (subcommand ≡ codes "verify") × (text_of name.Automaton options ≡ Some (string_bytes file)) × (text_of name.Game options ≡ None)
+    × (text_of name.From options ≡ None) × GivesFlag (text_of name.Explain options) explain
+AsksFor subcommand options (task.Meet file) =
+    (subcommand ≡ codes "meet") × (text_of name.With options ≡ Some (string_bytes file))
 AsksFor subcommand options (task.DrawSolution file) =
     (subcommand ≡ codes "draw") × Gives IsFormatText (text_of name.Format options) (Some Pg)
     × (text_of name.Solution options ≡ Some (string_bytes file)) × GivesFlag (text_of name.Lasso options) false
@@ -153,25 +165,31 @@ HasOption subcommand name.From = (subcommand ≡ codes "solve") ⊎ (subcommand 
 HasOption subcommand name.Budget = (subcommand ≡ codes "solve") ⊎ (subcommand ≡ codes "empty")
 HasOption subcommand name.Search = (subcommand ≡ codes "solve") ⊎ (subcommand ≡ codes "empty")
 HasOption subcommand name.Game = subcommand ≡ codes "verify"
+HasOption subcommand name.Automaton = subcommand ≡ codes "verify"
 HasOption subcommand name.Explain = subcommand ≡ codes "verify"
+HasOption subcommand name.Word = subcommand ≡ codes "empty"
+HasOption subcommand name.With = subcommand ≡ codes "meet"
 HasOption subcommand name.Solution = subcommand ≡ codes "draw"
 HasOption subcommand name.Lasso = subcommand ≡ codes "draw"
 HasOption subcommand name.Progress = (subcommand ≡ codes "solve") ⊎ (subcommand ≡ codes "empty")
 HasOption subcommand name.File = Unit {0}
 
--- the option has to be given
-abbrev pub IsRequired : OptionName → Type 0
-IsRequired name.Format = Unit {0}
-IsRequired name.Player = ⊥
-IsRequired name.From = ⊥
-IsRequired name.Budget = ⊥
-IsRequired name.Search = ⊥
-IsRequired name.Game = Unit {0}
-IsRequired name.Explain = ⊥
-IsRequired name.Solution = ⊥
-IsRequired name.Lasso = ⊥
-IsRequired name.Progress = ⊥
-IsRequired name.File = ⊥
+-- the option has to be given where the subcommand has it; the game only where no automaton is given
+abbrev pub IsRequired : OptionName → Options → Type 0
+IsRequired name.Format options = Unit {0}
+IsRequired name.Player options = ⊥
+IsRequired name.From options = ⊥
+IsRequired name.Budget options = ⊥
+IsRequired name.Search options = ⊥
+IsRequired name.Game options = text_of name.Automaton options ≡ None
+IsRequired name.Automaton options = ⊥
+IsRequired name.Explain options = ⊥
+IsRequired name.Word options = ⊥
+IsRequired name.With options = Unit {0}
+IsRequired name.Solution options = ⊥
+IsRequired name.Lasso options = ⊥
+IsRequired name.Progress options = ⊥
+IsRequired name.File options = ⊥
 
 -- the text stands for no value of the option
 abbrev pub StandsForNothing : OptionName → List ℕ → Type 0
@@ -181,7 +199,10 @@ StandsForNothing name.From text = (number : ℕ) → IsNumberText most_number te
 StandsForNothing name.Budget text = (number : ℕ) → IsNumberText most_budget text number → ⊥
 StandsForNothing name.Search text = (flag : Bool) → IsTruthText text flag → ⊥
 StandsForNothing name.Game text = ⊥
+StandsForNothing name.Automaton text = ⊥
 StandsForNothing name.Explain text = (flag : Bool) → IsTruthText text flag → ⊥
+StandsForNothing name.Word text = (flag : Bool) → IsTruthText text flag → ⊥
+StandsForNothing name.With text = ⊥
 StandsForNothing name.Solution text = ⊥
 StandsForNothing name.Lasso text = (flag : Bool) → IsTruthText text flag → ⊥
 StandsForNothing name.Progress text = (flag : Bool) → IsTruthText text flag → ⊥
@@ -189,7 +210,7 @@ StandsForNothing name.File text = ⊥
 
 -- the mistake is that the option is missing, or that its text stands for nothing
 abbrev pub IsFaulty : OptionName → Options → Mistake → Type 0
-IsFaulty option options (mistake.Missing other) = (other ≡ option) × IsRequired option × (text_of option options ≡ None)
+IsFaulty option options (mistake.Missing other) = (other ≡ option) × IsRequired option options × (text_of option options ≡ None)
 IsFaulty option options (mistake.Value other text reason) =
     (other ≡ option) × (text_of option options ≡ Some text.now) × StandsForNothing option text.now
 IsFaulty option options mistake.Unknown = ⊥
@@ -206,6 +227,8 @@ pub record IsUnknownSubcommand (subcommand : List ℕ) : Type 0 where
   pub verify : subcommand ≢ codes "verify"
   pub empty : subcommand ≢ codes "empty"
   pub game : subcommand ≢ codes "game"
+  pub meet : subcommand ≢ codes "meet"
+  pub complement : subcommand ≢ codes "complement"
   pub draw : subcommand ≢ codes "draw"
 
 -- the option is given; a flag is set
@@ -216,23 +239,27 @@ IsUsed name.From options = text_of name.From options ≢ None
 IsUsed name.Budget options = text_of name.Budget options ≢ None
 IsUsed name.Search options = GivesFlag (text_of name.Search options) true
 IsUsed name.Game options = text_of name.Game options ≢ None
+IsUsed name.Automaton options = text_of name.Automaton options ≢ None
 IsUsed name.Explain options = GivesFlag (text_of name.Explain options) true
+IsUsed name.Word options = GivesFlag (text_of name.Word options) true
+IsUsed name.With options = text_of name.With options ≢ None
 IsUsed name.Solution options = text_of name.Solution options ≢ None
 IsUsed name.Lasso options = GivesFlag (text_of name.Lasso options) true
 IsUsed name.Progress options = GivesFlag (text_of name.Progress options) true
 IsUsed name.File options = text_of name.File options ≢ None
 
--- the option that is not given beside the search of the subcommand: that of `solve` is for both players,
--- that of `empty` makes no lifts
-abbrev pub IsApartFromSearch : List ℕ → OptionName → Type 0
-IsApartFromSearch subcommand option =
+-- the option of the subcommand that is not given beside this one: the search of `solve` is for both players,
+-- that of `empty` makes no lifts, and a lasso of an automaton is of no game and of no part of one
+abbrev pub IsApartFrom : OptionName → List ℕ → OptionName → Type 0
+IsApartFrom name.Search subcommand option =
     ((subcommand ≡ codes "solve") × (option ≡ name.Player))
     ⊎ ((subcommand ≡ codes "empty") × ((option ≡ name.Budget) ⊎ (option ≡ name.Progress)))
+IsApartFrom name.Automaton subcommand option = (subcommand ≡ codes "verify") × ((option ≡ name.Game) ⊎ (option ≡ name.From))
+IsApartFrom one subcommand option = ⊥
 
--- two options that are not given together: the search, and the option that is apart from it
+-- two options that are not given together, and both are
 pub record IsConflict (subcommand : List ℕ) (options : Options) (one other : OptionName) : Type 0 where
-  pub one_is : one ≡ name.Search
-  pub apart : IsApartFromSearch subcommand other
+  pub apart : IsApartFrom one subcommand other
   pub one_used : IsUsed one options
   pub other_used : IsUsed other options
 

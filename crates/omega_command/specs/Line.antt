@@ -11,6 +11,8 @@ abbrev pub IsRunnableTask : Task → Type 0
 IsRunnableTask (task.Run command budget) = budget ≤ most_budget
 IsRunnableTask (task.Watched command budget) = budget ≤ most_budget
 IsRunnableTask (task.Verify file from explain) = Unit {0}
+IsRunnableTask (task.VerifyLasso file explain) = Unit {0}
+IsRunnableTask (task.Meet file) = Unit {0}
 IsRunnableTask (task.DrawSolution file) = Unit {0}
 
 -- what the line asks for can be done

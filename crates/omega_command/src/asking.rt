@@ -9,7 +9,7 @@ use crate::options::{OptionName, Options};
 use crate::source::source_in;
 use crate::values::{
     budget_in, format_in, identifier_in, is_explained, is_search, is_watched, is_with_lasso,
-    player_in,
+    is_with_word, player_in,
 };
 use std::alloc::Global;
 
@@ -54,6 +54,12 @@ fn task_for<'a>(alloc: Global, subcommand: &str, options: &Options<'a>) -> Resul
     if subcommand == "game" {
         return Ok(Task::Run(Command::Game, MOST_BUDGET));
     }
+    if subcommand == "meet" {
+        return meeting_for(alloc, options);
+    }
+    if subcommand == "complement" {
+        return Ok(Task::Run(Command::Complement, MOST_BUDGET));
+    }
     if subcommand == "draw" {
         return drawing_for(alloc, options);
     }
@@ -80,11 +86,23 @@ fn verifying_for<'a>(alloc: Global, options: &Options<'a>) -> Result<Task, Mista
     ensures asked { IfOk result (AsksFor (codes "verify") options.now) }
     ensures mistaken { IfErr result (IsMistake (codes "verify") options.now) }
 {
+    let explain = is_explained(options)?;
+    if let Some(name) = options.automaton {
+        if options.game.is_some() {
+            return Err(Mistake::Conflict(OptionName::Automaton, OptionName::Game));
+        }
+        if options.from.is_some() {
+            return Err(Mistake::Conflict(OptionName::Automaton, OptionName::From));
+        }
+        return match String::from_str(alloc, name) {
+            Ok(file) => Ok(Task::VerifyLasso { file, explain }),
+            Err(_) => Err(Mistake::Memory),
+        };
+    }
     let Some(name) = options.game else {
         return Err(Mistake::Missing(OptionName::Game));
     };
     let from = identifier_in(options)?;
-    let explain = is_explained(options)?;
     match String::from_str(alloc, name) {
         Ok(file) => Ok(Task::Verify {
             file,
@@ -128,13 +146,15 @@ fn emptiness_for<'a>(options: &Options<'a>) -> Result<Task, Mistake<'a>>
     ensures asked { IfOk result (AsksFor (codes "empty") options.now) }
     ensures mistaken { IfErr result (IsMistake (codes "empty") options.now) }
 {
+    let word = is_with_word(options)?;
     let budget = budget_in(options)?;
     let watched = is_watched(options)?;
     if !is_search(options)? {
+        let command = Command::Empty { word };
         return Ok(if watched {
-            Task::Watched(Command::Empty, budget)
+            Task::Watched(command, budget)
         } else {
-            Task::Run(Command::Empty, budget)
+            Task::Run(command, budget)
         });
     }
     if options.budget.is_some() {
@@ -143,7 +163,21 @@ fn emptiness_for<'a>(options: &Options<'a>) -> Result<Task, Mistake<'a>>
     if watched {
         return Err(Mistake::Conflict(OptionName::Search, OptionName::Progress));
     }
-    Ok(Task::Run(Command::EmptySearch, MOST_BUDGET))
+    Ok(Task::Run(Command::EmptySearch { word }, MOST_BUDGET))
+}
+
+/// What `meet` asks for with the text of its option, or what is wrong with it.
+fn meeting_for<'a>(alloc: Global, options: &Options<'a>) -> Result<Task, Mistake<'a>>
+    ensures asked { IfOk result (AsksFor (codes "meet") options.now) }
+    ensures mistaken { IfErr result (IsMistake (codes "meet") options.now) }
+{
+    let Some(name) = options.with else {
+        return Err(Mistake::Missing(OptionName::With));
+    };
+    match String::from_str(alloc, name) {
+        Ok(file) => Ok(Task::Meet { file }),
+        Err(_) => Err(Mistake::Memory),
+    }
 }
 
 /// What `draw` asks for with the texts of its options, or what is wrong with them.

@@ -35,12 +35,31 @@ pub enum Command {
         /// Whether it is explained where the solution is not right.
         explain: bool,
     },
+    /// Checks whether a lasso is an accepting one of the automaton whose text is kept here.
+    VerifyLasso {
+        automaton: Seq<u8>,
+        /// Whether it is explained where it is none.
+        explain: bool,
+    },
     /// Says whether an automaton accepts nothing, and shows a lasso where it does not. Decided by lifting.
-    Empty,
+    Empty {
+        /// Whether the word that the lasso accepts is written too.
+        word: bool,
+    },
     /// The same, decided by a search.
-    EmptySearch,
+    EmptySearch {
+        /// Whether the word that the lasso accepts is written too.
+        word: bool,
+    },
     /// Writes the emptiness game of an automaton.
     Game,
+    /// Writes an automaton that accepts the words that both accept, the one that is read and the one whose text is
+    /// kept here.
+    Meet {
+        with: Seq<u8>,
+    },
+    /// Writes an automaton that accepts the words that a deterministic one does not.
+    Complement,
     /// Draws the one game or automaton that the text stands for.
     Draw(Format),
     /// Draws a game with a solution of it, whose text is kept here.

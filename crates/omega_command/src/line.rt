@@ -26,6 +26,15 @@ pub enum Task {
         from: Option<u32>,
         explain: bool,
     },
+    /// To verify a lasso of the automaton in a file, and to explain a `no` where that is asked for.
+    VerifyLasso {
+        file: String,
+        explain: bool,
+    },
+    /// To write an automaton that accepts the words that both accept, the one that is read and the one in a file.
+    Meet {
+        file: String,
+    },
     /// To draw a game with the solution of it in a file.
     DrawSolution {
         file: String,

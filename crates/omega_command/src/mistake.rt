@@ -62,7 +62,12 @@ impl fmt::Display for Mistake<'_> {
     fn fmt<W: fmt::Write>(&self, f: &mut fmt::Formatter<W>) -> fmt::Result {
         match self {
             Mistake::Unknown => f.write_str("the subcommand is not known"),
-            Mistake::Missing(name) => write!(f, "'{name}' is missing"),
+            Mistake::Missing(name) => {
+                write!(
+                    f,
+                    "the following required arguments were not provided:\n  {name}"
+                )
+            }
             Mistake::Value(name, text, reason) => {
                 write!(f, "invalid value '{text}' for '{name}': {reason}")
             }
@@ -81,11 +86,15 @@ impl fmt::Display for Mistake<'_> {
 }
 
 impl Mistake<'_> {
-    /// Whether options do not go together. `clap` tells of that with the usage of the subcommand.
-    pub fn is_conflict(&self) -> bool
+    /// Whether it is told with the usage of the subcommand, as `clap` tells of options that do not go together and of
+    /// one that is missing.
+    pub fn has_usage(&self) -> bool
         ensures { result ≡ true → self.now ≢ mistake.Memory }
     {
-        matches!(self, Mistake::Conflict(_, _) | Mistake::OnlyWith(_, _))
+        matches!(
+            self,
+            Mistake::Missing(_) | Mistake::Conflict(_, _) | Mistake::OnlyWith(_, _)
+        )
     }
 
     /// What is wrong, without more. Want of memory has no text.

@@ -9,7 +9,10 @@ pub enum OptionName {
     Budget,
     Search,
     Game,
+    Automaton,
     Explain,
+    Word,
+    With,
     Solution,
     Lasso,
     Progress,
@@ -26,7 +29,10 @@ impl fmt::Display for OptionName {
             OptionName::Budget => "--budget <N>",
             OptionName::Search => "--search",
             OptionName::Game => "--game <FILE>",
+            OptionName::Automaton => "--automaton <FILE>",
             OptionName::Explain => "--explain",
+            OptionName::Word => "--word",
+            OptionName::With => "--with <FILE>",
             OptionName::Solution => "--solution <FILE>",
             OptionName::Lasso => "--lasso",
             OptionName::Progress => "--progress",
@@ -45,8 +51,12 @@ pub struct Options<'a> {
     /// `true` where the flag is given; `clap` may say `false` where it is not.
     pub search: Option<&'a str>,
     pub game: Option<&'a str>,
+    pub automaton: Option<&'a str>,
     /// As `search`.
     pub explain: Option<&'a str>,
+    /// As `search`.
+    pub word: Option<&'a str>,
+    pub with: Option<&'a str>,
     pub solution: Option<&'a str>,
     /// As `search`.
     pub lasso: Option<&'a str>,

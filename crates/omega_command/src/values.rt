@@ -85,6 +85,20 @@ pub fn is_explained<'a>(options: &Options<'a>) -> Result<bool, Mistake<'a>>
     }
 }
 
+/// Whether the word of a lasso is written too.
+pub fn is_with_word<'a>(options: &Options<'a>) -> Result<bool, Mistake<'a>>
+    ensures given { IfOk result (GivesFlag (text_of name.Word options.now)) }
+    ensures faulty { IfErr result (IsFaulty name.Word options.now) }
+{
+    let Some(text) = options.word else {
+        return Ok(false);
+    };
+    match truth_in(text) {
+        Some(flag) => Ok(flag),
+        None => Err(Mistake::Value(OptionName::Word, text, Reason::NoTruth)),
+    }
+}
+
 /// Whether a lasso is drawn.
 pub fn is_with_lasso<'a>(options: &Options<'a>) -> Result<bool, Mistake<'a>>
     ensures given { IfOk result (GivesFlag (text_of name.Lasso options.now)) }

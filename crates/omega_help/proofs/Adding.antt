@@ -1,10 +1,10 @@
 -- What adding options and subcommands makes of a command.
-use Rattle.std.proofs.Common.{◌≡◌, ◌&&◌, ◌++◌, ◌∙◌, Bool, List, [], ◌∷◌, Result, Ok, Err, IfOk, true, false, not, refl, ap, append_assoc, sym}
+use Rattle.std.proofs.Common.{◌≡◌, ◌&&◌, ◌++◌, ◌∙◌, Bool, List, [], ◌∷◌, Result, Ok, Err, IfOk, true, false, not, refl, append_assoc}
 use Rattle.std.proofs.lemmas.List.{append-nil}
 use Rattle.clap.specs.Words.{App, Rule, with_rule}
 use Rattle.omega_help.specs.private.building.Building.{shape_for, with_rules}
 use Rattle.omega_help.specs.declared.program.Subcommand.{Subcommand}
-use Rattle.omega_help.specs.declared.program.Subcommand.TheVariants.{Canon, Check, Draw, Empty, Game, Show, Solve, Verify}
+use Rattle.omega_help.specs.declared.program.Subcommand.TheVariants.{Canon, Check, Complement, Draw, Empty, Game, Meet, Show, Solve, Verify}
 
 -- what holds of the value is said in other words
 pub if_ok_wider : {T E : Type 0} (result : Result T E) (Holds Others : T → Type 0) → ((value : T) → Holds value → Others value)
@@ -28,6 +28,8 @@ is_plain Solve = refl
 is_plain Verify = refl
 is_plain Empty = refl
 is_plain Game = refl
+is_plain Meet = refl
+is_plain Complement = refl
 is_plain Draw = refl
 
 -- the options stand behind those that the command has

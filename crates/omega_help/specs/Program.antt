@@ -43,13 +43,21 @@ solve =
 abbrev pub verify : Shape
 verify =
     with_options (codes "verify")
-    (required (codes "game") ∷ optional (codes "from") ∷ flag (codes "explain") ∷ operand (codes "file") ∷ [])
+    (optional (codes "game") ∷ optional (codes "automaton") ∷ optional (codes "from") ∷ flag (codes "explain") ∷ operand (codes "file") ∷ [])
 
 abbrev pub empty : Shape
-empty = with_options (codes "empty") (flag (codes "search") ∷ optional (codes "budget") ∷ flag (codes "progress") ∷ operand (codes "file") ∷ [])
+empty =
+    with_options (codes "empty")
+    (flag (codes "search") ∷ flag (codes "word") ∷ optional (codes "budget") ∷ flag (codes "progress") ∷ operand (codes "file") ∷ [])
 
 abbrev pub game : Shape
 game = with_options (codes "game") (operand (codes "file") ∷ [])
+
+abbrev pub meet : Shape
+meet = with_options (codes "meet") (required (codes "with") ∷ operand (codes "file") ∷ [])
+
+abbrev pub complement : Shape
+complement = with_options (codes "complement") (operand (codes "file") ∷ [])
 
 abbrev pub draw : Shape
 draw =
@@ -62,5 +70,5 @@ draw =
 abbrev pub program : App
 program = record {
   top = record (new_shape (codes "omega")) { is_leaf = false; has_version = true; subcommand_required = true };
-  subs = show ∷ check ∷ canon ∷ solve ∷ verify ∷ empty ∷ game ∷ draw ∷ [];
+  subs = show ∷ check ∷ canon ∷ solve ∷ verify ∷ empty ∷ game ∷ meet ∷ complement ∷ draw ∷ [];
 }

@@ -2,7 +2,7 @@ ghost use Rattle.std.specs.Prelude.{◌≡◌, IfOk};
 ghost use Rattle.omega_help.specs.Program.{empty};
 ghost use Rattle.clap.specs.Words.{shape_of};
 
-use crate::options::{BUDGET, FILE, OptionHelp, PROGRESS, Value};
+use crate::options::{BUDGET, FILE, OptionHelp, PROGRESS, Value, WORD};
 use crate::subcommand::subcommand;
 use clap::Command;
 use std::alloc::{AllocError, Global};
@@ -23,7 +23,22 @@ some set of propositions makes true, or no label.
 
 An edge is written as its number. The edges of the body are numbered from 0 in the order of the text,
 through all states. Here edge 0 leads from state 0 to itself, edge 1 from state 0 to state 1, and edge 2
-from state 1 to itself. A stem without edges is written as `stem` alone.
+from state 1 to itself. A stem without edges is written as `stem` alone. `omega verify --automaton` checks
+such a text, whoever made it.
+
+--word writes a third line after a lasso: the word that it accepts, as Spot writes words. The letters of the
+stem come first, each with a semicolon behind it, and then in braces those of the cycle, which come again
+and again. The letter of an edge is its label, with names in place of numbers, 1 for t and 0 for f. A name
+that is no identifier stands in double quotes. An edge without label has the letter of its valuation.
+
+  $ echo 'HOA: v1 States: 2 Start: 0 AP: 2 \"a\" \"b\" acc-name: Buchi Acceptance: 1 Inf(0)
+    --BODY-- State: 0 [0&!1] 1 State: 1 [1] 1 {0} --END--' | omega empty --word
+  stem 0
+  cycle 1
+  word a & !b; cycle{b}
+
+A letter stands for each set of propositions that makes it true. Here a holds at first and b does not, and
+from then on b holds, with or without a. Every word that fits the letters is accepted.
 
 Without --search it is decided for these names in `acc-name:`, with the formula of the Hanoi format:
 all, none, Buchi, co-Buchi, parity max even K, parity max odd K, parity min even K, parity min odd K,
@@ -65,6 +80,7 @@ const OPTIONS: &[OptionHelp] = &[
         value: Value::None,
         help: "Decide by a search without lifting, which is quicker on large automata",
     },
+    WORD,
     BUDGET,
     PROGRESS,
     FILE,

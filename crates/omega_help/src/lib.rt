@@ -3,9 +3,11 @@
 
 mod canon;
 mod check;
+mod complement;
 mod draw;
 mod empty;
 mod game;
+mod meet;
 mod options;
 mod program;
 mod show;
@@ -14,4 +16,4 @@ mod subcommand;
 mod verify;
 mod version;
 
-pub use program::{conflict_text, matches_of};
+pub use program::{fault_text, matches_of};

@@ -59,8 +59,29 @@ pub const FORMAT: OptionHelp = OptionHelp {
 /// The option that names the file of a game.
 pub const GAME: OptionHelp = OptionHelp {
     name: "game",
+    value: Value::Optional("FILE"),
+    help: "Judge a solution of the game in this file",
+};
+
+/// The option that names the file of an automaton.
+pub const AUTOMATON: OptionHelp = OptionHelp {
+    name: "automaton",
+    value: Value::Optional("FILE"),
+    help: "Judge a lasso of the automaton in this file",
+};
+
+/// The option that names the file of another automaton.
+pub const WITH: OptionHelp = OptionHelp {
+    name: "with",
     value: Value::Required("FILE"),
-    help: "The file with the game text",
+    help: "The file with the other automaton",
+};
+
+/// The flag that asks for the word of a lasso.
+pub const WORD: OptionHelp = OptionHelp {
+    name: "word",
+    value: Value::None,
+    help: "Write the word that the lasso accepts as a third line",
 };
 
 /// The option that says whose game is solved.
@@ -74,7 +95,7 @@ pub const PLAYER: OptionHelp = OptionHelp {
 pub const EXPLAIN: OptionHelp = OptionHelp {
     name: "explain",
     value: Value::None,
-    help: "Write after `no` a walk on which a player loses",
+    help: "Write after `no` a walk on which a player loses, or what is wrong with the lasso",
 };
 
 /// The option that bounds the work.

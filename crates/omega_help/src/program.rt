@@ -5,9 +5,11 @@ ghost use Rattle.omega_help.specs.private.building.Building.{shape_for, without_
 
 use crate::canon::canon_command;
 use crate::check::check_command;
+use crate::complement::complement_command;
 use crate::draw::draw_command;
 use crate::empty::empty_command;
 use crate::game::game_command;
+use crate::meet::meet_command;
 use crate::show::show_command;
 use crate::solve::solve_command;
 use crate::verify::verify_command;
@@ -34,8 +36,8 @@ A text of the Hanoi format, version 1, holds omega-automata, one after the other
 
 Here one state has two edges to itself: one where a holds, which is in set 0, and one where it does
 not. A word that takes the first again and again is accepted. `omega show`, `check` and `canon` read both
-formats, and --format says which. `omega empty` and `omega game` read one automaton, and `omega draw`
-draws one automaton or a game.
+formats, and --format says which. `omega empty`, `omega game` and `omega complement` read one automaton,
+`omega meet` reads two, and `omega draw` draws one automaton or a game.
 
 A command reads the file that it is given as its last word, as in `omega solve game.pg`. Without one, or
 with -, it reads standard input. It writes standard output. If a text or the task is refused, a line on
@@ -74,11 +76,13 @@ enum Subcommand {
     Verify,
     Empty,
     Game,
+    Meet,
+    Complement,
     Draw,
 }
 
 /// The subcommands in the order in which help lists them.
-const SUBCOMMANDS: [Subcommand; 8] = [
+const SUBCOMMANDS: [Subcommand; 10] = [
     Subcommand::Show,
     Subcommand::Check,
     Subcommand::Canon,
@@ -86,6 +90,8 @@ const SUBCOMMANDS: [Subcommand; 8] = [
     Subcommand::Verify,
     Subcommand::Empty,
     Subcommand::Game,
+    Subcommand::Meet,
+    Subcommand::Complement,
     Subcommand::Draw,
 ];
 
@@ -101,14 +107,16 @@ impl Subcommand {
             Subcommand::Verify => verify_command(alloc),
             Subcommand::Empty => empty_command(alloc),
             Subcommand::Game => game_command(alloc),
+            Subcommand::Meet => meet_command(alloc),
+            Subcommand::Complement => complement_command(alloc),
             Subcommand::Draw => draw_command(alloc),
         }
     }
 }
 
-/// The text that says that options of a subcommand do not go together, with its usage, in the form of the faults that
+/// The text that says what is wrong with the options of a subcommand, with its usage, in the form of the faults that
 /// `clap` finds.
-pub fn conflict_text(alloc: Global, subcommand: &str, message: &str) -> Result<String, AllocError> {
+pub fn fault_text(alloc: Global, subcommand: &str, message: &str) -> Result<String, AllocError> {
     let name = format!(in alloc; "omega {subcommand}")?;
     let mut command = command_named(alloc, subcommand)?.bin_name(name.as_str())?;
     command
@@ -139,6 +147,10 @@ fn subcommand_named(name: &str) -> Option<Subcommand> {
         Some(Subcommand::Empty)
     } else if name == "game" {
         Some(Subcommand::Game)
+    } else if name == "meet" {
+        Some(Subcommand::Meet)
+    } else if name == "complement" {
+        Some(Subcommand::Complement)
     } else if name == "draw" {
         Some(Subcommand::Draw)
     } else {
@@ -177,7 +189,7 @@ fn without_subcommands<'a>(alloc: Global) -> Result<Command<'a>, AllocError>
 {
     Command::new(alloc, "omega")
         .about(
-            "Reads, checks, writes and draws parity games and omega-automata, solves games, verifies their solutions, and says whether an automaton accepts nothing.",
+            "Reads, checks, writes and draws parity games and omega-automata, solves games, says whether an automaton accepts nothing, verifies such answers, and makes automata of others.",
         )
         .version(VERSION)
         .after_help("`omega <COMMAND> --help` says more about a command.")

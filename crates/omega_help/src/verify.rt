@@ -2,16 +2,19 @@ ghost use Rattle.std.specs.Prelude.{◌≡◌, IfOk};
 ghost use Rattle.omega_help.specs.Program.{verify};
 ghost use Rattle.clap.specs.Words.{shape_of};
 
-use crate::options::{EXPLAIN, FILE, GAME, OptionHelp, Value};
+use crate::options::{AUTOMATON, EXPLAIN, FILE, GAME, OptionHelp, Value};
 use crate::subcommand::subcommand;
 use clap::Command;
 use std::alloc::{AllocError, Global};
 
 const DETAILS: &str = "\
-Use it to check a solution, whoever made it. It reads the game from the file that --game names, and the
-solution from FILE, or from standard input if there is no FILE or it is -. It writes `yes` if for each
-player the choices of the solution win from all the nodes that it gives to that player, and `no` if not.
-It does not solve the game: it only follows the choices.
+Use it to check an answer, whoever made it: a solution of a game, or a lasso of an automaton. It reads the
+solution or the lasso from FILE, or from standard input if there is no FILE or it is -, and the game or the
+automaton from the file that --game or --automaton names. It writes `yes` if the answer is right, and `no`
+if not. One of --game and --automaton has to be given.
+
+--game FILE checks a solution of the game in FILE. It is right if for each player the choices win from all
+the nodes that it gives to that player. The game is not solved: only the choices are followed.
 
   $ echo '0 0 0 1,2; 1 1 1 0; 2 2 1 0;' > game.pg
   $ echo 'paritysol 2; 0 0 2; 1 0; 2 0;' > solution.txt
@@ -33,7 +36,7 @@ loses for the player.
 
 --from ID judges a solution of the part of the game that is reached from the node with that identifier,
 as `omega solve --from ID` writes it; the file has the whole game. If no node has the identifier,
-the refusal is 54 UnknownNode.
+the refusal is 54 UnknownNode. It goes with --game only.
 
   $ echo '0 0 0 1; 1 1 1 1; 2 2 0 0;' > game.pg
   $ omega solve --from 0 game.pg | omega verify --game game.pg --from 0
@@ -42,12 +45,41 @@ the refusal is 54 UnknownNode.
 A solution text is what `omega solve` writes: a header with the greatest identifier of the game, or of
 the part, then a line for each node in rising order of identifiers, with the player who wins from it
 and, exactly where that player owns the node, one of its successors. Any other text of this kind is
-refused as 53 BadSolution. If both texts are at fault, the fault of the game is reported. After the line
-of a refusal another says which text it is about:
+refused as 53 BadSolution.
+
+--automaton FILE checks a lasso of the automaton in FILE. It is right if it is accepted: its stem leads
+from a start to a state, and its cycle from there back to it; each of its edges has a label that some set
+of propositions makes true, or no label; and the acceptance formula holds of the marks of the cycle. Every
+acceptance formula is judged. The lasso is only followed, and none is searched for.
+
+  $ echo 'HOA: v1 States: 2 Start: 0 acc-name: co-Buchi Acceptance: 1 Fin(0)
+    --BODY-- State: 0 [t] 0 {0} [t] 1 State: 1 [t] 1 --END--' > automaton.hoa
+  $ omega empty automaton.hoa | omega verify --automaton automaton.hoa
+  yes
+  $ echo 'stem cycle 0' | omega verify --automaton automaton.hoa --explain
+  no
+  the cycle does not accept
+
+With --explain a line follows `no` that says what is wrong with the lasso: the first edge that is not
+there, or that can't be taken where it stands; or else that the cycle does not accept.
+
+A lasso text is what `omega empty` writes without --word: `stem` and numbers of edges, then `cycle` and at
+least one, with white space between them. The edges of the body are numbered from 0 in the order of the
+text, through all states. A number that no edge has is no fault of the text, and the answer is `no`. A
+start or an edge of the automaton that lists several states joined by & is refused as 41 UniversalBranch.
+42 TooManyPropositions comes only where a label of one of the lasso's edges mentions over 12
+propositions, and 4194304 steps do not decide whether it can hold.
+
+If both texts are at fault, the fault of the game or the automaton is reported. After the line of a
+fault another says which text has it: `omega: in the game` or `omega: in the solution`, and
+`omega: in the automaton` or `omega: in the lasso`.
 
   $ echo 'paritysol 2; 0 0 2; 1 0; 2 0' | omega verify --game game.pg
   omega: 3 Syntax at 29
   omega: in the solution
+  $ echo 'stem 0 cycle' | omega verify --automaton automaton.hoa
+  omega: 3 Syntax at 13
+  omega: in the lasso
 
 A file that can't be read is refused as 61 Io, and another line has its name. Files are read before
 standard input.
@@ -57,6 +89,7 @@ read or a write failed, 6 no.";
 
 const OPTIONS: &[OptionHelp] = &[
     GAME,
+    AUTOMATON,
     OptionHelp {
         name: "from",
         value: Value::Optional("ID"),
@@ -66,10 +99,10 @@ const OPTIONS: &[OptionHelp] = &[
     FILE,
 ];
 
-/// The subcommand that checks a solution of a game.
+/// The subcommand that checks a solution of a game, or a lasso of an automaton.
 pub fn verify_command<'a>(alloc: Global) -> Result<Command<'a>, AllocError>
     ensures { IfOk result (λ command. shape_of command ≡ verify) }
 {
-    let about = "Say whether a solution of a game is right";
+    let about = "Say whether a solution of a game, or a lasso of an automaton, is right";
     subcommand(alloc, "verify", about, DETAILS, OPTIONS)
 }

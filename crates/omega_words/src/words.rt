@@ -10,7 +10,7 @@ use crate::found::options_in;
 use clap::error::ErrorKind;
 use clap::{ArgMatches, Error};
 use omega_command::{Line, Mistake, line_for};
-use omega_help::{conflict_text, matches_of};
+use omega_help::{fault_text, matches_of};
 use omega_text::Refusal;
 use std::alloc::Global;
 
@@ -55,9 +55,9 @@ fn mistaken(alloc: Global, subcommand: &str, mistake: &Mistake<'_>) -> Result<Li
     ensures fault { IfOk result (IsFaultLineOf mistake.now) }
     ensures memory { IsOkUnless result Memory }
 {
-    if mistake.is_conflict() {
+    if mistake.has_usage() {
         let message = mistake.message(alloc)?;
-        let text = conflict_text(alloc, subcommand, message.as_str())?;
+        let text = fault_text(alloc, subcommand, message.as_str())?;
         return Ok(Line::Fault(text));
     }
     Ok(Line::Fault(mistake.text(alloc)?))

@@ -1,5 +1,5 @@
 -- `matches_of`: the program is a simple command, so that `clap` finds exactly what its words say.
-use Rattle.std.proofs.Common.{◌≡◌, IfOk, List, ap, map, refl, string_bytes, subst, true}
+use Rattle.std.proofs.Common.{◌≡◌, IfOk, List, map, refl, string_bytes, subst, true}
 use Rattle.clap.specs.Words.{App, FailsBy, HasMatchesOf, Text, fault_of, is_simple, is_simple_and_free, subcommand_of, subcommand_rows_of}
 use Rattle.omega_help.specs.Program.{program}
 use Rattle.omega_help.proofs.Adding.{if_ok_wider}

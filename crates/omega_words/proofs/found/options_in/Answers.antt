@@ -3,7 +3,7 @@ use Rattle.std.proofs.Common.{◌∙◌}
 use Rattle.clap.proofs.WalkLemmas.{first_value-rows}
 use Rattle.clap.specs.Words.{found_of}
 use Rattle.omega_words.specs.Found.{id_of}
-use Rattle.omega_command.specs.declared.options.OptionName.TheVariants.{Budget, Explain, File, Format, From, Game, Lasso, Player, Progress, Search, Solution}
+use Rattle.omega_command.specs.declared.options.OptionName.TheVariants.{Automaton, Budget, Explain, File, Format, From, Game, Lasso, Player, Progress, Search, Solution, With, Word}
 use Rattle.omega_words.proofs.found.options_in.Goals as goal
 
 pub returns : goal.returns
@@ -13,8 +13,11 @@ returns c From = c.get_str-3.ensures ∙ first_value-rows (found_of c.args.found
 returns c Budget = c.get_str-4.ensures ∙ first_value-rows (found_of c.args.found.now) (id_of Budget)
 returns c Search = c.get_str-5.ensures ∙ first_value-rows (found_of c.args.found.now) (id_of Search)
 returns c Game = c.get_str-6.ensures ∙ first_value-rows (found_of c.args.found.now) (id_of Game)
-returns c Explain = c.get_str-7.ensures ∙ first_value-rows (found_of c.args.found.now) (id_of Explain)
-returns c Solution = c.get_str-8.ensures ∙ first_value-rows (found_of c.args.found.now) (id_of Solution)
-returns c Lasso = c.get_str-9.ensures ∙ first_value-rows (found_of c.args.found.now) (id_of Lasso)
-returns c Progress = c.get_str-10.ensures ∙ first_value-rows (found_of c.args.found.now) (id_of Progress)
-returns c File = c.get_str-11.ensures ∙ first_value-rows (found_of c.args.found.now) (id_of File)
+returns c Automaton = c.get_str-7.ensures ∙ first_value-rows (found_of c.args.found.now) (id_of Automaton)
+returns c Explain = c.get_str-8.ensures ∙ first_value-rows (found_of c.args.found.now) (id_of Explain)
+returns c Word = c.get_str-9.ensures ∙ first_value-rows (found_of c.args.found.now) (id_of Word)
+returns c With = c.get_str-10.ensures ∙ first_value-rows (found_of c.args.found.now) (id_of With)
+returns c Solution = c.get_str-11.ensures ∙ first_value-rows (found_of c.args.found.now) (id_of Solution)
+returns c Lasso = c.get_str-12.ensures ∙ first_value-rows (found_of c.args.found.now) (id_of Lasso)
+returns c Progress = c.get_str-13.ensures ∙ first_value-rows (found_of c.args.found.now) (id_of Progress)
+returns c File = c.get_str-14.ensures ∙ first_value-rows (found_of c.args.found.now) (id_of File)
