@@ -1,3 +1,2 @@
 -- What `empty` answers: `empty`, or the text of an accepting lasso, and refusals.
 pub mod Answer
-pub mod LassoText

@@ -7,7 +7,7 @@ use Rattle.omega_game_answers.specs.declared.solve.asked.Asked.TheVariants as wa
 use Rattle.omega_io.specs.declared.exit.Exit.{Exit}
 use Rattle.omega_io.specs.Reading.{IsRead}
 use Rattle.omega_command.specs.declared.command.Command.{Command}
-use Rattle.omega_command.specs.declared.command.Command.TheVariants.{Canon, CanonPart, Check, Draw, DrawLasso, DrawSolution, Empty, EmptySearch, Game, Search, Show, Solve, Verify}
+use Rattle.omega_command.specs.declared.command.Command.TheVariants.{Canon, CanonPart, Check, Complement, Draw, DrawLasso, DrawSolution, Empty, EmptySearch, Game, Meet, Search, Show, Solve, Verify, VerifyLasso}
 use Rattle.omega_budget.specs.Watching.{IsWatched, TellsRun, refusal_in}
 use Rattle.omega_budget.specs.declared.watching.Progress.{Progress}
 use Rattle.omega_budget.proofs.Watched.{one_made}
@@ -38,6 +38,8 @@ streams_count_none tells every budget stream.Canon unread_before unread_after ou
 files_count_none : {L : Type 0} (tells : Progress → L → L → Type 0) (every budget : ℕ) (one : OfFile) (unread_before unread_after : Option (List ℕ))
     (output : List ℕ) (before after : L) → CountsToldOfInput tells every (of_file one) unread_before unread_after budget output before after
 files_count_none tells every budget (file.Verify game from explain) unread_before unread_after output before after = tt
+files_count_none tells every budget (file.VerifyLasso automaton explain) unread_before unread_after output before after = tt
+files_count_none tells every budget (file.Meet other) unread_before unread_after output before after = tt
 files_count_none tells every budget (file.DrawSolution solution) unread_before unread_after output before after = tt
 
 module _ {L : Type 0} (tells : Progress → L → L → Type 0) (every budget : ℕ) (unread_before unread_after : Option (List ℕ)) (output : List ℕ)
@@ -100,13 +102,16 @@ module _ {L : Type 0} (held : L → Option (List ℕ)) (failed : L → ℕ) (eve
       let (nodes, judged, none) = counted.holds in
       uncounted_lines (Solve None from) (λ lines. record { text = counted.text; read = counted.read; holds = (nodes, judged, none) }) watched
   counted_lines (Search from) watched counted = uncounted_lines (Search from) (λ lines. tt) watched
-  counted_lines Empty watched counted = uncounted_lines Empty (λ lines. tt) watched
+  counted_lines (Empty word) watched counted = uncounted_lines (Empty word) (λ lines. tt) watched
   counted_lines (Show format) watched counted = uncounted_lines (Show format) (λ lines. tt) watched
   counted_lines (Check format) watched counted = uncounted_lines (Check format) (λ lines. tt) watched
   counted_lines (Canon format) watched counted = uncounted_lines (Canon format) (λ lines. tt) watched
   counted_lines (CanonPart from) watched counted = uncounted_lines (CanonPart from) (λ lines. tt) watched
   counted_lines (Verify game from explain) watched counted = uncounted_lines (Verify game from explain) (λ lines. tt) watched
-  counted_lines EmptySearch watched counted = uncounted_lines EmptySearch (λ lines. tt) watched
+  counted_lines (VerifyLasso automaton explain) watched counted = uncounted_lines (VerifyLasso automaton explain) (λ lines. tt) watched
+  counted_lines (EmptySearch word) watched counted = uncounted_lines (EmptySearch word) (λ lines. tt) watched
+  counted_lines (Meet other) watched counted = uncounted_lines (Meet other) (λ lines. tt) watched
+  counted_lines Complement watched counted = uncounted_lines Complement (λ lines. tt) watched
   counted_lines Game watched counted = uncounted_lines Game (λ lines. tt) watched
   counted_lines (Draw format) watched counted = uncounted_lines (Draw format) (λ lines. tt) watched
   counted_lines (DrawSolution solution) watched counted = uncounted_lines (DrawSolution solution) (λ lines. tt) watched

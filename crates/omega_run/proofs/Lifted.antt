@@ -6,7 +6,7 @@ use Rattle.omega_text.specs.declared.refusal.task.TaskFault.TheVariants.{Budget}
 use Rattle.omega_game.specs.Game.{Node}
 use Rattle.omega_game.specs.declared.player.Player.{Player}
 use Rattle.omega_command.specs.declared.command.Command.{Command}
-use Rattle.omega_command.specs.declared.command.Command.TheVariants.{Canon, CanonPart, Check, Draw, DrawLasso, DrawSolution, Empty, EmptySearch, Game, Search, Show, Solve, Verify}
+use Rattle.omega_command.specs.declared.command.Command.TheVariants.{Canon, CanonPart, Check, Complement, Draw, DrawLasso, DrawSolution, Empty, EmptySearch, Game, Meet, Search, Show, Solve, Verify, VerifyLasso}
 use Rattle.omega_budget.specs.Watching.{IsWatched}
 use Rattle.omega_budget.specs.declared.watching.Progress.{Progress}
 use Rattle.omega_automaton_answers.proofs.Watching.{text_refused}
@@ -36,7 +36,7 @@ input_refused (Search from) unread_before unread_after refusal other nodes playe
   read = lifted.read;
   holds = (lifted.holds.0, runs_refused way.Search players refusal other lifted.holds.1);
 }
-input_refused Empty unread_before unread_after refusal other nodes players lifted = record {
+input_refused (Empty word) unread_before unread_after refusal other nodes players lifted = record {
   text = lifted.text;
   read = lifted.read;
   holds = text_refused lifted.text refusal other nodes players lifted.holds;
@@ -46,7 +46,10 @@ input_refused (Check format) unread_before unread_after refusal other nodes play
 input_refused (Canon format) unread_before unread_after refusal other nodes players lifted = lifted
 input_refused (CanonPart from) unread_before unread_after refusal other nodes players lifted = lifted
 input_refused (Verify game from explain) unread_before unread_after refusal other nodes players lifted = lifted
-input_refused EmptySearch unread_before unread_after refusal other nodes players lifted = lifted
+input_refused (VerifyLasso automaton explain) unread_before unread_after refusal other nodes players lifted = lifted
+input_refused (EmptySearch word) unread_before unread_after refusal other nodes players lifted = lifted
+input_refused (Meet automaton) unread_before unread_after refusal other nodes players lifted = lifted
+input_refused Complement unread_before unread_after refusal other nodes players lifted = lifted
 input_refused Game unread_before unread_after refusal other nodes players lifted = lifted
 input_refused (Draw format) unread_before unread_after refusal other nodes players lifted = lifted
 input_refused (DrawSolution solution) unread_before unread_after refusal other nodes players lifted = lifted
@@ -73,6 +76,8 @@ streams_lift_none stream.Canon unread_before unread_after refusal = refl
 files_lift_none : (one : OfFile) (unread_before unread_after : Option (List ℕ)) (refusal : Option Refusal)
     → LiftsInput (of_file one) unread_before unread_after refusal [] []
 files_lift_none (file.Verify game from explain) unread_before unread_after refusal = refl
+files_lift_none (file.VerifyLasso automaton explain) unread_before unread_after refusal = refl
+files_lift_none (file.Meet other) unread_before unread_after refusal = refl
 files_lift_none (file.DrawSolution solution) unread_before unread_after refusal = refl
 
 -- so nothing is told of them

@@ -4,8 +4,11 @@ use Rattle.omega_text.specs.declared.refusal.Refusal.{Refusal}
 use Rattle.omega_pg.specs.game.Refusing.{IsRefusal}
 use Rattle.omega_game_answers.specs.Verify.{IsJudgedGameRefusal, RefusesSolution}
 use Rattle.omega_command.specs.declared.command.Command.{Command}
-use Rattle.omega_command.specs.declared.command.Command.TheVariants.{DrawSolution, Verify}
+use Rattle.omega_command.specs.declared.command.Command.TheVariants.{DrawSolution, Meet, Verify, VerifyLasso}
+use Rattle.omega_hoa.specs.Alone.{IsAutomatonRefusal}
 use Rattle.omega_io.specs.declared.exit.Exit.{Exit}
+use Rattle.omega_lasso_answers.specs.Verify.{RefusesAutomaton, RefusesLasso}
+use Rattle.omega_product_answers.specs.Meet.{IsProductRefused, IsTextRefused}
 use Rattle.omega_refused.specs.declared.refused.Which.{Which}
 use Rattle.omega_refused.specs.declared.refused.Which.TheVariants.{First, Second}
 use Rattle.omega_io.specs.Failures.{IsTransferRefusal}
@@ -20,32 +23,46 @@ use Rattle.omega_run.specs.Report.{ReportsBy}
 -- what the text is called that is judged first; no other commands have two texts
 abbrev pub first_name : Command → List ℕ
 first_name (Verify game from explain) = codes "game"
+first_name (VerifyLasso automaton explain) = codes "automaton"
+first_name (Meet other) = codes "other automaton"
 first_name (DrawSolution solution) = codes "game"
 first_name other = []
 
 -- what the other text is called
 abbrev pub second_name : Command → List ℕ
 second_name (Verify game from explain) = codes "solution"
+second_name (VerifyLasso automaton explain) = codes "lasso"
+second_name (Meet other) = codes "automaton"
 second_name (DrawSolution solution) = codes "solution"
 second_name other = []
 
 -- why the first text is refused, where this is the text of the input
 abbrev pub RefusesFirst : Command → List ℕ → Refusal → Type 0
 RefusesFirst (Verify game from explain) text refusal = IsJudgedGameRefusal game from refusal
+RefusesFirst (VerifyLasso automaton explain) text refusal = RefusesAutomaton automaton text refusal
+RefusesFirst (Meet other) text refusal = IsAutomatonRefusal other refusal
 RefusesFirst (DrawSolution solution) text refusal = IsRefusal text refusal
 RefusesFirst other text refusal = ⊥
 
 -- why the other is refused, the first of which is good
 abbrev pub RefusesSecond : Command → List ℕ → Refusal → Type 0
 RefusesSecond (Verify game from explain) text refusal = RefusesSolution game from text refusal
+RefusesSecond (VerifyLasso automaton explain) text refusal = RefusesLasso automaton text refusal
+RefusesSecond (Meet other) text refusal = IsTextRefused other text refusal
 RefusesSecond (DrawSolution solution) text refusal = RefusesSolution text None solution refusal
 RefusesSecond other text refusal = ⊥
 
--- the input was read and the refusal is one of the text that is named; where none is, it is want of memory, or a read
--- or a write failed
+-- why both are refused together, each of which is good alone
+abbrev pub RefusesBoth : Command → List ℕ → Refusal → Type 0
+RefusesBoth (Meet other) text refusal = IsProductRefused other text refusal
+RefusesBoth other text refusal = ⊥
+
+-- the input was read and the refusal is one of the text that is named; where none is, it is one of both texts together,
+-- or want of memory, or a read or a write failed
 abbrev pub IsRefusalAbout : Command → (unread_before unread_after : Option (List ℕ)) → Option Which → Refusal → Type 0
 IsRefusalAbout command unread_before unread_after =
-    IsAbout IsTransferRefusal (λ refusal. ReadsText unread_before unread_after (λ text. RefusesFirst command text refusal))
+    IsAbout (λ refusal. IsTransferRefusal refusal ⊎ ReadsText unread_before unread_after (λ text. RefusesBoth command text refusal))
+    (λ refusal. ReadsText unread_before unread_after (λ text. RefusesFirst command text refusal))
     (λ refusal. ReadsText unread_before unread_after (λ text. RefusesSecond command text refusal))
 
 -- the lines that tell of a refusal that is about this text, or about none

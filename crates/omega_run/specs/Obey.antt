@@ -10,7 +10,7 @@ use Rattle.omega_command.specs.declared.line.Line.TheVariants.{Do, Fault, Help}
 use Rattle.omega_command.specs.declared.line.Source.{Source}
 use Rattle.omega_command.specs.declared.line.Source.TheVariants.{File, Input}
 use Rattle.omega_command.specs.declared.line.Task.{Task}
-use Rattle.omega_command.specs.declared.line.Task.TheVariants.{DrawSolution, Run, Verify, Watched}
+use Rattle.omega_command.specs.declared.line.Task.TheVariants.{DrawSolution, Meet, Run, Verify, VerifyLasso, Watched}
 use Rattle.omega_io.specs.declared.exit.Exit.{Exit}
 use Rattle.omega_io.specs.declared.exit.Exit.TheVariants.{Done}
 use Rattle.omega_io.specs.Exit.{fault_status}
@@ -37,6 +37,10 @@ IsPerformed reads refuses (Run command budget) status tells before after =
 IsPerformed reads refuses (Watched command budget) status tells before after = IsWatchedRun command budget status tells before after
 IsPerformed reads refuses (Verify file from explain) status tells before after =
     IsRunWithFile reads refuses (string_bytes file) (λ game. command.Verify game from explain) status tells before after
+IsPerformed reads refuses (VerifyLasso file explain) status tells before after =
+    IsRunWithFile reads refuses (string_bytes file) (λ automaton. command.VerifyLasso automaton explain) status tells before after
+IsPerformed reads refuses (Meet file) status tells before after =
+    IsRunWithFile reads refuses (string_bytes file) command.Meet status tells before after
 IsPerformed reads refuses (DrawSolution file) status tells before after =
     IsRunWithFile reads refuses (string_bytes file) command.DrawSolution status tells before after
 

@@ -32,7 +32,7 @@ LiftsInput (Solve player from) unread_before unread_after refusal nodes players 
     ReadsText unread_before unread_after (λ text. LiftsText text (asked_for player) from refusal nodes players)
 LiftsInput (Search from) unread_before unread_after refusal nodes players =
     ReadsText unread_before unread_after (λ text. LiftsText text way.Search from refusal nodes players)
-LiftsInput Empty unread_before unread_after refusal nodes players =
+LiftsInput (Empty word) unread_before unread_after refusal nodes players =
     ReadsText unread_before unread_after (λ text. LiftsAutomatonText text refusal nodes players)
 LiftsInput other unread_before unread_after refusal nodes players = players ≡ []
 

@@ -5,7 +5,7 @@ use Rattle.omega_text.specs.declared.refusal.Refusal.{Refusal}
 use Rattle.omega_pg.specs.game.Refusing.{IsRefusal}
 use Rattle.omega_game.specs.declared.player.Player.{Player}
 use Rattle.omega_command.specs.declared.command.Command.{Command}
-use Rattle.omega_command.specs.declared.command.Command.TheVariants.{Canon, CanonPart, Check, Draw, DrawLasso, DrawSolution, Empty, EmptySearch, Game, Search, Show, Solve, Verify}
+use Rattle.omega_command.specs.declared.command.Command.TheVariants.{Canon, CanonPart, Check, Complement, Draw, DrawLasso, DrawSolution, Empty, EmptySearch, Game, Meet, Search, Show, Solve, Verify, VerifyLasso}
 use Rattle.omega_command.specs.declared.command.Format.TheVariants.{Hoa, Pg}
 use Rattle.omega_io.specs.declared.exit.Exit.{Exit}
 use Rattle.omega_io.specs.declared.exit.Exit.TheVariants.{Done}
@@ -25,9 +25,12 @@ use Rattle.omega_game_answers.specs.declared.solve.asked.Asked.{Asked}
 use Rattle.omega_game_answers.specs.declared.solve.asked.Asked.TheVariants as way
 use Rattle.omega_game_answers.specs.solve.Refusing.{IsSolveRefusal}
 use Rattle.omega_game_answers.specs.solve.Solving.{IsSolveAnswer}
+use Rattle.omega_complement_answers.specs.Answer.{IsComplementAnswer, IsComplementRefusal}
 use Rattle.omega_hoa.specs.Alone.{IsAutomatonRefusal}
 use Rattle.omega_hoa.specs.Stream.{IsStreamRefusal}
 use Rattle.omega_io.specs.Reading.{ReadsText, ReadsWhole}
+use Rattle.omega_lasso_answers.specs.Verify.{IsLassoAnswer, IsLassoAnswerRefusal}
+use Rattle.omega_product_answers.specs.Meet.{IsMeetAnswer, IsMeetRefusal}
 
 -- what is asked of a game for one player, or for both where none is named
 abbrev pub asked_for : Option Player → Asked
@@ -57,8 +60,11 @@ Answers (Solve player from) budget text =
     Replies (IsSolveAnswer text (asked_for player) from budget) (IsSolveRefusal text (asked_for player) from budget)
 Answers (Search from) budget text = Replies (IsSolveAnswer text way.Search from budget) (IsSolveRefusal text way.Search from budget)
 Answers (Verify game from explain) budget text = Concludes (IsVerifyAnswer game from text explain) (IsVerifyRefusal game from text)
-Answers Empty budget text = Replies (IsEmptyAnswer text budget) (IsEmptyRefusal text budget)
-Answers EmptySearch budget text = Replies (IsEmptySearchAnswer text) (IsEmptySearchRefusal text)
+Answers (VerifyLasso automaton explain) budget text = Concludes (IsLassoAnswer automaton text explain) (IsLassoAnswerRefusal automaton text)
+Answers (Empty word) budget text = Replies (IsEmptyAnswer text budget word) (IsEmptyRefusal text budget)
+Answers (EmptySearch word) budget text = Replies (IsEmptySearchAnswer text word) (IsEmptySearchRefusal text)
+Answers (Meet other) budget text = Replies (IsMeetAnswer other text) (IsMeetRefusal other text)
+Answers Complement budget text = Replies (IsComplementAnswer text) (IsComplementRefusal text)
 Answers Game budget text = Replies (IsEmptinessGameAnswer text) (IsEmptinessGameRefusal text)
 Answers (Draw Pg) budget text = Replies (IsGameDrawingAnswer text) (IsRefusal text)
 Answers (Draw Hoa) budget text = Replies (IsAutomatonDrawingAnswer text) (IsAutomatonRefusal text)

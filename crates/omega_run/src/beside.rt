@@ -1,11 +1,12 @@
 //! Commands of two texts, one of which a file has.
-ghost use Rattle.std.specs.Prelude.{◌≡◌, ◌+◌, ◌-◌, ◌^◌, ◌<◌, ◌≤◌, ℕ, Ok, IfOk, IfErr, OnOk, length};
+ghost use Rattle.std.specs.Prelude.{◌≡◌, ◌+◌, ◌-◌, ◌^◌, ◌<◌, ◌≤◌, ◌⊎◌, ℕ, Ok, IfOk, IfErr, OnOk, length};
 ghost use Rattle.omega_text.specs.Limits.{most_text};
+ghost use Rattle.omega_text.specs.declared.refusal.Refusal.TheVariants.{Memory};
 ghost use Rattle.omega_solve.specs.Limits.{most_lifts};
 ghost use Rattle.omega_io.specs.Failures.{failures_of};
-ghost use Rattle.omega_refused.specs.Refused.{IsRefusedOf};
+ghost use Rattle.omega_refused.specs.Refused.{IsAbout};
 ghost use Rattle.omega_io.specs.Writing.{Tells};
-ghost use Rattle.omega_run.specs.Beside.{IsRefusalAbout, IsRunBeside, RefusesFirst, RefusesSecond, first_name, second_name};
+ghost use Rattle.omega_run.specs.Beside.{IsRefusalAbout, IsRunBeside, RefusesBoth, RefusesFirst, RefusesSecond, first_name, second_name};
 ghost use Rattle.omega_run.specs.Perform.{Performs, streams};
 ghost use Rattle.omega_run.specs.Respond.{Answers, Responds};
 ghost use Rattle.omega_run.specs.private.steps.Beside.{plain, text_in};
@@ -15,6 +16,8 @@ use crate::kinds::OfFile;
 use crate::reporting::{TextNames, report_about};
 use omega_game_answers::{draw_solution_text, verify_solution};
 use omega_io::{Exit, Input, Output, read_all, write_text};
+use omega_lasso_answers::verify_lasso;
+use omega_product_answers::meet_texts;
 use omega_refused::Refused;
 use std::alloc::Global;
 
@@ -41,7 +44,8 @@ pub(crate) fn respond_beside<R: Input>(
 fn answer_beside(alloc: Global, command: OfFile, text: Vec<u8>) -> Result<(Exit, Vec<u8>), Refused>
     ensures answered { IfOk result (λ made. (budget : ℕ) → Answers (of_file command) budget text.items (Ok (made.0, made.1.items))) }
     ensures limit { OnOk result (length text.items ≤ most_text) }
-    ensures refused { IfErr result (IsRefusedOf (RefusesFirst (of_file command) text.items) (RefusesSecond (of_file command) text.items)) }
+    ensures refused { IfErr result (λ refused. IsAbout (λ refusal. (refusal ≡ Memory) ⊎ RefusesBoth (of_file command) text.items refusal)
+        (RefusesFirst (of_file command) text.items) (RefusesSecond (of_file command) text.items) refused.text refused.refusal) }
 {
     match command {
         OfFile::Verify {
@@ -49,6 +53,13 @@ fn answer_beside(alloc: Global, command: OfFile, text: Vec<u8>) -> Result<(Exit,
             from,
             explain,
         } => verify_solution(alloc, game.into_vec(), from, text, explain),
+        OfFile::VerifyLasso { automaton, explain } => {
+            verify_lasso(alloc, automaton.into_vec(), text, explain)
+        }
+        OfFile::Meet { with } => match meet_texts(alloc, text.as_slice(), with.as_slice()) {
+            Ok(made) => Ok((Exit::Done, made)),
+            Err(refused) => Err(refused),
+        },
         OfFile::DrawSolution { solution } => {
             match draw_solution_text(alloc, text, solution.as_slice()) {
                 Ok(made) => Ok((Exit::Done, made)),
@@ -111,6 +122,14 @@ fn names_of(command: &OfFile) -> TextNames
         OfFile::Verify { .. } => TextNames {
             first: "game",
             second: "solution",
+        },
+        OfFile::VerifyLasso { .. } => TextNames {
+            first: "automaton",
+            second: "lasso",
+        },
+        OfFile::Meet { .. } => TextNames {
+            first: "other automaton",
+            second: "automaton",
         },
         OfFile::DrawSolution { .. } => TextNames {
             first: "game",

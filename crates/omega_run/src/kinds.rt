@@ -40,8 +40,13 @@ pub(crate) enum OfText {
     Search {
         from: Option<u32>,
     },
-    Empty,
-    EmptySearch,
+    Empty {
+        word: bool,
+    },
+    EmptySearch {
+        word: bool,
+    },
+    Complement,
     Game,
     DrawGame,
     DrawAutomaton,
@@ -55,6 +60,13 @@ pub(crate) enum OfFile {
         game: Seq<u8>,
         from: Option<u32>,
         explain: bool,
+    },
+    VerifyLasso {
+        automaton: Seq<u8>,
+        explain: bool,
+    },
+    Meet {
+        with: Seq<u8>,
     },
     DrawSolution {
         solution: Seq<u8>,
@@ -75,8 +87,9 @@ pub(crate) fn kind_of(command: Command) -> Kind
         Command::CanonPart { from } => Kind::Text(OfText::CanonPart { from }),
         Command::Solve { player, from } => Kind::Text(OfText::Solve { player, from }),
         Command::Search { from } => Kind::Text(OfText::Search { from }),
-        Command::Empty => Kind::Text(OfText::Empty),
-        Command::EmptySearch => Kind::Text(OfText::EmptySearch),
+        Command::Empty { word } => Kind::Text(OfText::Empty { word }),
+        Command::EmptySearch { word } => Kind::Text(OfText::EmptySearch { word }),
+        Command::Complement => Kind::Text(OfText::Complement),
         Command::Game => Kind::Text(OfText::Game),
         Command::Draw(Format::Pg) => Kind::Text(OfText::DrawGame),
         Command::Draw(Format::Hoa) => Kind::Text(OfText::DrawAutomaton),
@@ -90,6 +103,10 @@ pub(crate) fn kind_of(command: Command) -> Kind
             from,
             explain,
         }),
+        Command::VerifyLasso { automaton, explain } => {
+            Kind::File(OfFile::VerifyLasso { automaton, explain })
+        }
+        Command::Meet { with } => Kind::File(OfFile::Meet { with }),
         Command::DrawSolution { solution } => Kind::File(OfFile::DrawSolution { solution }),
     }
 }

@@ -12,6 +12,7 @@ mod respond;
 mod run;
 mod task;
 mod watching;
+mod with_file;
 
 pub use laws::budgets_are_of_solvers;
 pub use obeying::obey;

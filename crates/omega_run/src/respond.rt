@@ -18,6 +18,7 @@ use omega_automaton_answers::{
 };
 use omega_budget::Watch;
 use omega_command::Command;
+use omega_complement_answers::complement_text;
 use omega_game::Player;
 use omega_game_answers::{
     Asked, canon_game, canon_part, check_game, draw_game_text, show_game, solve_game,
@@ -92,8 +93,9 @@ fn answer<L, T: Watch<L>>(
         OfText::Search { from } => {
             solve_game(alloc, text, Asked::Search, from, budget, watch, listener)
         }
-        OfText::Empty => decide_emptiness(alloc, text, budget, watch, listener),
-        OfText::EmptySearch => search_emptiness(alloc, text),
+        OfText::Empty { word } => decide_emptiness(alloc, text, word, budget, watch, listener),
+        OfText::EmptySearch { word } => search_emptiness(alloc, text, word),
+        OfText::Complement => complement_text(alloc, text.as_slice()),
         OfText::Game => write_emptiness_game(alloc, text),
         OfText::DrawGame => draw_game_text(alloc, text),
         OfText::DrawAutomaton => draw_automaton_text(alloc, text),

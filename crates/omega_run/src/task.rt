@@ -1,18 +1,18 @@
 //! A task is done with the text of an input.
 ghost use Rattle.std.specs.Prelude.{◌≡◌, ◌-◌, ◌^◌, ◌<◌, ◌≤◌, string_bytes};
 ghost use Rattle.omega_command.specs.Line.{IsRunnableTask};
-ghost use Rattle.omega_command.specs.declared.command.Command.TheVariants as command;
 ghost use Rattle.omega_io.specs.Writing.{Tells};
 ghost use Rattle.omega_run.specs.Beside.{IsRunWithFile};
 ghost use Rattle.omega_run.specs.Obey.{IsPerformed, IsWatchedRun};
 ghost use Rattle.omega_run.specs.Perform.{streams};
+ghost use Rattle.omega_run.specs.private.steps.WithFile.{with_text};
 ghost use Rattle.omega_solve.specs.Limits.{most_lifts};
 
 use crate::beside::perform_beside;
-use crate::kinds::OfFile;
 use crate::reporting::{report, report_behind, report_file};
 use crate::run::run_command;
 use crate::watching::run_watched;
+use crate::with_file::WithFile;
 use omega_budget::{LIFTS_BETWEEN_REPORTS, Unwatched};
 use omega_command::{Command, Task};
 use omega_io::{GameFiles, Input, Output};
@@ -47,19 +47,32 @@ pub(crate) fn perform<F: GameFiles, R: Input, W: Output, E: Output>(
             file,
             from,
             explain,
-        } => verify_file(
+        } => {
+            let asked = WithFile::Verify { from, explain };
+            run_with_file(alloc, file.as_str(), asked, files, input, output, errors)
+        }
+        Task::VerifyLasso { file, explain } => {
+            let asked = WithFile::VerifyLasso { explain };
+            run_with_file(alloc, file.as_str(), asked, files, input, output, errors)
+        }
+        Task::Meet { file } => run_with_file(
             alloc,
             file.as_str(),
-            from,
-            explain,
+            WithFile::Meet,
             files,
             input,
             output,
             errors,
         ),
-        Task::DrawSolution { file } => {
-            draw_file(alloc, file.as_str(), files, input, output, errors)
-        }
+        Task::DrawSolution { file } => run_with_file(
+            alloc,
+            file.as_str(),
+            WithFile::DrawSolution,
+            files,
+            input,
+            output,
+            errors,
+        ),
     }
 }
 
@@ -95,12 +108,11 @@ fn watch<R: Input, W: Output, E: Output>(
     report_behind(alloc, outcome, sound, errors)
 }
 
-/// Verifies a solution of the game in a file, or of a part of it. The file is read before the solution is.
-fn verify_file<F: GameFiles, R: Input, W: Output, E: Output>(
+/// Runs a command with the text of the file of this name, which is read before the input is.
+fn run_with_file<F: GameFiles, R: Input, W: Output, E: Output>(
     alloc: Global,
-    game: &str,
-    from: Option<u32>,
-    explain: bool,
+    file: &str,
+    asked: WithFile,
     files: &F,
     input: &mut R,
     output: &mut W,
@@ -109,48 +121,16 @@ fn verify_file<F: GameFiles, R: Input, W: Output, E: Output>(
     requires reads { R.failed input.old < 2 ^ 64 - 1 }
     requires writes { W.failed output.old < 2 ^ 64 - 1 }
     requires tells { E.failed errors.old < 2 ^ 64 - 1 }
-    ensures { IsRunWithFile (F.reads files.now) (F.refuses files.now) game.now (λ text. command.Verify text from explain) result
+    ensures { IsRunWithFile (F.reads files.now) (F.refuses files.now) file.now (with_text asked) result
         (Tells (E.contents errors.old) (E.contents errors.new) (E.failed errors.old) (E.failed errors.new))
         (streams (R.remaining input.old) (R.failed input.old) (W.contents output.old) (W.failed output.old))
         (streams (R.remaining input.new) (R.failed input.new) (W.contents output.new) (W.failed output.new)) }
 {
-    match files.read_file(alloc, game) {
+    match files.read_file(alloc, file) {
         Ok(text) => {
-            let command = OfFile::Verify {
-                game: Seq::from_vec(text),
-                from,
-                explain,
-            };
+            let command = asked.with_text(Seq::from_vec(text));
             perform_beside(alloc, command, input, output, errors)
         }
-        Err(refusal) => report_file(alloc, game, refusal, errors),
-    }
-}
-
-/// Draws a game with the solution in a file, which is read before the game is.
-fn draw_file<F: GameFiles, R: Input, W: Output, E: Output>(
-    alloc: Global,
-    solution: &str,
-    files: &F,
-    input: &mut R,
-    output: &mut W,
-    errors: &mut E,
-) -> u8
-    requires reads { R.failed input.old < 2 ^ 64 - 1 }
-    requires writes { W.failed output.old < 2 ^ 64 - 1 }
-    requires tells { E.failed errors.old < 2 ^ 64 - 1 }
-    ensures { IsRunWithFile (F.reads files.now) (F.refuses files.now) solution.now command.DrawSolution result
-        (Tells (E.contents errors.old) (E.contents errors.new) (E.failed errors.old) (E.failed errors.new))
-        (streams (R.remaining input.old) (R.failed input.old) (W.contents output.old) (W.failed output.old))
-        (streams (R.remaining input.new) (R.failed input.new) (W.contents output.new) (W.failed output.new)) }
-{
-    match files.read_file(alloc, solution) {
-        Ok(text) => {
-            let command = OfFile::DrawSolution {
-                solution: Seq::from_vec(text),
-            };
-            perform_beside(alloc, command, input, output, errors)
-        }
-        Err(refusal) => report_file(alloc, solution, refusal, errors),
+        Err(refusal) => report_file(alloc, file, refusal, errors),
     }
 }

@@ -24,8 +24,48 @@ digraph game {
 }
 ";
 
+/// Infinitely often a, which takes edge 0.
+const OFTEN: &str =
+    "HOA: v1 States: 1 Start: 0 AP: 1 \"a\" acc-name: Buchi Acceptance: 1 Inf(0) --BODY-- State: 0 [0] 0 {0} [!0] 0 --END--";
+
+/// Two states between which a leads, its edges without labels.
+const TURNS: &str =
+    "HOA: v1 States: 2 Start: 0 AP: 1 \"a\" Acceptance: 0 t --BODY-- State: 0 0 1 State: 1 1 0 --END--";
+
+const ALWAYS: &str =
+    "HOA: v1 States: 1 Start: 0 AP: 1 \"a\" Acceptance: 0 t --BODY-- State: 0 [0] 0 --END--";
+
+/// The product of the two.
+const TURNS_ALWAYS: &str = "\
+HOA: v1
+States: 2
+Start: 0
+AP: 1 \"a\"
+Acceptance: 0 t&t
+--BODY--
+State: 0 \"0,0\"
+[0&0] 1
+State: 1 \"1,0\"
+[0&0] 0
+--END--
+";
+
+/// From some place on never a.
+const NOT_OFTEN: &str = "\
+HOA: v1
+States: 1
+Start: 0
+AP: 1 \"a\"
+Acceptance: 1 Fin(0)
+--BODY--
+State: 0
+[0] 0 {0}
+[!0] 0
+--END--
+";
+
 /// A command line, the text of the file, the text of the input, and the status, the output and the lines of the run.
-static RUNS: [(&str, &str, &str, u8, &str, &str); 14] = [
+static RUNS: [(&str, &str, &str, u8, &str, &str); 19] = [
     (
         "omega verify --game g",
         THREE,
@@ -139,6 +179,32 @@ static RUNS: [(&str, &str, &str, u8, &str, &str); 14] = [
         5,
         "",
         "omega: 61 Io\nomega: cannot read 'h'\n",
+    ),
+    ("omega meet --with g", ALWAYS, TURNS, 0, TURNS_ALWAYS, ""),
+    ("omega complement g", OFTEN, "", 0, NOT_OFTEN, ""),
+    (
+        "omega empty --search --word g",
+        OFTEN,
+        "",
+        0,
+        "stem\ncycle 0\nword cycle{a}\n",
+        "",
+    ),
+    (
+        "omega verify --automaton g",
+        OFTEN,
+        "stem cycle 0",
+        0,
+        "yes\n",
+        "",
+    ),
+    (
+        "omega verify --automaton g --explain",
+        OFTEN,
+        "stem cycle 1",
+        6,
+        "no\nthe cycle does not accept\n",
+        "",
     ),
 ];
 

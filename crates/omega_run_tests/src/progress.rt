@@ -101,7 +101,7 @@ fn emptiness_is_told_of_player_0(rt: HostRuntime) -> Result<(), Fail> {
         State: 0 [t] 0 {0} [t] 1 State: 1 [t] 1 --END--";
     let left = watched(
         alloc,
-        Command::Empty,
+        Command::Empty { word: false },
         automaton,
         1000,
         3,

@@ -5,7 +5,7 @@ use std::alloc::Global;
 use std::test::Fail;
 
 /// Command lines, and what each asks for, as it shows itself to a programmer. A budget that is not given is 2^40.
-static ASKED: [(&str, &str); 34] = [
+static ASKED: [(&str, &str); 39] = [
     (
         "omega show --format pg",
         "Do(Run(Show(Pg), 1099511627776), Input)",
@@ -82,15 +82,41 @@ static ASKED: [(&str, &str); 34] = [
         "omega verify --explain --game g --from=2147483647",
         "Do(Verify { file: \"g\", from: Some(2147483647), explain: true }, Input)",
     ),
-    ("omega empty", "Do(Run(Empty, 1099511627776), Input)"),
-    ("omega empty --budget 0", "Do(Run(Empty, 0), Input)"),
+    (
+        "omega empty",
+        "Do(Run(Empty { word: false }, 1099511627776), Input)",
+    ),
+    (
+        "omega empty --budget 0",
+        "Do(Run(Empty { word: false }, 0), Input)",
+    ),
     (
         "omega empty --budget=1099511627776",
-        "Do(Run(Empty, 1099511627776), Input)",
+        "Do(Run(Empty { word: false }, 1099511627776), Input)",
+    ),
+    (
+        "omega empty --word",
+        "Do(Run(Empty { word: true }, 1099511627776), Input)",
+    ),
+    (
+        "omega empty --word --search g",
+        "Do(Run(EmptySearch { word: true }, 1099511627776), File(\"g\"))",
+    ),
+    (
+        "omega meet --with g h",
+        "Do(Meet { file: \"g\" }, File(\"h\"))",
+    ),
+    (
+        "omega complement",
+        "Do(Run(Complement, 1099511627776), Input)",
+    ),
+    (
+        "omega verify --automaton g --explain",
+        "Do(VerifyLasso { file: \"g\", explain: true }, Input)",
     ),
     (
         "omega empty --search",
-        "Do(Run(EmptySearch, 1099511627776), Input)",
+        "Do(Run(EmptySearch { word: false }, 1099511627776), Input)",
     ),
     ("omega game", "Do(Run(Game, 1099511627776), Input)"),
     (
@@ -130,7 +156,7 @@ static ASKED: [(&str, &str); 34] = [
 ];
 
 /// Command lines that are at fault, and what is said of each.
-static FAULTS: [(&str, &str); 18] = [
+static FAULTS: [(&str, &str); 20] = [
     ("omega", "requires a subcommand"),
     ("omega frobnicate", "unrecognized subcommand 'frobnicate'"),
     ("omega show", "--format <FORMAT>"),
@@ -191,6 +217,11 @@ static FAULTS: [(&str, &str); 18] = [
         "the argument '--lasso' can only be used with '--format hoa'",
     ),
     ("omega verify --explain", "--game <FILE>"),
+    (
+        "omega verify --automaton a --game g",
+        "the argument '--automaton <FILE>' cannot be used with '--game <FILE>'",
+    ),
+    ("omega meet", "--with <FILE>"),
 ];
 
 /// Requests for help or the version, and what the text says.

@@ -1,6 +1,6 @@
 -- What `empty` answers for the text of one automaton: an accepting lasso, or `empty` only where no lasso accepts;
 -- and its refusals.
-use Rattle.std.specs.Prelude.{◌≡◌, ◌⊎◌, List, ℕ, codes}
+use Rattle.std.specs.Prelude.{◌≡◌, ◌⊎◌, ◌++◌, Bool, false, true, List, ℕ, codes}
 use Rattle.omega_text.specs.declared.refusal.Refusal.{Refusal}
 use Rattle.omega_automaton.specs.Automaton.{Description}
 use Rattle.omega_empty.specs.Refusing.{IsGiven}
@@ -9,33 +9,47 @@ use Rattle.omega_empty.specs.declared.verdict.Verdict.{Verdict}
 use Rattle.omega_empty.specs.declared.verdict.Verdict.TheVariants.{Empty, Lasso}
 use Rattle.omega_hoa.specs.Alone.{IsAutomatonRefusal, IsAutomatonText}
 use Rattle.omega_lasso.specs.Searching.{IsSearchRefusal, IsSearchable}
-use Rattle.omega_automaton_answers.specs.empty.LassoText.{lasso_text}
+use Rattle.omega_lasso_text.specs.Written.{lasso_text}
+use Rattle.omega_lasso_word.specs.WordText.{word_text}
+
+-- the lines of a lasso, and where that is asked for, one with its word
+abbrev pub lasso_lines : Description → Bool → (stem cycle : List ℕ) → List ℕ
+lasso_lines automaton false stem cycle = lasso_text stem cycle
+lasso_lines automaton true stem cycle = lasso_text stem cycle ++ (codes "word " ++ (word_text automaton stem cycle ++ codes "\n"))
 
 -- what is written of a verdict: `empty`, or the lines of the lasso
-abbrev pub emptiness_text : Verdict → List ℕ
-emptiness_text Empty = codes "empty\n"
-emptiness_text (Lasso stem cycle) = lasso_text stem cycle
+abbrev pub emptiness_text : Description → Bool → Verdict → List ℕ
+emptiness_text automaton word Empty = codes "empty\n"
+emptiness_text automaton word (Lasso stem cycle) = lasso_lines automaton word stem cycle
 
--- what `empty --search` answers: the text stands for an automaton without universal branching, and a right verdict on
--- it is written, an accepting lasso or that none accepts
-pub record IsEmptySearchAnswer (text output : List ℕ) : Type 0 where
-  pub automaton : Description
-  pub read : IsAutomatonText text automaton
+-- what is written of an automaton without universal branching, by a search: a right verdict, an accepting lasso or that
+-- none accepts
+pub record IsSearchDecision (automaton : Description) (word : Bool) (output : List ℕ) : Type 0 where
   pub given : IsSearchable automaton
   pub verdict : Verdict
   pub right : IsVerdict automaton verdict
-  pub written : output ≡ emptiness_text verdict
+  pub written : output ≡ emptiness_text automaton word verdict
 
--- what `empty` answers with a budget: the text stands for an automaton to which none of 13, 40, 41 and 42 applies and
--- whose emptiness game is solved within the budget, and a right verdict on it is written
-pub record IsEmptyAnswer (text : List ℕ) (budget : ℕ) (output : List ℕ) : Type 0 where
+-- what `empty --search` answers: the text stands for an automaton, of which that is written
+pub record IsEmptySearchAnswer (text : List ℕ) (word : Bool) (output : List ℕ) : Type 0 where
   pub automaton : Description
   pub read : IsAutomatonText text automaton
+  pub decided : IsSearchDecision automaton word output
+
+-- what is written of an automaton to which none of 13, 40, 41 and 42 applies and whose emptiness game is solved within
+-- the budget: a right verdict
+pub record IsDecision (automaton : Description) (budget : ℕ) (word : Bool) (output : List ℕ) : Type 0 where
   pub given : IsGiven automaton
   pub within : IsDecidedWithin budget automaton
   pub verdict : Verdict
   pub right : IsVerdict automaton verdict
-  pub written : output ≡ emptiness_text verdict
+  pub written : output ≡ emptiness_text automaton word verdict
+
+-- what `empty` answers with a budget: the text stands for an automaton, of which that is written
+pub record IsEmptyAnswer (text : List ℕ) (budget : ℕ) (word : Bool) (output : List ℕ) : Type 0 where
+  pub automaton : Description
+  pub read : IsAutomatonText text automaton
+  pub decided : IsDecision automaton budget word output
 
 -- the text stands for an automaton whose emptiness is not decided within the budget: 13, 40, 41, 42, 50 or 51
 pub record RefusesEmptiness (text : List ℕ) (budget : ℕ) (refusal : Refusal) : Type 0 where

@@ -2,3 +2,4 @@
 pub mod Beside
 pub mod Kinds
 pub mod Telling
+pub mod WithFile

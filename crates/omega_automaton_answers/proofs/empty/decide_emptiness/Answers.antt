@@ -1,31 +1,23 @@
--- `decide_emptiness`: what is written is the verdict on the automaton that was read.
+-- `decide_emptiness`: what is written is what is decided of the automaton that was read.
 use Rattle.std.proofs.Common.{◌≡◌, rules}
 use Rattle.std.proofs.lemmas.Result.{IfErr-weaker, IfOk-weaker}
 use Rattle.omega_text.specs.Cases.{or_memory}
 use Rattle.omega_automaton_answers.specs.empty.Answer.{IsEmptyRefusal}
 use Rattle.omega_automaton_answers.proofs.Emptiness.{refused-automaton, refused-text}
 use Rattle.omega_hoa.specs.Alone.{IsAutomatonRefusal}
-use Rattle.omega_text.specs.declared.refusal.Refusal.TheVariants.{Memory}
-use Rattle.omega_automaton_answers.proofs.Watching.{text_refused, text_spares}
-use Rattle.omega_budget.proofs.Watched.{none_watched, spares, watched_alike, watched_as, watched_behind}
+use Rattle.omega_automaton_answers.proofs.Watching.{text_spares}
+use Rattle.omega_budget.proofs.Watched.{none_watched, spares, watched_alike, watched_as}
 use Rattle.omega_automaton_answers.proofs.empty.decide_emptiness.Goals as goal
 
 pub returns-clause-answer : goal.returns-clause-answer
 returns-clause-answer g c =
-    IfOk-weaker c.emptiness_text.result _ _
-    (λ output written. record {
+    IfOk-weaker c.decided.result _ _
+    (λ output decided. record {
       automaton = c.in_ok-automaton.automaton;
       read = c.in_ok-automaton.ensures.automaton;
-      given = c.in_ok-verdict.ensures.given;
-      within = c.in_ok-verdict.ensures.within;
-      verdict = c.in_ok-verdict.verdict;
-      right = c.in_ok-verdict.ensures.verdict;
-      written = written;
+      decided = decided;
     })
-    c.emptiness_text.ensures.text
-
-pub returns-clause-refused : goal.returns-clause-refused
-returns-clause-refused g c = IfErr-weaker c.emptiness_text.result _ _ (λ refusal e. rw e tt) c.emptiness_text.ensures.memory
+    c.decided.ensures.decision
 
 pub returns-in_err-automaton-clause-refused : goal.returns-in_err-automaton-clause-refused
 returns-in_err-automaton-clause-refused g c =
@@ -33,11 +25,11 @@ returns-in_err-automaton-clause-refused g c =
     refused-text c.args.text.items c.args.budget _ c.in_err-automaton.ensures.refused in
     search rules
 
-pub returns-in_err-verdict-clause-refused : goal.returns-in_err-verdict-clause-refused
-returns-in_err-verdict-clause-refused g c =
-    let refused : or_memory (IsEmptyRefusal c.args.text.items c.args.budget) c.in_err-verdict.field-0.0 =
-    refused-automaton c.args.text.items c.args.budget c.in_ok-automaton.automaton _ c.in_ok-automaton.ensures.automaton c.in_err-verdict.ensures.refused in
-    search rules
+pub returns-clause-refused : goal.returns-clause-refused
+returns-clause-refused g c =
+    IfErr-weaker c.decided.result _ _
+    (λ refusal refused. refused-automaton c.args.text.items c.args.budget c.in_ok-automaton.automaton refusal c.in_ok-automaton.ensures.automaton refused)
+    c.decided.ensures.refused
 
 pub returns-in_err-automaton-clause-told : goal.returns-in_err-automaton-clause-told
 returns-in_err-automaton-clause-told g c =
@@ -45,18 +37,8 @@ returns-in_err-automaton-clause-told g c =
     (none_watched _ _ _ _ _ _ (spares (or_memory (IsAutomatonRefusal c.args.text.items)) _ c.in_err-automaton.ensures.refused
     (text_spares c.args.text.items)))
 
-pub returns-in_err-verdict-clause-told : goal.returns-in_err-verdict-clause-told
-returns-in_err-verdict-clause-told g c =
-    watched_alike _ _ _ _ c.from_residual-in_err-verdict.result _ c.in_err-verdict.field-0.0 _ _ c.from_residual-in_err-verdict.ensures.1
-    (λ e same. same)
-    (watched_as _ _ _ _ _ _ _ _
-    (λ nodes players lifted. record { automaton = c.in_ok-automaton.automaton; read = c.in_ok-automaton.ensures.automaton; lifts = lifted })
-    (rw c.in_err-verdict.was at c.decided.ensures.told))
-
 pub returns-clause-told : goal.returns-clause-told
 returns-clause-told g c =
-    watched_behind _ _ _ _ c.emptiness_text.result (λ refusal. refusal ≡ Memory) _ _ c.emptiness_text.ensures.memory (λ e. cc)
-    (λ refusal other. text_refused c.args.text.items refusal other)
-    (watched_as _ _ _ _ _ _ _ _
+    watched_as _ _ _ _ _ _ _ _
     (λ nodes players lifted. record { automaton = c.in_ok-automaton.automaton; read = c.in_ok-automaton.ensures.automaton; lifts = lifted })
-    (rw c.in_ok-verdict.was at c.decided.ensures.told))
+    c.decided.ensures.told

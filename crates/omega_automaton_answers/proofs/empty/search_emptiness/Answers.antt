@@ -1,19 +1,13 @@
--- `search_emptiness`: what is written is the verdict on the automaton that was read.
-use Rattle.std.proofs.lemmas.Result.{IfErr-weaker, IfOk-weaker}
+-- `search_emptiness`: what is written is what is decided of the automaton that was read.
+use Rattle.std.proofs.lemmas.Result.{IfOk-weaker}
 use Rattle.omega_automaton_answers.proofs.empty.search_emptiness.Goals as goal
 
 pub returns-clause-answer : goal.returns-clause-answer
 returns-clause-answer c =
-    IfOk-weaker c.emptiness_text.result _ _
-    (λ output written. record {
+    IfOk-weaker c.searched.result _ _
+    (λ output decided. record {
       automaton = c.in_ok-automaton.automaton;
       read = c.in_ok-automaton.ensures.automaton;
-      given = c.in_ok-verdict.ensures.given;
-      verdict = c.in_ok-verdict.verdict;
-      right = c.in_ok-verdict.ensures.verdict;
-      written = written;
+      decided = decided;
     })
-    c.emptiness_text.ensures.text
-
-pub returns-clause-refused : goal.returns-clause-refused
-returns-clause-refused c = IfErr-weaker c.emptiness_text.result _ _ (λ refusal e. rw e tt) c.emptiness_text.ensures.memory
+    c.searched.ensures.decision

@@ -22,6 +22,9 @@ returns-in-CanonPart-clause-told g c = rw c.in-CanonPart.is (λ before after rea
 pub returns-in-EmptySearch-clause-told : goal.returns-in-EmptySearch-clause-told
 returns-in-EmptySearch-clause-told g c = rw c.in-EmptySearch.is (λ before after read. nothing_lifted _ _ _ _ _ _ refl)
 
+pub returns-in-Complement-clause-told : goal.returns-in-Complement-clause-told
+returns-in-Complement-clause-told g c = rw c.in-Complement.is (λ before after read. nothing_lifted _ _ _ _ _ _ refl)
+
 pub returns-in-Game-clause-told : goal.returns-in-Game-clause-told
 returns-in-Game-clause-told g c = rw c.in-Game.is (λ before after read. nothing_lifted _ _ _ _ _ _ refl)
 
@@ -69,6 +72,12 @@ returns-in-Empty-clause-printed g c = rw c.in-Empty.is (λ before after read. of
 
 pub returns-in-EmptySearch-clause-printed : goal.returns-in-EmptySearch-clause-printed
 returns-in-EmptySearch-clause-printed g c = rw c.in-EmptySearch.is (λ before after read. of_all c.search_emptiness.result _ (λ output. tt))
+
+pub returns-in-Complement-clause-refused : goal.returns-in-Complement-clause-refused
+returns-in-Complement-clause-refused g c = rw c.in-Complement.is (rw c.as_slice.ensures.value at c.complement_text.ensures.refused)
+
+pub returns-in-Complement-clause-printed : goal.returns-in-Complement-clause-printed
+returns-in-Complement-clause-printed g c = rw c.in-Complement.is (λ before after read. of_all c.complement_text.result _ (λ output. tt))
 
 pub returns-in-Game-clause-printed : goal.returns-in-Game-clause-printed
 returns-in-Game-clause-printed g c = rw c.in-Game.is (λ before after read. of_all c.write_emptiness_game.result _ (λ output. tt))

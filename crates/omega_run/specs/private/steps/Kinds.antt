@@ -25,8 +25,9 @@ of_text text.Canon = command.Canon Pg
 of_text (text.CanonPart from) = command.CanonPart from
 of_text (text.Solve player from) = command.Solve player from
 of_text (text.Search from) = command.Search from
-of_text text.Empty = command.Empty
-of_text text.EmptySearch = command.EmptySearch
+of_text (text.Empty word) = command.Empty word
+of_text (text.EmptySearch word) = command.EmptySearch word
+of_text text.Complement = command.Complement
 of_text text.Game = command.Game
 of_text text.DrawGame = command.Draw Pg
 of_text text.DrawAutomaton = command.Draw Hoa
@@ -35,6 +36,8 @@ of_text text.DrawLasso = command.DrawLasso
 -- the command of a text beside that of a file
 abbrev pub of_file : OfFile → Command
 of_file (file.Verify game from explain) = command.Verify game from explain
+of_file (file.VerifyLasso automaton explain) = command.VerifyLasso automaton explain
+of_file (file.Meet other) = command.Meet other
 of_file (file.DrawSolution solution) = command.DrawSolution solution
 
 -- the command of one of the three kinds
