@@ -17,6 +17,8 @@ LABEL = b"!(0 & @a) | (t | !!f) & 2"
 FORMULA = b"(Inf(0) & Fin(!1)) | t & (f | Inf(2))"
 # Over more propositions than a table of valuations is made for.
 MANY = b"&".join(b"%d" % n for n in range(20))
+# An automaton with one edge, and names of which one is no identifier.
+ONE_LETTER = b'HOA: v1 Start: 0 AP: 2 "a b" "c" Acceptance: 0 t --BODY-- State: 0 [!0&1] 0 --END--'
 STREAM = ABORTED + b" " + BUCHI + WRITTEN
 
 # Calls, the two texts that they are given, and the status and the beginning of the output with ample memory, which are
@@ -75,6 +77,10 @@ RUNS = [
     *((call, text, b"", 0, b"") for call in ("emptiness_game", "emptiness", "lasso", "verdict_of")
       for text in (BUCHI, TWO_SETS, WRITTEN)),
     ("emptiness", b"HOA: v1 Acceptance: 0 t --BODY-- --END--", b"", 40, b""),
+    ("read_lasso", b" stem 3\t1 cycle 4 1 5 9 2", b"", 0, b"stem 3 1\ncycle 4 1 5 9 2\n"),
+    ("read_lasso", b"stem 3 cycle", b"", 3, b""),
+    ("word_of", ONE_LETTER, b"stem 0 cycle 0 0", 0, b'!"a b" & c; cycle{!"a b" & c; !"a b" & c}'),
+    ("word_of", ONE_LETTER, b"stem cycle 00", 2, b""),
 ]
 
 SOLVERS = [f"{table} {order}" for table in ("plain", "packed") for order in ("sweep", "worklist", "nested")]

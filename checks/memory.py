@@ -35,11 +35,14 @@ RUNS = [
     *(([name, "--format", "hoa"], text, None) for text in (BUCHI, ABORTED, ALIASES, WRITTEN, BUCHI * 3)
       for name in ("show", "check", "canon")),
     *((words, text, None) for text in (BUCHI, TWO_SETS, WRITTEN)
-      for words in (["game"], ["empty"], ["empty", "--search"], ["empty", "--budget", "1"])),
+      for words in (["game"], ["empty"], ["empty", "--search"], ["empty", "--budget", "1"], ["empty", "--word"],
+                    ["empty", "--search", "--word"], ["complement"])),
     (["check", "--format", "hoa"], b"HOA: v1 --BODY-- --END--", None),
     (["verify", "--game"], b"paritysol 2; 0 0 2; 1 0; 2 0;", CHOICE),
     (["verify", "--game"], b"paritysol 2; 0 0 1; 1 0; 2 0;", CHOICE),
     (["verify", "--game"], b"paritysol 2; 0 0;", CHOICE),
+    *((["verify", "--explain", "--automaton"], text, TWO_SETS) for text in (b"stem cycle 1 2 0", b"stem 0 cycle 2", b"stem")),
+    *((["meet", "--with"], BUCHI, text) for text in (BUCHI, TWO_SETS, WRITTEN, b"HOA: v1")),
     *((["draw", "--format", "pg"], text, None) for text in (GAPS, CHOICE)),
     (["draw", "--format", "pg", "--solution"], CHOICE, b"paritysol 2; 0 0 1; 1 0; 2 0;"),
     (["draw", "--format", "pg", "--solution"], CHOICE, b"paritysol 2; 0 0;"),

@@ -7,6 +7,7 @@ mod automata;
 mod emptiness;
 mod expressions;
 mod games;
+mod lassos;
 mod lists;
 mod quiet;
 mod searching;
@@ -78,6 +79,9 @@ fn called(alloc: Global, call: &str, text: &[u8], other: &[u8]) -> Result<Vec<u8
         return given;
     }
     if let Some(given) = emptiness::called(alloc, call, text) {
+        return given;
+    }
+    if let Some(given) = lassos::called(alloc, call, text, other) {
         return given;
     }
     if let Some(given) = searching::called(alloc, call, text) {

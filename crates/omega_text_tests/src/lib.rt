@@ -1,4 +1,5 @@
-//! Tests of the public calls of `omega_text`, apart from it, so that the library is proved once.
+//! Tests of the public calls of `omega_text` and `omega_lasso_text`, apart from them, so that each library is proved
+//! once.
 #![tactic(auto)]
 
 #[cfg(test)]
@@ -7,6 +8,8 @@ mod byte_string;
 mod cursor;
 #[cfg(test)]
 mod hoa;
+#[cfg(test)]
+mod lasso;
 #[cfg(test)]
 mod number;
 #[cfg(test)]

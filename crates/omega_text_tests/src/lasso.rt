@@ -1,0 +1,84 @@
+//! Texts of lassos, read and written.
+use crate::rows::assert_row;
+use omega_lasso_text::{LassoText, Refusal, read_lasso, write_lasso};
+use std::alloc::Global;
+
+// The written form of a lasso.
+fn written(alloc: Global, lasso: &LassoText) -> Result<Vec<u8>, Refusal> {
+    write_lasso(alloc, lasso.stem.as_slice(), lasso.cycle.as_slice())
+}
+
+// The written form of the lasso that a text says.
+fn read_and_written(alloc: Global, text: &str) -> Result<Vec<u8>, Refusal> {
+    match read_lasso(alloc, text.as_bytes()) {
+        Ok(lasso) => written(alloc, &lasso),
+        Err(refusal) => Err(refusal),
+    }
+}
+
+// Whether this text was written.
+fn is_text(made: Result<Vec<u8>, Refusal>, want: &str) -> bool {
+    match made {
+        Ok(made) => made.as_slice() == want.as_bytes(),
+        Err(_) => false,
+    }
+}
+
+static READ: [(&str, &str); 5] = [
+    ("stem\ncycle 0\n", "stem\ncycle 0\n"),
+    ("stem 3 1\ncycle 4 1 5\n", "stem 3 1\ncycle 4 1 5\n"),
+    ("stem cycle 7", "stem\ncycle 7\n"),
+    (
+        " \r\n\tstem\n8\n9 cycle\t2147483647 0 ",
+        "stem 8 9\ncycle 2147483647 0\n",
+    ),
+    ("stem 0cycle 1", "stem 0\ncycle 1\n"),
+];
+
+#[test]
+fn lassos_are_read_and_written(rt: HostRuntime) {
+    for (row, (text, want)) in READ.iter().enumerate() {
+        assert_row(&rt, row, is_text(read_and_written(rt.alloc(), text), want));
+    }
+}
+
+// The number and the place of the refusal of a text, if it has one.
+fn refusal_of(alloc: Global, text: &str) -> Option<(u32, Option<usize>)> {
+    match read_lasso(alloc, text.as_bytes()) {
+        Ok(_lasso) => None,
+        Err(refusal) => Some((refusal.number(), refusal.at())),
+    }
+}
+
+// Texts that end too early, tokens that stand where none of their kind may, digits that are no number, bytes that begin
+// no token, and of two faults that of tokens.
+static REFUSED: [(&str, u32, usize); 20] = [
+    ("", 3, 0),
+    ("  ", 3, 2),
+    ("stem", 3, 4),
+    ("stem 1", 3, 6),
+    ("stem cycle", 3, 10),
+    ("stem cycle ", 3, 11),
+    ("cycle 0", 3, 0),
+    ("0 stem cycle 0", 3, 0),
+    ("stem stem cycle 0", 3, 5),
+    ("stem cycle 0 cycle 1", 3, 13),
+    ("stem cycle 0 stem", 3, 13),
+    ("stem 00 cycle 0", 2, 5),
+    ("stem 2147483648 cycle 0", 2, 5),
+    ("stem0cycle1", 1, 0),
+    ("Stem cycle 0", 1, 0),
+    ("stem, cycle 0", 1, 4),
+    ("stem \"a\" cycle 0", 1, 5),
+    ("paritysol 0;", 1, 0),
+    ("empty", 1, 0),
+    ("cycle stem 00 $", 2, 11),
+];
+
+#[test]
+fn other_texts_are_refused(rt: HostRuntime) {
+    for (row, (text, number, place)) in REFUSED.iter().enumerate() {
+        let want = Some((*number, Some(*place)));
+        assert_row(&rt, row, refusal_of(rt.alloc(), text) == want);
+    }
+}
