@@ -34,6 +34,9 @@ COMMANDS = {
     "show --format hoa": ("Show Hoa",),
     "empty": ("Empty",),
     "empty --search": ("EmptySearch",),
+    "verify --automaton": ("VerifyLasso",),
+    "meet": ("Meet",),
+    "complement": ("Complement",),
     "game": ("Game",),
     "draw --format hoa": ("Draw Hoa", "DrawLasso"),
 }

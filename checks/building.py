@@ -225,7 +225,7 @@ def wait_until(holds):
 
 
 def break_checks(tree):
-    start = tree.started(TAKES="2")
+    start = tree.started(TAKES="5")
     wait_until(lambda: ("begin", "wide") in tree.noted() and tree.has_kept("low") and tree.has_kept("small"))
     os.killpg(start.pid, signal.SIGINT)
     said = start.communicate(timeout=SECONDS)[1]

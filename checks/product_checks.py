@@ -1,0 +1,196 @@
+"""`meet`, `complement` and `empty --word`: the languages of what they write, against a plain judge of words, on automata
+whose languages are known and on automata made at random."""
+import tempfile
+
+from automata import Refused, read_one
+from emptiness import branches, read_lasso
+from emptiness_checks import Emptied
+from products import accepts, is_deterministic, names_of, pairs_reached, word_line, words_over
+from program import fault_of, run_of, shown
+
+HEAD = b'HOA: v1 States: %d Start: 0 AP: %d %s acc-name: %s Acceptance: %s --BODY-- %s --END--'
+
+# Languages, each with a deterministic automaton of it and what it says of a word of letters.
+ALWAYS = HEAD % (1, 1, b'"a"', b"Buchi", b"1 Inf(0)", b"State: 0 {0} [0] 0")
+INFINITELY = HEAD % (2, 1, b'"a"', b"Buchi", b"1 Inf(0)", b"State: 0 [0] 1 [!0] 0 State: 1 {0} [0] 1 [!0] 0")
+FROM_SOME_PLACE_ON = HEAD % (1, 1, b'"a"', b"co-Buchi", b"1 Fin(0)", b"State: 0 [0] 0 [!0] 0 {0}")
+UNTIL = HEAD % (2, 2, b'"b" "a"', b"Buchi", b"1 Inf(0)", b"State: 0 [0] 1 [!0&1] 0 State: 1 {0} [t] 1")
+IMPLICIT = HEAD % (1, 1, b'"b"', b"Buchi", b"1 Inf(0)", b"State: 0 0 0 {0}")
+
+
+def holds_until(letters_of_stem, letters_of_cycle):
+    for letter in letters_of_stem + letters_of_cycle:
+        if b"b" in letter:
+            return True
+        if b"a" not in letter:
+            return False
+    return False
+
+
+LANGUAGES = [
+    (ALWAYS, lambda stem, cycle: all(b"a" in letter for letter in stem + cycle)),
+    (INFINITELY, lambda stem, cycle: any(b"a" in letter for letter in cycle)),
+    (FROM_SOME_PLACE_ON, lambda stem, cycle: all(b"a" in letter for letter in cycle)),
+    (UNTIL, holds_until),
+    (IMPLICIT, lambda stem, cycle: any(b"b" in letter for letter in cycle)),
+]
+
+WORDS = list(words_over([b"a", b"b"], 3))
+NO_STARTS = b'HOA: v1 States: 1 AP: 1 "a" Acceptance: 1 Inf(0) --BODY-- State: 0 [t] 0 {0} --END--'
+NO_STATES = b"HOA: v1 States: 0 Acceptance: 0 t --BODY-- --END--"
+SETLESS = HEAD % (1, 1, b'"a"', b"all", b"0 t", b"State: 0 [0] 0")
+
+
+class Paired(Emptied):
+    """Makes automata at random whose propositions stand in one order or the other, nondeterministic and deterministic,
+    with labels of edges and states and without."""
+
+    def body_of(self, count, sets, deterministic):
+        lines = []
+        for number in range(count):
+            marks, choice = self.marks(sets), self.some(0, 5)
+            if choice == 0:
+                edges = b"".join(b" " + self.states(count) + self.marks(sets) for _ in range(4))
+                lines.append(b"State: %d%s%s\n" % (number, marks, edges))
+            elif deterministic:
+                lines.append(b"State: %d%s%s\n" % (number, marks, self.parted(count, sets)))
+            else:
+                lines.append(self.edged(number, count, sets))
+        return b"".join(lines)
+
+    def parted(self, count, sets):
+        """Edges whose labels part the letters, some of which are left out."""
+        cubes = [b"!0&!1", b"0&!1", b"!0&1", b"0&1"]
+        self.random.shuffle(cubes)
+        cubes, edges = cubes[:self.some(0, 4)], b""
+        while cubes:
+            size = self.some(1, len(cubes))
+            edges += b" [" + b"|".join(cubes[:size]) + b"] " + self.states(count) + self.marks(sets)
+            cubes = cubes[size:]
+        return edges
+
+    def automaton(self, deterministic=False):
+        count, sets = self.some(1, 4), self.some(0, 3)
+        starts = b"".join(b"Start: %d\n" % self.some(0, count - 1) for _ in range(1 if deterministic else self.some(0, 2)))
+        names = self.random.choice([b'"a" "b"', b'"b" "a"'])
+        return (b"HOA: v1\nStates: %d\n%sAP: 2 %s\nAlias: @x 0&!0\nAlias: @y 0|1\nAcceptance: %d %s\n--BODY--\n"
+                % (count, starts, names, sets, self.acceptance(sets, 2)) + self.body_of(count, sets, deterministic)
+                + b"--END--\n")
+
+
+def meet(one, other):
+    """A run of `meet` on two texts."""
+    with tempfile.NamedTemporaryFile() as file:
+        file.write(other)
+        file.flush()
+        return run_of(["meet", "--with", file.name], one)
+
+
+def read_written(ran):
+    """The automaton that a run wrote, or what is wrong."""
+    if ran.returncode or ran.stderr:
+        return None, f"status {ran.returncode}: {shown(ran.stderr)}"
+    try:
+        automaton = read_one(ran.stdout)
+    except Refused as refused:
+        return None, f"what is written is refused {refused}: {shown(ran.stdout)}"
+    fault = fault_of(["canon", "--format", "hoa"], ran.stdout, 0, ran.stdout)
+    return (None, f"it is not canonical: {fault}") if fault else (automaton, None)
+
+
+def word_fault(automaton, words, wanted):
+    """A word of which the automaton says something else than is wanted, or nothing."""
+    for stem, cycle in words:
+        if accepts(automaton, stem, cycle) != wanted(stem, cycle):
+            return f"it is wrong about the word {stem} {cycle}"
+    return None
+
+
+def meet_fault(one, other, words):
+    """What is wrong with what `meet` writes of two texts, or nothing."""
+    ran = meet(one, other)
+    first, second = read_one(one), read_one(other)
+    product, fault = read_written(ran)
+    if fault:
+        return fault
+    pairs, edges = pairs_reached(first, second)
+    named = [state.name for state in product.states]
+    if named != [b'"%d,%d"' % pair for pair in pairs] or sum(len(state.edges) for state in product.states) != edges:
+        return f"its states are {named}, and not {pairs}"
+    joined = names_of(first) + [name for name in names_of(second) if name not in names_of(first)]
+    if names_of(product) != joined:
+        return f"its propositions are {names_of(product)}"
+    return word_fault(product, words, lambda *word: accepts(first, *word) and accepts(second, *word))
+
+
+def complement_fault(text, words):
+    """What is wrong with what `complement` writes of a text, or nothing."""
+    ran, automaton = run_of(["complement"], text), read_one(text)
+    if not is_deterministic(automaton):
+        if ran.returncode != 1 or not ran.stderr.startswith(b"omega: 56 NotDeterministic at ") or ran.stdout:
+            return f"status {ran.returncode}: {shown(ran.stdout)} {shown(ran.stderr)}"
+        return None
+    complement, fault = read_written(ran)
+    return fault or word_fault(complement, words, lambda *word: not accepts(automaton, *word))
+
+
+def word_of_lasso_fault(text):
+    """What is wrong with what `empty --search --word` writes, or nothing."""
+    ran, automaton = run_of(["empty", "--search", "--word"], text), read_one(text)
+    if ran.returncode or ran.stderr:
+        return f"status {ran.returncode}: {shown(ran.stderr)}"
+    if ran.stdout == b"empty\n":
+        return None
+    lines = ran.stdout.splitlines(True)
+    lasso = read_lasso(b"".join(lines[:2]))
+    if lasso is None:
+        return f"no lasso: {shown(ran.stdout)}"
+    wanted = b"".join(lines[:2]) + word_line(automaton, *lasso)
+    return None if ran.stdout == wanted else f"{shown(ran.stdout)} for {shown(wanted)}"
+
+
+def chain(states, name):
+    """A ring of so many states."""
+    return HEAD % (states, 1, name, b"Buchi", b"1 Inf(0)", b"".join(
+        b"State: %d [t] %d\n" % (state, (state + 1) % states) for state in range(states)))
+
+
+def known_checks():
+    for one, of_one in LANGUAGES:
+        yield f"the judge on {shown(one)}", word_fault(read_one(one), WORDS, of_one)
+        yield f"the complement of {shown(one)}", complement_fault(one, WORDS)
+        for other, of_other in LANGUAGES:
+            yield f"{shown(one)} meets {shown(other)}", meet_fault(one, other, WORDS)
+    for text in (NO_STARTS, NO_STATES, SETLESS):
+        yield f"{shown(text)} meets another", meet_fault(text, UNTIL, WORDS)
+        yield f"another meets {shown(text)}", meet_fault(UNTIL, text, WORDS)
+        yield f"the complement of {shown(text)}", complement_fault(text, WORDS)
+
+
+def limit_checks():
+    """At both sides of 55: rings whose numbers of states have no common divisor meet in all pairs."""
+    ran = meet(chain(1023, b'"a"'), chain(1024, b'"b"'))
+    fault = None if ran.returncode == 0 and ran.stdout.count(b"State: ") == 1023 * 1024 else f"status {ran.returncode}"
+    yield "1,047,552 pairs", fault
+    ran = meet(chain(1025, b'"a"'), chain(1024, b'"b"'))
+    yield "1,049,600 pairs", None if (ran.returncode, ran.stdout) == (1, b"") and ran.stderr.startswith(
+        b"omega: 55 TooLarge\n") else f"status {ran.returncode}: {shown(ran.stderr)}"
+
+
+def random_checks():
+    maker = Paired(2027)
+    for number in range(2000):
+        deterministic = bool(number % 2)
+        one, other = maker.automaton(deterministic), maker.automaton(deterministic)
+        words = maker.random.sample(WORDS, 8)
+        assert not branches(read_one(one))
+        yield f"the pair {number}: {one!r} meets {other!r}", meet_fault(one, other, words)
+        yield f"the complement of {one!r}", complement_fault(one, words)
+        if number < 400:
+            yield f"the word of {one!r}", word_of_lasso_fault(one)
+
+
+def product_checks():
+    yield from known_checks()
+    yield from random_checks()
+    yield from limit_checks()
