@@ -1,11 +1,11 @@
 #!/usr/bin/env python3
-"""Solves and judges one large random game from arrays, by libomega, and from its text, by the program, in one run.
+"""Solves and judges random games from arrays, by libomega, and where a text can hold the game, by the program, in one run.
 
-    bench/arrays.py                     1,000,000 nodes, 3,000,000 successors, 8 priorities
-    bench/arrays.py --nodes 100000
+    bench/arrays.py                     400,000 nodes with 2 successors in both ways, 1,000,000 with 3 as arrays alone
+    bench/arrays.py --rounds 1
 
 Of each step the least of some rounds, in seconds of wall time and of processor time; the program reads and writes texts,
-the library neither. The game is made by a fixed seed. Winners of both have to be the same.
+the library neither. The games are made by fixed seeds. Winners of both have to be the same.
 """
 import argparse
 import array
@@ -19,6 +19,8 @@ import time
 
 ROOT = os.path.dirname(os.path.dirname(os.path.abspath(__file__)))
 sys.path.insert(0, os.path.join(ROOT, "python"))
+import omega
+
 OMEGA = os.environ.get("OMEGA", os.path.join(ROOT, "crates", "omega_tool", "out", "omega_tool"))
 
 
@@ -53,15 +55,8 @@ def timed(rounds, call):
     return min(walls), min(processors), given
 
 
-def main():
-    parser = argparse.ArgumentParser(description=__doc__, formatter_class=argparse.RawDescriptionHelpFormatter)
-    parser.add_argument("--nodes", type=int, default=1_000_000)
-    parser.add_argument("--priorities", type=int, default=8)
-    parser.add_argument("--rounds", type=int, default=3)
-    asked = parser.parse_args()
-    import omega
-    game = game_of(asked.nodes, 3, asked.priorities)
-    priorities, owners, starts, successors = game
+def from_text(rounds, game):
+    """What the program takes for the game's text, and the winners that it finds."""
     with tempfile.TemporaryDirectory() as folder:
         path, solution = os.path.join(folder, "game.pg"), os.path.join(folder, "solution")
         with open(path, "wb") as file:
@@ -71,21 +66,42 @@ def main():
             with open(into, "wb") as output:
                 subprocess.run([OMEGA, *words], stdout=output, check=True)
 
-        rows = [("read: check --format pg", *timed(asked.rounds, lambda: program("check", "--format", "pg", path))[:2]),
-                ("text: solve --search", *timed(asked.rounds, lambda: program("solve", "--search", path, into=solution))[:2]),
-                ("text: verify", *timed(asked.rounds, lambda: program("verify", "--game", path, solution))[:2])]
-        wall, processor, answer = timed(asked.rounds, lambda: omega.solve(priorities, owners, (starts, successors)))
-        rows.append(("arrays: solve", wall, processor))
-        choice = array.array("I", (omega.NO_CHOICE if it is None else it for it in answer.choice))
-        winner = bytes(answer.winner)
-        wall, processor, fault = timed(asked.rounds, lambda: omega.verify(priorities, owners, (starts, successors), winner, choice))
-        rows.append(("arrays: verify", wall, processor))
+        tell("text: check --format pg", timed(rounds, lambda: program("check", "--format", "pg", path)))
+        tell("text: solve --search", timed(rounds, lambda: program("solve", "--search", path, into=solution)))
+        tell("text: verify", timed(rounds, lambda: program("verify", "--game", path, solution)))
         with open(solution, "rb") as file:
-            winners = [int(line.split()[1].rstrip(b";")) for line in file.read().splitlines()[1:]]
-    for label, wall, processor in rows:
-        print(f"{label:26} {wall:7.2f} s {processor:7.2f} processor s")
-    if fault is not None or winners != list(answer.winner):
-        sys.exit("the answers differ")
+            return [int(line.split()[1].rstrip(b";")) for line in file.read().splitlines()[1:]]
+
+
+def from_arrays(rounds, game):
+    """What the library takes for the same, and the winners that it finds."""
+    priorities, owners, starts, successors = game
+    solved = timed(rounds, lambda: omega.solve(priorities, owners, (starts, successors)))
+    tell("arrays: solve", solved)
+    answer = solved[2]
+    choice = array.array("I", (omega.NO_CHOICE if it is None else it for it in answer.choice))
+    judged = timed(rounds, lambda: omega.verify(priorities, owners, (starts, successors), bytes(answer.winner), choice))
+    tell("arrays: verify", judged)
+    if judged[2] is not None:
+        sys.exit("the solution is judged to be wrong")
+    return list(answer.winner)
+
+
+def tell(label, measured):
+    print(f"  {label:26} {measured[0]:7.2f} s {measured[1]:7.2f} processor s", flush=True)
+
+
+def main():
+    parser = argparse.ArgumentParser(description=__doc__, formatter_class=argparse.RawDescriptionHelpFormatter)
+    parser.add_argument("--priorities", type=int, default=8)
+    parser.add_argument("--rounds", type=int, default=3)
+    asked = parser.parse_args()
+    print("400,000 nodes, 800,000 successors")
+    game = game_of(400_000, 2, asked.priorities)
+    if from_text(asked.rounds, game) != from_arrays(asked.rounds, game):
+        sys.exit("the winners differ")
+    print("1,000,000 nodes, 3,000,000 successors")
+    from_arrays(asked.rounds, game_of(1_000_000, 3, asked.priorities))
 
 
 if __name__ == "__main__":
