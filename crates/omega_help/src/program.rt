@@ -133,28 +133,18 @@ fn command_named<'a>(alloc: Global, name: &str) -> Result<Command<'a>, AllocErro
 }
 
 fn subcommand_named(name: &str) -> Option<Subcommand> {
-    if name == "show" {
-        Some(Subcommand::Show)
-    } else if name == "check" {
-        Some(Subcommand::Check)
-    } else if name == "canon" {
-        Some(Subcommand::Canon)
-    } else if name == "solve" {
-        Some(Subcommand::Solve)
-    } else if name == "verify" {
-        Some(Subcommand::Verify)
-    } else if name == "empty" {
-        Some(Subcommand::Empty)
-    } else if name == "game" {
-        Some(Subcommand::Game)
-    } else if name == "meet" {
-        Some(Subcommand::Meet)
-    } else if name == "complement" {
-        Some(Subcommand::Complement)
-    } else if name == "draw" {
-        Some(Subcommand::Draw)
-    } else {
-        None
+    match name {
+        "show" => Some(Subcommand::Show),
+        "check" => Some(Subcommand::Check),
+        "canon" => Some(Subcommand::Canon),
+        "solve" => Some(Subcommand::Solve),
+        "verify" => Some(Subcommand::Verify),
+        "empty" => Some(Subcommand::Empty),
+        "game" => Some(Subcommand::Game),
+        "meet" => Some(Subcommand::Meet),
+        "complement" => Some(Subcommand::Complement),
+        "draw" => Some(Subcommand::Draw),
+        _ => None,
     }
 }
 
