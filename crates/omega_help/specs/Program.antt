@@ -62,7 +62,8 @@ complement = with_options (codes "complement") (operand (codes "file") ∷ [])
 abbrev pub draw : Shape
 draw =
     with_options (codes "draw")
-    (required (codes "format") ∷ optional (codes "solution") ∷ flag (codes "lasso") ∷ operand (codes "file") ∷ [])
+    (required (codes "format") ∷ optional (codes "from") ∷ optional (codes "depth") ∷ optional (codes "solution") ∷ flag (codes "legend")
+    ∷ flag (codes "lasso") ∷ operand (codes "file") ∷ [])
 
 -- ---- the program
 

@@ -2,7 +2,7 @@ ghost use Rattle.std.specs.Prelude.{◌≡◌, IfOk};
 ghost use Rattle.omega_help.specs.Program.{draw};
 ghost use Rattle.clap.specs.Words.{shape_of};
 
-use crate::options::{FILE, FORMAT, LASSO, OptionHelp, SOLUTION};
+use crate::options::{FILE, FORMAT, LASSO, LEGEND, OptionHelp, SOLUTION, Value};
 use crate::subcommand::subcommand;
 use clap::Command;
 use std::alloc::{AllocError, Global};
@@ -15,11 +15,28 @@ makes a picture of it.
 --format pg draws a game: player 0's nodes as diamonds and player 1's as boxes, each with its
 identifier, its name and its priority, and an edge to each successor. With --solution, the file has a
 solution of the game, as `omega solve` writes it: each node is filled in its winner's colour, light blue
-for player 0 and orange for player 1, and each edge to a chosen successor is bold.
+for player 0 and orange for player 1, and each edge to a chosen successor is bold. With --legend, the
+drawing says so in a frame of its own.
 
   $ echo '0 0 0 1,2; 1 1 1 0; 2 2 1 0 \"goal\";' > game.pg
   $ omega solve game.pg > solution.txt
-  $ omega draw --format pg --solution solution.txt game.pg | dot -Tsvg > game.svg
+  $ omega draw --format pg --solution solution.txt --legend game.pg | dot -Tsvg > game.svg
+
+--from ID draws the part of the game that is reached from the node with that identifier. With --depth N,
+it draws only the nodes to which at most N steps lead from that node, and the edges between these; from a
+node that leads on to others, an edge leads to `...`. If no node has the identifier, the refusal is
+54 UnknownNode. A solution is of the whole game here too, and an edge to a chosen successor is bold if
+the successor is drawn.
+
+  $ omega draw --format pg --from 1 --depth 1 game.pg
+  digraph game {
+    0 [shape=diamond, label=\"0\\npriority 0\\n\"];
+    0 -> 1;
+    more0 [shape=plaintext, label=\"...\"];
+    0 -> more0;
+    1 [shape=box, label=\"1\\npriority 1\\n\"];
+    1 -> 0;
+  }
 
 --format hoa draws an automaton: above it its name and its acceptance formula, then its states with
 their numbers and names, an arrow into each start, and its edges with their labels, in which
@@ -33,19 +50,36 @@ is the same as without --lasso.
     --BODY-- State: 0 [t] 0 {0} [t] 1 State: 1 [t] 1 --END--' > automaton.hoa
   $ omega draw --format hoa --lasso automaton.hoa | dot -Tsvg > automaton.svg
 
---solution goes with --format pg only, and --lasso with --format hoa only.
+--solution, --legend, --from and --depth go with --format pg only, --legend with --solution only, --depth
+with --from only, and --lasso with --format hoa only.
 
 Faults of the text come first; `omega check --help` lists them. A text with --ABORT--, with no automaton
-or with several is not one automaton, and is refused as 3 Syntax. Faults of a game come before those of
-its solution, 53 BadSolution among these. With --solution another line says which text is refused:
-`omega: in the game` or `omega: in the solution`. A solution that fits the game is drawn, right or wrong,
-since `omega verify` judges it. A file that can't be read is refused as 61 Io, and another line has its
-name. With --lasso the refusals 41 and 42 come as from `omega empty --search`.
+or with several is not one automaton, and is refused as 3 Syntax. Faults of a game, 54 behind them, come
+before those of its solution, 53 BadSolution among these. With --solution another line says which text is
+refused: `omega: in the game` or `omega: in the solution`. A solution that fits the game is drawn, right
+or wrong, since `omega verify` judges it. A file that can't be read is refused as 61 Io, and another line
+has its name. With --lasso the refusals 41 and 42 come as from `omega empty --search`.
 
 Exit status: 0 done, 1 a text or the task is refused, 2 the command line is wrong, 4 out of memory, 5 a
 read or a write failed.";
 
-const OPTIONS: &[OptionHelp] = &[FORMAT, SOLUTION, LASSO, FILE];
+const OPTIONS: &[OptionHelp] = &[
+    FORMAT,
+    OptionHelp {
+        name: "from",
+        value: Value::Optional("ID"),
+        help: "Draw only the part of a game that the node with this identifier reaches",
+    },
+    OptionHelp {
+        name: "depth",
+        value: Value::Optional("N"),
+        help: "Draw only nodes to which at most N steps lead from that node, 0 to 2147483647",
+    },
+    SOLUTION,
+    LEGEND,
+    LASSO,
+    FILE,
+];
 
 /// The subcommand that draws a game or an automaton.
 pub fn draw_command<'a>(alloc: Global) -> Result<Command<'a>, AllocError>

@@ -112,6 +112,13 @@ pub const SOLUTION: OptionHelp = OptionHelp {
     help: "Draw the solution of the game in this file too",
 };
 
+/// The flag that asks what the colours of a drawing mean.
+pub const LEGEND: OptionHelp = OptionHelp {
+    name: "legend",
+    value: Value::None,
+    help: "Draw a legend of the solution: who wins in which colour, what a bold edge is",
+};
+
 /// The flag that asks for a lasso to be drawn.
 pub const LASSO: OptionHelp = OptionHelp {
     name: "lasso",
