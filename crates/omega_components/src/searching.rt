@@ -72,7 +72,7 @@ impl Search {
 
     /// Meets the states to which edges lead from one that was met. The links are those of the states that the edges
     /// leave.
-    fn follow(&mut self, links: &Links<'_>, enters: &[u32], origin: usize) -> Result<(), AllocError>
+    fn follow(&mut self, links: &Links<'_>, enters: &[u32], origin: u32) -> Result<(), AllocError>
         requires origin { origin < length self.old.met }
         requires state { (met_at self.old.met origin).state < links.now.count }
         requires even { length enters.now ≡ length links.now.states }
@@ -80,9 +80,9 @@ impl Search {
         ensures grows { OnOk result (Grows (IsStep links.now.states enters.now (met_at self.old.met origin).state origin) self.old self.new) }
         ensures followed { OnOk result (AreFollowed links.now.states enters.now (met_at self.old.met origin).state self.new.marks) }
     {
-        let mut left = links.last(self.met[origin].state as usize);
+        let mut left = links.last(self.met[origin as usize].state as usize);
         while left > 0 {
-            let edge = left - 1;
+            let edge = left as usize - 1;
             self.meet(Met {
                 state: enters[edge],
                 edge: left,
@@ -138,8 +138,8 @@ impl Search {
         let mut at = index;
         while self.met[at].edge > 0 {
             let met = self.met[at];
-            walk.push(edges[met.edge - 1])?;
-            at = met.origin;
+            walk.push(edges[met.edge as usize - 1])?;
+            at = met.origin as usize;
         }
         walk.reverse();
         Ok(walk)
@@ -166,7 +166,10 @@ pub(crate) fn search_from(
     search.begin(sources)?;
     let mut index = 0;
     while index < search.met.len() {
-        search.follow(&links, enters, index)?;
+        if index > u32::MAX as usize {
+            return Err(AllocError);
+        }
+        search.follow(&links, enters, index as u32)?;
         index += 1;
     }
     Ok(search)
