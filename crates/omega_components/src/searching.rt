@@ -4,7 +4,7 @@ ghost use Rattle.omega_walk.specs.Walks.{MarkedGraph};
 ghost use Rattle.omega_components.specs.Graph.{listed};
 ghost use Rattle.omega_components.specs.Reaching.{IsWalkFrom};
 ghost use Rattle.omega_components.specs.private.Ends.{AreEnds};
-ghost use Rattle.omega_components.specs.private.Searching.{AreFollowed, Grows, IsMet, IsSearched, IsStart, IsStep, LeadBack, mark_at, meeting, met_at};
+ghost use Rattle.omega_components.specs.private.Searching.{AreFollowed, Grows, IsMet, IsSearched, IsSearchedTo, IsStart, IsStep, LeadBack, mark_at, meeting, met_at};
 
 use crate::links::Links;
 use crate::met::Met;
@@ -166,6 +166,40 @@ pub(crate) fn search_from(
     search.begin(sources)?;
     let mut index = 0;
     while index < search.met.len() {
+        if index > u32::MAX as usize {
+            return Err(AllocError);
+        }
+        search.follow(&links, enters, index as u32)?;
+        index += 1;
+    }
+    Ok(search)
+}
+
+/// Meets states that are reached from some states by edges, given by the states that they leave and those that they
+/// enter, all below a count, until it met a target. Linear.
+pub(crate) fn search_to(
+    alloc: Global,
+    count: usize,
+    leaves: &[u32],
+    enters: &[u32],
+    sources: &[u32],
+    target: u32,
+) -> Result<Search, AllocError>
+    requires even { length enters.now ≡ length leaves.now }
+    requires leaves { All (λ state. state < count) leaves.now }
+    requires enters { All (λ state. state < count) enters.now }
+    requires sources { All (λ state. state < count) sources.now }
+    requires target { target < count }
+    ensures { IfOk result (IsSearchedTo leaves.now enters.now sources.now count target) }
+{
+    let links = Links::new(alloc, count, leaves)?;
+    let mut search = Search::new(alloc, count)?;
+    search.begin(sources)?;
+    let mut index = 0;
+    while index < search.met.len() {
+        if search.has_met(target) {
+            return Ok(search);
+        }
         if index > u32::MAX as usize {
             return Err(AllocError);
         }
