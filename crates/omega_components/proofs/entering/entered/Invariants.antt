@@ -1,6 +1,4 @@
 -- What holds in the loop of `entered`: a state that is told is entered by one of the edges so far.
-use Rattle.std.proofs.Common.{ℕ, ◌≡◌, ◌<◌, IsTrue, get_or, length}
-use Rattle.omega_components.specs.private.Searching.{mark_at}
 use Rattle.omega_components.specs.private.Judging.{AreEntered}
 use Rattle.omega_components.proofs.entering.entered.Given as goal
 

@@ -1,5 +1,6 @@
 -- `search_to`: meets states that are reached from some states, until it met a target.
-use Rattle.std.proofs.Common.{ℕ, ◌<◌, List, length, subst, rules}
+use Rattle.std.proofs.Common.{ℕ, ◌<◌, List, length, sym, ◌∙◌, subst, arith, rules}
+use Rattle.std.proofs.lemmas.Grind.{common_steps}
 use Rattle.omega_components.specs.private.Searching.{AreFollowed, Grows, IsStep, met_at}
 use Rattle.omega_components.proofs.Searched.{searching_begins, searching_ends, searching_more}
 use Rattle.omega_components.proofs.searching.search_to.Goals as goal
@@ -22,12 +23,12 @@ pub returns-then-has_met : goal.returns-then-has_met
 returns-then-has_met c = record {
   tree = c.loop-index.invariant.tree;
   found = c.loop-index.invariant.found;
-  whole = λ none. absurd (none ?met);
+  whole = λ none. absurd (none (sym c.has_met.ensures ∙ c.if-has_met.true));
 }
 
 pub returns : goal.returns
 returns c = record {
   tree = c.loop-index.invariant.tree;
   found = c.loop-index.invariant.found;
-  whole = λ none. searching_ends c.args.leaves.now c.args.enters.now c.args.sources.now c.args.count c.loop-index.search c.loop-index.index c.loop-index.invariant ?all;
+  whole = λ none. searching_ends c.args.leaves.now c.args.enters.now c.args.sources.now c.args.count c.loop-index.search c.loop-index.index c.loop-index.invariant (first_of (search rules, grind (arith, common_steps)));
 }
