@@ -1,8 +1,8 @@
 -- States that keep their numbers: each number below a bound stands for itself.
-use Rattle.std.proofs.Common.{◌≡◌, ℕ, ◌+◌, ◌<◌, List, [], ◌∷◌, length, map, All, refl, sym, ap, subst, ◌∙◌, arith}
+use Rattle.std.proofs.Common.{◌≡◌, ℕ, ◌+◌, ◌<◌, List, [], ◌∷◌, length, get_or, map, take, All, refl, sym, ap, subst, ◌∙◌, arith}
 use Rattle.std.specs.List.{range_with_len}
 use Rattle.std.proofs.lemmas.List.FromFn.{get_or-range_with_len, length-range_with_len}
-use Rattle.std.proofs.lemmas.List.Elements.{All-head, All-map, All-tail, All-weaker}
+use Rattle.std.proofs.lemmas.List.Elements.{All-head, All-map, All-more, All-tail, All-weaker}
 use Rattle.omega_components.specs.Graph.{IsInside, Shape}
 use Rattle.omega_components.specs.declared.edge.Edge.{Edge}
 use Rattle.omega_lasso.specs.private.Numbering.{AreNamed, IsNamed, ends_in, first_of, name_in}
@@ -12,7 +12,10 @@ abbrev names_below : ℕ → List ℕ
 names_below bound = range_with_len 0 bound
 
 name_is : (bound number : ℕ) → number < bound → name_in (names_below bound) number ≡ number
-name_is bound number below = get_or-range_with_len 0 bound number 0 below
+name_is bound number below = get_or-range_with_len 0 bound number 0 below ∙ omega arith
+
+abbrev made : ℕ → ℕ → Edge
+made from to = record { from = from; to = to }
 
 ends_are : (bound : ℕ) (edges : List Edge) → All (IsInside bound) edges → map (ends_in (names_below bound)) edges ≡ edges
 ends_are bound [] inside = refl
@@ -20,7 +23,7 @@ ends_are bound (x ∷ xs) inside =
     let here = All-head (IsInside bound) x xs inside in
     let from = name_is bound x.from here.0 in
     let to = name_is bound x.to here.1 in
-    let same : ends_in (names_below bound) x ≡ x = cc in
+    let same : ends_in (names_below bound) x ≡ x = ap (λ (n : ℕ). made n (name_in (names_below bound) x.to)) from ∙ ap (made x.from) to in
     let rest = ends_are bound xs (All-tail (IsInside bound) x xs inside) in
     cc
 
@@ -54,3 +57,8 @@ kept_numbers starts ends bound sources graph first inside are counted same = (
     starts = ap (map (name_in (names_below bound))) are ∙ firsts_are bound starts first;
   },
 )
+
+-- a bound that is no less, and a new one
+pub bound_more : {X : Type 0} (P : ℕ → X → Type 0) (xs : List X) (index : ℕ) (d : X) (low high : ℕ) → index < length xs → ((x : X) → P low x → P high x)
+    → All (P low) (take index xs) → P high (get_or xs index d) → All (P high) (take (index + 1) xs)
+bound_more P xs index d low high below weaker so_far here = All-more (P high) xs index d below (All-weaker (P low) (P high) weaker (take index xs) so_far) here

@@ -45,7 +45,7 @@ fn start_bound(starts: &[Numbers]) -> usize
     requires { All (λ start. 0 < length start) starts.now }
     ensures { All (λ start. first_of start < result) starts.now }
 {
-    let mut bound = 0;
+    let mut bound = 0usize;
     for start in starts {
         bound = bound.max(start.as_slice()[0] as usize + 1);
     }

@@ -1,6 +1,4 @@
 -- each number stands for itself
-use Rattle.std.proofs.Common.{List, ℕ, sym, subst}
-use Rattle.omega_components.specs.declared.edge.Edge.{Edge}
 use Rattle.omega_lasso.proofs.Kept.{kept_numbers}
 use Rattle.omega_lasso.proofs.numbering.keep_numbers.Goals as goal
 

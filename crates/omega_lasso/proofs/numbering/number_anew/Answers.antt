@@ -1,5 +1,5 @@
 -- the names are those that were met
-use Rattle.std.proofs.Common.{◌≡◌, ◌<◌, ℕ, List, length, All, ap, ◌∙◌, arith}
+use Rattle.std.proofs.Common.{◌≡◌, ◌<◌, ℕ, List, length, ap, ◌∙◌, arith}
 use Rattle.std.proofs.lemmas.List.Elements.{All-weaker}
 use Rattle.omega_lasso.proofs.Names.{all_below, apart, length_grown, names_kept}
 use Rattle.omega_lasso.proofs.numbering.number_anew.Goals as goal
