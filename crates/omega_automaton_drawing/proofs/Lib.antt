@@ -1,6 +1,7 @@
 -- Lemmas of drawings of automata.
 pub mod Bodies
 pub mod Lines
+pub mod Literals
 pub mod Marks
 pub mod Named
 pub mod Passed

@@ -100,14 +100,14 @@ fn an_automaton_is_drawn(rt: HostRuntime) {
   start1 [shape=point];
   start1 -> 1;
   start1 -> 2;
-  0 [label="0\nzero\n[p\\\\q & !r | t]\n{1}\n"];
+  0 [label="0\nzero\n[\"p\\\\q\" & !r | t]\n{1}\n"];
   1 [label="1\n"];
   0 -> 1 [label=""];
   0 -> branch1 [label="{0}\n", arrowhead=none];
   branch1 [shape=point];
   branch1 -> 0 [label=""];
   branch1 -> 3 [label=""];
-  1 -> 3 [label="!(p\\\\q | r) & p\\\\q\n{0 1}\n"];
+  1 -> 3 [label="!(\"p\\\\q\" | r) & \"p\\\\q\"\n{0 1}\n"];
   1 -> 1 [label="r\n"];
 }
 "#;
@@ -128,11 +128,11 @@ fn a_lasso_is_drawn(rt: HostRuntime) {
   start0 -> 0;
   0 [label="0\n"];
   1 [label="1\n"];
-  0 -> 1 [label="a\n", style=bold, color=blue];
+  0 -> 1 [label="edge 0\na\n", style=bold, color=blue];
   0 -> 0 [label="!a\n"];
-  1 -> 1 [label="t\n{0}\n", style=bold, color=red];
+  1 -> 1 [label="edge 2\nt\n{0}\n", style=bold, color=red];
   1 -> 0 [label="a\n"];
-  1 -> branch4 [label="!a\n", style=bold, color=red, arrowhead=none];
+  1 -> branch4 [label="edge 4\n!a\n", style=bold, color=red, arrowhead=none];
   branch4 [shape=point];
   branch4 -> 0 [label="", style=bold, color=red];
   branch4 -> 1 [label="", style=bold, color=red];

@@ -1,8 +1,8 @@
 -- `write_branch_point`: its parts are the line.
 use Rattle.std.proofs.Common.{codes}
-use Rattle.omega_automaton_drawing.specs.AutomatonDrawing.{branch_name}
+use Rattle.omega_automaton_drawing.specs.Arrows.{branch_name}
 use Rattle.omega_automaton_drawing.proofs.Lines.{behind}
-use Rattle.omega_automaton_drawing.proofs.edges.write_branch_point.Goals as goal
+use Rattle.omega_automaton_drawing.proofs.branches.write_branch_point.Goals as goal
 
 pub returns-clause-ok : goal.returns-clause-ok
 returns-clause-ok c =

@@ -1,8 +1,8 @@
 -- `write_branch_arrows`: an arrow more is drawn.
 use Rattle.std.proofs.Common.{arith}
-use Rattle.omega_automaton_drawing.specs.AutomatonDrawing.{branch_arrow}
+use Rattle.omega_automaton_drawing.specs.Arrows.{branch_arrow}
 use Rattle.omega_dot.proofs.Rows.{text_more}
-use Rattle.omega_automaton_drawing.proofs.edges.write_branch_arrows.Goals as goal
+use Rattle.omega_automaton_drawing.proofs.branches.write_branch_arrows.Goals as goal
 
 pub loop-target-preserved : goal.loop-target-preserved
 loop-target-preserved c =
