@@ -28,7 +28,7 @@ COMMANDS = {
     "solve": ("Solve",),
     "solve --search": ("Search",),
     "verify": ("Verify",),
-    "draw --format pg": ("Draw Pg", "DrawSolution"),
+    "draw --format pg": ("Draw Pg", "DrawPart", "DrawSolution"),
     "check --format hoa": ("Check Hoa",),
     "canon --format hoa": ("Canon Hoa",),
     "show --format hoa": ("Show Hoa",),

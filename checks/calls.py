@@ -61,7 +61,7 @@ RUNS = [
     *((call, text, b"", 0, b"parity ") for call in ("read_game", "GameBuilder", "part") for text in GAMES),
     ("read_game", b"0 0 0 1;", b"", 11, b""),
     ("build", b"", b"", 0, b"parity 7;\n3 2 0 7 \"n\";\n7 1 1 7,3;\n"),
-    *(("draw_game", text, b"", 0, b"digraph game {\n") for text in GAMES),
+    *((call, text, b"", 0, b"digraph game {\n") for call in ("draw_game", "draw_part") for text in GAMES),
     ("read_solution", CHOICE, b"paritysol 2; 0 0 2; 1 0; 2 0;", 0, b"paritysol 2;\n0 0 2;\n1 0;\n2 0;\n"),
     ("read_solution", CHOICE, b"paritysol 2; 0 0;", 53, b""),
     ("draw_solution", CHOICE, b"paritysol 2; 0 0 2; 1 0; 2 0;", 0, b"digraph game {\n"),

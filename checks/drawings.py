@@ -12,7 +12,7 @@ from automata import BINDS, Aliases, bare, binds, read_one, written
 from automaton_texts import ABORTED, ALIAS, BUCHI, EVERYTHING, Maker
 from emptiness import judge_search, read_lasso
 from games import Refused, read_game, read_solution
-from parts import made_at_random, solution_at_random
+from parts import made_at_random, part_of, solution_at_random
 from parts import written as solution_text
 from program import ROOT, SECONDS, fault_of, fault_with_file, output_of, shown
 
@@ -55,17 +55,47 @@ def name_line(quoted):
     return b"" if quoted is None else escaped(quoted[1:-1]) + b"\\n"
 
 
-def game_drawing(nodes, solution=None):
+LEGEND = b"""\
+  subgraph cluster_legend {
+    label="legend";
+    legend0 [shape=plaintext, label="player 0 wins", style=filled, fillcolor=lightblue];
+    legend1 [shape=plaintext, label="player 1 wins", style=filled, fillcolor=orange];
+    legend0 -> legend1 [style=invis];
+    chosen [shape=plaintext, label="the winner's choice"];
+    choosing [shape=point];
+    choosing -> chosen [style=bold];
+  }
+"""
+
+
+def near(nodes, start, depth):
+    """The nodes to which at most so many steps lead from the start, or any number of them where no depth is given."""
+    kept = set(part_of(nodes, start))
+    if depth is None:
+        return kept
+    steps, reached = 0, {start}
+    while steps < depth and reached != kept:
+        steps, reached = steps + 1, reached | {successor for one in reached for successor in nodes[one].successors}
+    return reached
+
+
+def game_drawing(nodes, solution=None, start=None, depth=None, legend=False):
+    drawn = nodes if start is None else near(nodes, start, depth)
     lines = [b"digraph game {\n"]
     for identifier, node in nodes.items():
+        if identifier not in drawn:
+            continue
         winner, choice = solution[identifier] if solution else (None, None)
         fill = b"" if winner is None else b", style=filled, fillcolor=" + COLOURS[winner]
         label = b"%d\\n%spriority %d\\n" % (identifier, name_line(node.name), node.priority)
         lines.append(b'  %d [shape=%s, label="%s"%s];\n' % (identifier, (b"diamond", b"box")[node.owner], label, fill))
         for successor in node.successors:
             bold = b" [style=bold]" if successor == choice else b""
-            lines.append(b"  %d -> %d%s;\n" % (identifier, successor, bold))
-    return b"".join(lines) + b"}\n"
+            if successor in drawn:
+                lines.append(b"  %d -> %d%s;\n" % (identifier, successor, bold))
+        if any(successor not in drawn for successor in node.successors):
+            lines.append(b'  more%d [shape=plaintext, label="..."];\n  %d -> more%d;\n' % (identifier, identifier, identifier))
+    return b"".join(lines) + (LEGEND if legend else b"") + b"}\n"
 
 
 def drawn_name(quoted):
@@ -149,15 +179,55 @@ def game_fault(text):
     return fault_of(words, text, 0, game_drawing(nodes))
 
 
-def solution_fault(text, solution):
-    words, judged = ["draw", "--format", "pg", "--solution"], "game"
+def solution_fault(text, solution, legend=False):
+    words, judged = ["draw", "--format", "pg", *(["--legend"] if legend else []), "--solution"], "game"
     try:
         nodes = read_game(text)
         judged = "solution"
         read = read_solution(nodes, solution)
     except Refused as refused:
         return fault_with_file(words, solution, text, 1, b"", f"omega: {refused}\nomega: in the {judged}\n".encode())
-    return fault_with_file(words, solution, text, 0, game_drawing(nodes, read))
+    return fault_with_file(words, solution, text, 0, game_drawing(nodes, read, legend=legend))
+
+
+def part_words(start, depth):
+    return ["--from", str(start), *([] if depth is None else ["--depth", str(depth)])]
+
+
+def part_fault(text, start, depth):
+    words = ["draw", "--format", "pg", *part_words(start, depth)]
+    try:
+        nodes = read_game(text)
+        part_of(nodes, start)
+    except Refused as refused:
+        return fault_of(words, text, 1, b"", f"omega: {refused}\n".encode())
+    return fault_of(words, text, 0, game_drawing(nodes, None, start, depth))
+
+
+def part_solution_fault(text, solution, start, depth, legend):
+    words = ["draw", "--format", "pg", *part_words(start, depth), *(["--legend"] if legend else []), "--solution"]
+    judged = "game"
+    try:
+        nodes = read_game(text)
+        part_of(nodes, start)
+        judged = "solution"
+        read = read_solution(nodes, solution)
+    except Refused as refused:
+        return fault_with_file(words, solution, text, 1, b"", f"omega: {refused}\nomega: in the {judged}\n".encode())
+    return fault_with_file(words, solution, text, 0, game_drawing(nodes, read, start, depth, legend))
+
+
+def part_checks(text, solution):
+    """Parts of a game by several identifiers, one of which no node may have, and depths."""
+    try:
+        identifiers = list(read_game(text))
+    except Refused:
+        identifiers = []
+    for start in sorted({*identifiers[:3], *identifiers[-1:], 3}):
+        for depth in (None, 0, 1, 2):
+            label = f"the drawing of {shown(text)} from {start} to {depth}"
+            yield label, part_fault(text, start, depth)
+            yield f"{label} with a solution", part_solution_fault(text, solution, start, depth, depth == 1)
 
 
 def automaton_fault(text):
@@ -192,6 +262,8 @@ def drawing_checks():
         yield f"the drawing of {shown(text)}", game_fault(text)
         yield f"the drawing of {shown(text)} with its solution", solution_fault(text, output_of(["solve"], text))
         yield f"the drawing of {shown(text)} with no solution", solution_fault(text, b"paritysol 1;")
+        yield f"the drawing of {shown(text)} with a legend", solution_fault(text, output_of(["solve"], text), True)
+        yield from part_checks(text, output_of(["solve"], text))
     for text in [made_at_random(maker) for _ in range(40)]:
         nodes = read_game(text)
         solution = solution_text(nodes, solution_at_random(maker, nodes))

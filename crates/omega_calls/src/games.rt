@@ -6,7 +6,7 @@ use omega_game::{
     Game, GameBuilder, Lasso, MOST_NUMBER, NodeSpec, Player, Refusal, Seq, Solution,
     check_strategy, check_strategy_by_order, check_strategy_fast, counterexample,
 };
-use omega_game_drawing::{draw_game, draw_solution};
+use omega_game_drawing::{Extent, draw_game, draw_solution};
 use omega_pg::{read_game, read_solution, write_game, write_solution};
 use std::alloc::Global;
 
@@ -22,6 +22,7 @@ pub(crate) fn called(
         "build" => Some(written(alloc, built_of_two(alloc))),
         "part" => Some(written(alloc, part(alloc, text))),
         "draw_game" => Some(drawn(alloc, text)),
+        "draw_part" => Some(part_drawn(alloc, text)),
         "read_solution"
         | "draw_solution"
         | "places_given"
@@ -42,9 +43,28 @@ fn written(alloc: Global, game: Result<Game, Refusal>) -> Result<Vec<u8>, Refusa
 
 fn drawn(alloc: Global, text: &[u8]) -> Result<Vec<u8>, Refusal> {
     match read_game(alloc, text) {
-        Ok(game) => draw_game(alloc, &game),
+        Ok(game) => draw_game(alloc, &game, Extent::Whole),
         Err(refusal) => Err(refusal),
     }
+}
+
+/// What the game's first node reaches by two edges.
+fn part_drawn(alloc: Global, text: &[u8]) -> Result<Vec<u8>, Refusal> {
+    match read_game(alloc, text) {
+        Ok(game) => drawn_from_first(alloc, &game),
+        Err(refusal) => Err(refusal),
+    }
+}
+
+fn drawn_from_first(alloc: Global, game: &Game) -> Result<Vec<u8>, Refusal> {
+    if game.len() == 0 {
+        return Err(Refusal::Io);
+    }
+    let extent = Extent::Part {
+        place: 0,
+        depth: Some(2),
+    };
+    draw_game(alloc, game, extent)
 }
 
 /// The part of the game's first node.
@@ -183,7 +203,7 @@ fn of_game(alloc: Global, call: &str, game: &Game, other: &[u8]) -> Result<Vec<u
     match read_solution(alloc, game, other) {
         Ok(solution) => match call {
             "read_solution" => write_solution(alloc, game, &solution),
-            "draw_solution" => draw_solution(alloc, game, &solution),
+            "draw_solution" => draw_solution(alloc, game, Extent::Whole, &solution, true),
             _ => judged(alloc, call, game, &solution),
         },
         Err(refusal) => Err(refusal),

@@ -1,5 +1,5 @@
 -- What a subcommand asks for with the texts of its options.
-use Rattle.std.specs.Prelude.{◌≡◌, ◌≢◌, ◌≤◌, ◌⊎◌, Bool, true, false, List, Option, Some, None, ℕ, codes, string_bytes, option_map}
+use Rattle.std.specs.Prelude.{◌≡◌, ◌≢◌, ◌≤◌, ◌⊎◌, Bool, true, false, List, Option, Some, None, IsSome, ℕ, codes, string_bytes, option_map}
 use Rattle.std.specs.Str.Parse.{IsNumeral, digits_value}
 use Rattle.omega_game.specs.declared.player.Player.{Player}
 use Rattle.omega_game.specs.Player.{player_number}
@@ -82,11 +82,20 @@ text_of name.Explain options = option_map (λ text. text.now) options.explain
 text_of name.Word options = option_map (λ text. text.now) options.word
 text_of name.With options = option_map (λ text. text.now) options.with
 text_of name.Solution options = option_map (λ text. text.now) options.solution
+text_of name.Legend options = option_map (λ text. text.now) options.legend
 text_of name.Lasso options = option_map (λ text. text.now) options.lasso
+text_of name.Depth options = option_map (λ text. text.now) options.depth
 text_of name.Progress options = option_map (λ text. text.now) options.progress
 text_of name.File options = option_map (λ text. text.now) options.file
 
 -- ---- what a subcommand asks for
+
+-- the part of a game that the node with the identifier reaches, by at most so many steps, if that is said; the steps are
+-- counted from a node that is given
+abbrev pub GivesPart : Options → (from depth : Option ℕ) → Type 0
+GivesPart options from depth =
+    Gives (IsNumberText most_number) (text_of name.From options) from × Gives (IsNumberText most_number) (text_of name.Depth options) depth
+    × (IsSome depth → IsSome from)
 
 -- the subcommand of this name, with these options, asks for a command that lifts, with this budget
 abbrev pub AsksToLift : List ℕ → Options → Command → ℕ → Type 0
@@ -129,11 +138,17 @@ AsksFor subcommand options (task.Run (command.Meet other) budget) = ⊥
 AsksFor subcommand options (task.Run command.Complement budget) = (subcommand ≡ codes "complement") × (budget ≡ most_budget)
 AsksFor subcommand options (task.Run (command.Draw format) budget) =
     (subcommand ≡ codes "draw") × Gives IsFormatText (text_of name.Format options) (Some format)
-    × (text_of name.Solution options ≡ None) × GivesFlag (text_of name.Lasso options) false × (budget ≡ most_budget)
-AsksFor subcommand options (task.Run (command.DrawSolution solution) budget) = ⊥
+    × (text_of name.Solution options ≡ None) × GivesFlag (text_of name.Legend options) false × GivesPart options None None
+    × GivesFlag (text_of name.Lasso options) false × (budget ≡ most_budget)
+AsksFor subcommand options (task.Run (command.DrawPart from depth) budget) =
+    (subcommand ≡ codes "draw") × Gives IsFormatText (text_of name.Format options) (Some Pg)
+    × (text_of name.Solution options ≡ None) × GivesFlag (text_of name.Legend options) false × GivesPart options (Some from) depth
+    × GivesFlag (text_of name.Lasso options) false × (budget ≡ most_budget)
+AsksFor subcommand options (task.Run (command.DrawSolution solution from depth legend) budget) = ⊥
 AsksFor subcommand options (task.Run command.DrawLasso budget) =
     (subcommand ≡ codes "draw") × Gives IsFormatText (text_of name.Format options) (Some Hoa)
-    × (text_of name.Solution options ≡ None) × GivesFlag (text_of name.Lasso options) true × (budget ≡ most_budget)
+    × (text_of name.Solution options ≡ None) × GivesFlag (text_of name.Legend options) false × GivesPart options None None
+    × GivesFlag (text_of name.Lasso options) true × (budget ≡ most_budget)
 AsksFor subcommand options (task.Watched command budget) =
     AsksToLift subcommand options command budget × GivesFlag (text_of name.Progress options) true
 AsksFor subcommand options (task.Verify file from explain) =
@@ -144,9 +159,10 @@ AsksFor subcommand options (task.VerifyLasso file explain) =
     × (text_of name.From options ≡ None) × GivesFlag (text_of name.Explain options) explain
 AsksFor subcommand options (task.Meet file) =
     (subcommand ≡ codes "meet") × (text_of name.With options ≡ Some (string_bytes file))
-AsksFor subcommand options (task.DrawSolution file) =
+AsksFor subcommand options (task.DrawSolution file from depth legend) =
     (subcommand ≡ codes "draw") × Gives IsFormatText (text_of name.Format options) (Some Pg)
-    × (text_of name.Solution options ≡ Some (string_bytes file)) × GivesFlag (text_of name.Lasso options) false
+    × (text_of name.Solution options ≡ Some (string_bytes file)) × GivesFlag (text_of name.Legend options) legend
+    × GivesPart options from depth × GivesFlag (text_of name.Lasso options) false
 
 -- the subcommand of this name, with these options, asks for the line: for a task with the text that the operand names
 abbrev pub Asks : List ℕ → Options → Line → Type 0
@@ -161,7 +177,8 @@ abbrev pub HasOption : List ℕ → OptionName → Type 0
 HasOption subcommand name.Format =
     (subcommand ≡ codes "show") ⊎ (subcommand ≡ codes "check") ⊎ (subcommand ≡ codes "canon") ⊎ (subcommand ≡ codes "draw")
 HasOption subcommand name.Player = subcommand ≡ codes "solve"
-HasOption subcommand name.From = (subcommand ≡ codes "solve") ⊎ (subcommand ≡ codes "canon") ⊎ (subcommand ≡ codes "verify")
+HasOption subcommand name.From =
+    (subcommand ≡ codes "solve") ⊎ (subcommand ≡ codes "canon") ⊎ (subcommand ≡ codes "verify") ⊎ (subcommand ≡ codes "draw")
 HasOption subcommand name.Budget = (subcommand ≡ codes "solve") ⊎ (subcommand ≡ codes "empty")
 HasOption subcommand name.Search = (subcommand ≡ codes "solve") ⊎ (subcommand ≡ codes "empty")
 HasOption subcommand name.Game = subcommand ≡ codes "verify"
@@ -170,7 +187,9 @@ HasOption subcommand name.Explain = subcommand ≡ codes "verify"
 HasOption subcommand name.Word = subcommand ≡ codes "empty"
 HasOption subcommand name.With = subcommand ≡ codes "meet"
 HasOption subcommand name.Solution = subcommand ≡ codes "draw"
+HasOption subcommand name.Legend = subcommand ≡ codes "draw"
 HasOption subcommand name.Lasso = subcommand ≡ codes "draw"
+HasOption subcommand name.Depth = subcommand ≡ codes "draw"
 HasOption subcommand name.Progress = (subcommand ≡ codes "solve") ⊎ (subcommand ≡ codes "empty")
 HasOption subcommand name.File = Unit {0}
 
@@ -187,7 +206,9 @@ IsRequired name.Explain options = ⊥
 IsRequired name.Word options = ⊥
 IsRequired name.With options = Unit {0}
 IsRequired name.Solution options = ⊥
+IsRequired name.Legend options = ⊥
 IsRequired name.Lasso options = ⊥
+IsRequired name.Depth options = ⊥
 IsRequired name.Progress options = ⊥
 IsRequired name.File options = ⊥
 
@@ -204,7 +225,9 @@ StandsForNothing name.Explain text = (flag : Bool) → IsTruthText text flag →
 StandsForNothing name.Word text = (flag : Bool) → IsTruthText text flag → ⊥
 StandsForNothing name.With text = ⊥
 StandsForNothing name.Solution text = ⊥
+StandsForNothing name.Legend text = (flag : Bool) → IsTruthText text flag → ⊥
 StandsForNothing name.Lasso text = (flag : Bool) → IsTruthText text flag → ⊥
+StandsForNothing name.Depth text = (number : ℕ) → IsNumberText most_number text number → ⊥
 StandsForNothing name.Progress text = (flag : Bool) → IsTruthText text flag → ⊥
 StandsForNothing name.File text = ⊥
 
@@ -244,7 +267,9 @@ IsUsed name.Explain options = GivesFlag (text_of name.Explain options) true
 IsUsed name.Word options = GivesFlag (text_of name.Word options) true
 IsUsed name.With options = text_of name.With options ≢ None
 IsUsed name.Solution options = text_of name.Solution options ≢ None
+IsUsed name.Legend options = GivesFlag (text_of name.Legend options) true
 IsUsed name.Lasso options = GivesFlag (text_of name.Lasso options) true
+IsUsed name.Depth options = text_of name.Depth options ≢ None
 IsUsed name.Progress options = GivesFlag (text_of name.Progress options) true
 IsUsed name.File options = text_of name.File options ≢ None
 
@@ -263,10 +288,25 @@ pub record IsConflict (subcommand : List ℕ) (options : Options) (one other : O
   pub one_used : IsUsed one options
   pub other_used : IsUsed other options
 
+-- the option of the subcommand that has to be given where this one is: the steps of a depth are counted from a node,
+-- and a legend is of a solution
+abbrev pub IsNeededBy : OptionName → List ℕ → OptionName → Type 0
+IsNeededBy name.Depth subcommand option = (subcommand ≡ codes "draw") × (option ≡ name.From)
+IsNeededBy name.Legend subcommand option = (subcommand ≡ codes "draw") × (option ≡ name.Solution)
+IsNeededBy one subcommand option = ⊥
+
+-- an option is given without this one, which has to be given with it
+pub record IsWanting (subcommand : List ℕ) (options : Options) (option : OptionName) : Type 0 where
+  pub one : OptionName
+  pub needed : IsNeededBy one subcommand option
+  pub one_used : IsUsed one options
+  pub missing : text_of option options ≡ None
+
 -- the option of the subcommand goes with this format only
 abbrev pub IsForFormat : List ℕ → OptionName → Format → Type 0
 IsForFormat subcommand option Pg =
-    ((subcommand ≡ codes "canon") × (option ≡ name.From)) ⊎ ((subcommand ≡ codes "draw") × (option ≡ name.Solution))
+    ((subcommand ≡ codes "canon") × (option ≡ name.From))
+    ⊎ ((subcommand ≡ codes "draw") × ((option ≡ name.Solution) ⊎ (option ≡ name.Legend) ⊎ (option ≡ name.From) ⊎ (option ≡ name.Depth)))
 IsForFormat subcommand option Hoa = (subcommand ≡ codes "draw") × (option ≡ name.Lasso)
 
 -- the option goes with this format only, and is given with another
@@ -277,13 +317,14 @@ pub record IsOfOtherFormat (subcommand : List ℕ) (options : Options) (option :
   pub is_other : other ≢ format
   pub used : IsUsed option options
 
--- what is wrong: no subcommand has the name, or an option that it takes is faulty, or two are not given together,
--- or one is for another format; or memory is wanting
+-- what is wrong: no subcommand has the name, or an option that it takes is faulty, or one is given without another that
+-- it needs, or two are not given together, or one is for another format; or memory is wanting
 abbrev pub IsMistake : List ℕ → Options → Mistake → Type 0
 IsMistake subcommand options mistake.Unknown = IsUnknownSubcommand subcommand
 IsMistake subcommand options mistake.Memory = Unit {0}
 IsMistake subcommand options (mistake.Conflict one other) = IsConflict subcommand options one other
 IsMistake subcommand options (mistake.OnlyWith option format) = IsOfOtherFormat subcommand options option format
-IsMistake subcommand options (mistake.Missing option) = HasOption subcommand option × IsFaulty option options (mistake.Missing option)
+IsMistake subcommand options (mistake.Missing option) =
+    (HasOption subcommand option × IsFaulty option options (mistake.Missing option)) ⊎ IsWanting subcommand options option
 IsMistake subcommand options (mistake.Value option text reason) =
     HasOption subcommand option × IsFaulty option options (mistake.Value option text reason)

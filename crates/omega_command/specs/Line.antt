@@ -13,7 +13,7 @@ IsRunnableTask (task.Watched command budget) = budget ≤ most_budget
 IsRunnableTask (task.Verify file from explain) = Unit {0}
 IsRunnableTask (task.VerifyLasso file explain) = Unit {0}
 IsRunnableTask (task.Meet file) = Unit {0}
-IsRunnableTask (task.DrawSolution file) = Unit {0}
+IsRunnableTask (task.DrawSolution file from depth legend) = Unit {0}
 
 -- what the line asks for can be done
 abbrev pub IsRunnable : Line → Type 0

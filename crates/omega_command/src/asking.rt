@@ -1,5 +1,7 @@
-ghost use Rattle.std.specs.Prelude.{IfOk, IfErr, codes};
-ghost use Rattle.omega_command.specs.CommandLine.{Asks, AsksFor, IsMistake};
+ghost use Rattle.std.specs.Prelude.{IfOk, IfErr, Some, codes};
+ghost use Rattle.omega_command.specs.CommandLine.{Asks, AsksFor, Gives, IsFormatText, IsMistake, text_of};
+ghost use Rattle.omega_command.specs.declared.command.Format.TheVariants.{Hoa, Pg};
+ghost use Rattle.omega_command.specs.declared.options.OptionName.TheVariants as name;
 
 use crate::command::{Command, Format};
 use crate::limits::MOST_BUDGET;
@@ -8,8 +10,8 @@ use crate::mistake::Mistake;
 use crate::options::{OptionName, Options};
 use crate::source::source_in;
 use crate::values::{
-    budget_in, format_in, identifier_in, is_explained, is_search, is_watched, is_with_lasso,
-    is_with_word, player_in,
+    budget_in, depth_in, format_in, identifier_in, is_explained, is_search, is_watched,
+    is_with_lasso, is_with_legend, is_with_word, player_in,
 };
 use std::alloc::Global;
 
@@ -185,29 +187,67 @@ fn drawing_for<'a>(alloc: Global, options: &Options<'a>) -> Result<Task, Mistake
     ensures asked { IfOk result (AsksFor (codes "draw") options.now) }
     ensures mistaken { IfErr result (IsMistake (codes "draw") options.now) }
 {
-    let format = format_in(options)?;
-    let with_lasso = is_with_lasso(options)?;
-    match format {
-        Format::Pg => {
-            if with_lasso {
-                return Err(Mistake::OnlyWith(OptionName::Lasso, Format::Hoa));
-            }
-            let Some(name) = options.solution else {
-                return Ok(Task::Run(Command::Draw(format), MOST_BUDGET));
-            };
-            match String::from_str(alloc, name) {
-                Ok(file) => Ok(Task::DrawSolution { file }),
-                Err(_) => Err(Mistake::Memory),
-            }
-        }
-        Format::Hoa => {
-            if options.solution.is_some() {
-                return Err(Mistake::OnlyWith(OptionName::Solution, Format::Pg));
-            }
-            if with_lasso {
-                return Ok(Task::Run(Command::DrawLasso, MOST_BUDGET));
-            }
-            Ok(Task::Run(Command::Draw(format), MOST_BUDGET))
-        }
+    match format_in(options)? {
+        Format::Pg => game_drawing_for(alloc, options),
+        Format::Hoa => automaton_drawing_for(options),
     }
+}
+
+/// What `draw` asks for of a game.
+fn game_drawing_for<'a>(alloc: Global, options: &Options<'a>) -> Result<Task, Mistake<'a>>
+    requires { Gives IsFormatText (text_of name.Format options.now) (Some Pg) }
+    ensures asked { IfOk result (AsksFor (codes "draw") options.now) }
+    ensures mistaken { IfErr result (IsMistake (codes "draw") options.now) }
+{
+    if is_with_lasso(options)? {
+        return Err(Mistake::OnlyWith(OptionName::Lasso, Format::Hoa));
+    }
+    let from = identifier_in(options)?;
+    let depth = depth_in(options)?;
+    if depth.is_some() && from.is_none() {
+        return Err(Mistake::Missing(OptionName::From));
+    }
+    let legend = is_with_legend(options)?;
+    let Some(name) = options.solution else {
+        if legend {
+            return Err(Mistake::Missing(OptionName::Solution));
+        }
+        return Ok(match from {
+            None => Task::Run(Command::Draw(Format::Pg), MOST_BUDGET),
+            Some(from) => Task::Run(Command::DrawPart { from, depth }, MOST_BUDGET),
+        });
+    };
+    match String::from_str(alloc, name) {
+        Ok(file) => Ok(Task::DrawSolution {
+            file,
+            from,
+            depth,
+            legend,
+        }),
+        Err(_) => Err(Mistake::Memory),
+    }
+}
+
+/// What `draw` asks for of an automaton.
+fn automaton_drawing_for<'a>(options: &Options<'a>) -> Result<Task, Mistake<'a>>
+    requires { Gives IsFormatText (text_of name.Format options.now) (Some Hoa) }
+    ensures asked { IfOk result (AsksFor (codes "draw") options.now) }
+    ensures mistaken { IfErr result (IsMistake (codes "draw") options.now) }
+{
+    if options.solution.is_some() {
+        return Err(Mistake::OnlyWith(OptionName::Solution, Format::Pg));
+    }
+    if is_with_legend(options)? {
+        return Err(Mistake::OnlyWith(OptionName::Legend, Format::Pg));
+    }
+    if options.from.is_some() {
+        return Err(Mistake::OnlyWith(OptionName::From, Format::Pg));
+    }
+    if options.depth.is_some() {
+        return Err(Mistake::OnlyWith(OptionName::Depth, Format::Pg));
+    }
+    if is_with_lasso(options)? {
+        return Ok(Task::Run(Command::DrawLasso, MOST_BUDGET));
+    }
+    Ok(Task::Run(Command::Draw(Format::Hoa), MOST_BUDGET))
 }

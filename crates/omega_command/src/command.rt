@@ -62,9 +62,22 @@ pub enum Command {
     Complement,
     /// Draws the one game or automaton that the text stands for.
     Draw(Format),
-    /// Draws a game with a solution of it, whose text is kept here.
+    /// Draws the part of a game that one node reaches.
+    DrawPart {
+        /// The identifier of the node.
+        from: u32,
+        /// How many steps from the node the part goes, if that is said.
+        depth: Option<u32>,
+    },
+    /// Draws a game with a solution of it, whose text is kept here; whole, or the part that one node reaches.
     DrawSolution {
         solution: Seq<u8>,
+        /// The identifier of the node whose part is drawn.
+        from: Option<u32>,
+        /// How many steps from that node the part goes, if that is said.
+        depth: Option<u32>,
+        /// Whether the drawing says what its colours mean.
+        legend: bool,
     },
     /// Draws an automaton with an accepting lasso, if it has one.
     DrawLasso,

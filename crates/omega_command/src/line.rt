@@ -35,9 +35,15 @@ pub enum Task {
     Meet {
         file: String,
     },
-    /// To draw a game with the solution of it in a file.
+    /// To draw a game with the solution of it in a file, or the part of the game that one node reaches.
     DrawSolution {
         file: String,
+        /// The identifier of the node whose part is drawn.
+        from: Option<u32>,
+        /// How many steps from that node the part goes, if that is said.
+        depth: Option<u32>,
+        /// Whether the drawing says what its colours mean.
+        legend: bool,
     },
 }
 

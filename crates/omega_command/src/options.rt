@@ -14,7 +14,9 @@ pub enum OptionName {
     Word,
     With,
     Solution,
+    Legend,
     Lasso,
+    Depth,
     Progress,
     /// The operand, which names the file of the input.
     File,
@@ -34,7 +36,9 @@ impl fmt::Display for OptionName {
             OptionName::Word => "--word",
             OptionName::With => "--with <FILE>",
             OptionName::Solution => "--solution <FILE>",
+            OptionName::Legend => "--legend",
             OptionName::Lasso => "--lasso",
+            OptionName::Depth => "--depth <N>",
             OptionName::Progress => "--progress",
             OptionName::File => "[FILE]",
         })
@@ -59,7 +63,10 @@ pub struct Options<'a> {
     pub with: Option<&'a str>,
     pub solution: Option<&'a str>,
     /// As `search`.
+    pub legend: Option<&'a str>,
+    /// As `search`.
     pub lasso: Option<&'a str>,
+    pub depth: Option<&'a str>,
     /// As `search`.
     pub progress: Option<&'a str>,
     pub file: Option<&'a str>,

@@ -57,6 +57,20 @@ pub fn identifier_in<'a>(options: &Options<'a>) -> Result<Option<u32>, Mistake<'
     }
 }
 
+/// How many steps from that node the part goes, if that is said.
+pub fn depth_in<'a>(options: &Options<'a>) -> Result<Option<u32>, Mistake<'a>>
+    ensures given { IfOk result (Gives (IsNumberText most_number) (text_of name.Depth options.now)) }
+    ensures faulty { IfErr result (IsFaulty name.Depth options.now) }
+{
+    let Some(text) = options.depth else {
+        return Ok(None);
+    };
+    match number_in(text, u64::from(MOST_NUMBER)) {
+        Ok(depth) => Ok(Some(depth as u32)),
+        Err(reason) => Err(Mistake::Value(OptionName::Depth, text, reason)),
+    }
+}
+
 /// Whether a search is taken in place of lifting.
 pub fn is_search<'a>(options: &Options<'a>) -> Result<bool, Mistake<'a>>
     ensures given { IfOk result (GivesFlag (text_of name.Search options.now)) }
@@ -96,6 +110,20 @@ pub fn is_with_word<'a>(options: &Options<'a>) -> Result<bool, Mistake<'a>>
     match truth_in(text) {
         Some(flag) => Ok(flag),
         None => Err(Mistake::Value(OptionName::Word, text, Reason::NoTruth)),
+    }
+}
+
+/// Whether it is said in the drawing what its colours mean.
+pub fn is_with_legend<'a>(options: &Options<'a>) -> Result<bool, Mistake<'a>>
+    ensures given { IfOk result (GivesFlag (text_of name.Legend options.now)) }
+    ensures faulty { IfErr result (IsFaulty name.Legend options.now) }
+{
+    let Some(text) = options.legend else {
+        return Ok(false);
+    };
+    match truth_in(text) {
+        Some(flag) => Ok(flag),
+        None => Err(Mistake::Value(OptionName::Legend, text, Reason::NoTruth)),
     }
 }
 

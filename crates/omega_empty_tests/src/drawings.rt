@@ -2,7 +2,7 @@
 use crate::texts::{automaton_in, is_text};
 use omega_automaton_drawing::{draw_automaton, draw_lasso};
 use omega_game::Game;
-use omega_game_drawing::{draw_game, draw_solution};
+use omega_game_drawing::{Extent, draw_game, draw_solution};
 use omega_pg::{read_game, read_solution};
 use omega_text::Refusal;
 use std::alloc::Global;
@@ -10,23 +10,49 @@ use std::alloc::Global;
 // The drawing of the game of a text.
 fn game_drawn(alloc: Global, text: &str) -> Result<Vec<u8>, Refusal> {
     match read_game(alloc, text.as_bytes()) {
-        Ok(game) => draw_game(alloc, &game),
+        Ok(game) => draw_game(alloc, &game, Extent::Whole),
+        Err(refusal) => Err(refusal),
+    }
+}
+
+// The drawing of what the node with an identifier reaches in the game of a text.
+fn part_drawn(
+    alloc: Global,
+    text: &str,
+    identifier: u32,
+    depth: Option<u32>,
+) -> Result<Vec<u8>, Refusal> {
+    match read_game(alloc, text.as_bytes()) {
+        Ok(game) => match game.place_of(identifier) {
+            Some(place) => draw_game(alloc, &game, Extent::Part { place, depth }),
+            None => Err(Refusal::Io),
+        },
         Err(refusal) => Err(refusal),
     }
 }
 
 // The drawing of a game with the solution of a text.
-fn drawn_with(alloc: Global, game: &Game, solution: &str) -> Result<Vec<u8>, Refusal> {
+fn drawn_with(
+    alloc: Global,
+    game: &Game,
+    solution: &str,
+    legend: bool,
+) -> Result<Vec<u8>, Refusal> {
     match read_solution(alloc, game, solution.as_bytes()) {
-        Ok(solution) => draw_solution(alloc, game, &solution),
+        Ok(solution) => draw_solution(alloc, game, Extent::Whole, &solution, legend),
         Err(refusal) => Err(refusal),
     }
 }
 
 // The drawing of the game of a text with the solution of another.
-fn solution_drawn(alloc: Global, text: &str, solution: &str) -> Result<Vec<u8>, Refusal> {
+fn solution_drawn(
+    alloc: Global,
+    text: &str,
+    solution: &str,
+    legend: bool,
+) -> Result<Vec<u8>, Refusal> {
     match read_game(alloc, text.as_bytes()) {
-        Ok(game) => drawn_with(alloc, &game, solution),
+        Ok(game) => drawn_with(alloc, &game, solution, legend),
         Err(refusal) => Err(refusal),
     }
 }
@@ -80,8 +106,75 @@ fn a_solution_is_drawn(rt: HostRuntime) {
         rt.alloc(),
         "0 1 0 0,1; 1 2 1 0; 2 1 1 2,0;",
         "paritysol 2; 0 0 1; 1 0; 2 1 2;",
+        false,
     );
     assert!(rt; is_text(drawn, wanted));
+}
+
+// The legend names both players, also where one wins nothing.
+#[test]
+fn a_legend_is_drawn(rt: HostRuntime) {
+    let wanted = r#"digraph game {
+  7 [shape=diamond, label="7\npriority 2\n", style=filled, fillcolor=lightblue];
+  7 -> 7 [style=bold];
+  subgraph cluster_legend {
+    label="legend";
+    legend0 [shape=plaintext, label="player 0 wins", style=filled, fillcolor=lightblue];
+    legend1 [shape=plaintext, label="player 1 wins", style=filled, fillcolor=orange];
+    legend0 -> legend1 [style=invis];
+    chosen [shape=plaintext, label="the winner's choice"];
+    choosing [shape=point];
+    choosing -> chosen [style=bold];
+  }
+}
+"#;
+    let drawn = solution_drawn(rt.alloc(), "7 2 0 7;", "paritysol 7; 7 0 7;", true);
+    assert!(rt; is_text(drawn, wanted));
+}
+
+// From node 1 one step leads to node 0, and two lead to node 2; no step leads to node 3.
+const STEPS: &str = "0 0 0 1,2; 1 1 1 0; 2 2 1 0; 3 3 0 3,1;";
+
+#[test]
+fn a_part_is_drawn(rt: HostRuntime) {
+    let wanted = r#"digraph game {
+  0 [shape=diamond, label="0\npriority 0\n"];
+  0 -> 1;
+  more0 [shape=plaintext, label="..."];
+  0 -> more0;
+  1 [shape=box, label="1\npriority 1\n"];
+  1 -> 0;
+}
+"#;
+    assert!(rt; is_text(part_drawn(rt.alloc(), STEPS, 1, Some(1)), wanted));
+}
+
+#[test]
+fn one_node_is_drawn(rt: HostRuntime) {
+    let wanted = r#"digraph game {
+  3 [shape=diamond, label="3\npriority 3\n"];
+  3 -> 3;
+  more3 [shape=plaintext, label="..."];
+  3 -> more3;
+}
+"#;
+    assert!(rt; is_text(part_drawn(rt.alloc(), STEPS, 3, Some(0)), wanted));
+}
+
+#[test]
+fn all_that_is_reached_is_drawn(rt: HostRuntime) {
+    let wanted = r#"digraph game {
+  0 [shape=diamond, label="0\npriority 0\n"];
+  0 -> 1;
+  0 -> 2;
+  1 [shape=box, label="1\npriority 1\n"];
+  1 -> 0;
+  2 [shape=box, label="2\npriority 2\n"];
+  2 -> 0;
+}
+"#;
+    assert!(rt; is_text(part_drawn(rt.alloc(), STEPS, 1, None), wanted));
+    assert!(rt; is_text(part_drawn(rt.alloc(), STEPS, 1, Some(2)), wanted));
 }
 
 // Names with quotes and backslashes, starts of one state and of two, a state's own label, a branch, states that are

@@ -1,5 +1,6 @@
 -- Lemmas by theme.
 pub mod Accepting
+pub mod Drawing
 pub mod Explaining
 pub mod Identifiers
 pub mod Parts

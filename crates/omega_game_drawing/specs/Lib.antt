@@ -1,2 +1,6 @@
--- Drawings of games in the DOT language: what contracts cite.
+-- Drawings of games in the DOT language: what contracts cite; in `private` what private ones alone do.
+pub mod Extent
 pub mod GameDrawing
+pub mod Legend
+pub mod Nodes
+pub mod private

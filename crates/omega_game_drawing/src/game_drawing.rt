@@ -1,62 +1,100 @@
 //! Drawings of games.
 
-ghost use Rattle.std.specs.Prelude.{◌≡◌, ◌<◌, ◌++◌, IfOk, IsOkUnless, OnOk, Some, length};
+ghost use Rattle.std.specs.Prelude.{◌≡◌, ◌<◌, ◌≤◌, ◌++◌, IfOk, IsOkUnless, OnOk, Some, length};
 ghost use Rattle.omega_game.specs.Game.{node_at};
 ghost use Rattle.omega_game.specs.Solution.{IsSolution, winner_at};
-ghost use Rattle.omega_game_drawing.specs.GameDrawing.{choice_in, drawing_of_game, drawing_of_solution, node_text};
+ghost use Rattle.omega_game_drawing.specs.Extent.{IsPlaced};
+ghost use Rattle.omega_game_drawing.specs.GameDrawing.{IsGameDrawing, IsSolutionDrawing, choice_in, legend_part};
+ghost use Rattle.omega_game_drawing.specs.Nodes.{place_text};
 
-use crate::nodes::write_node;
+use crate::extent::{Extent, drawn_places};
+use crate::legend::write_legend;
+use crate::nodes::write_place;
 use omega_game::{Game, Refusal, Solution};
 use std::alloc::Global;
 
-/// The drawing of a game as a graph in DOT: player 0's nodes as diamonds and player 1's as boxes, each with its
-/// identifier, name and priority, and an edge for each listed successor. 60 alone.
+/// The drawing of a game, or of a part of it, as a graph in DOT: player 0's nodes as diamonds and player 1's as boxes,
+/// each with its identifier, name and priority, and an edge for each listed successor that is drawn. Where a node leads
+/// on to one that is not drawn, an edge leads to `...`. 60 alone.
 ///
-/// The text is in the DOT language (graphviz.org/doc/info/lang.html). The cost is linear in it.
-pub fn draw_game(alloc: Global, game: &Game) -> Result<Vec<u8>, Refusal>
-    ensures text { IfOk result (λ text. text.items ≡ drawing_of_game game.now) }
+/// The text is in the DOT language (graphviz.org/doc/info/lang.html). The cost is linear in it, and in the game's
+/// nodes.
+pub fn draw_game(alloc: Global, game: &Game, extent: Extent) -> Result<Vec<u8>, Refusal>
+    requires { IsPlaced game.now extent }
+    ensures drawn { IfOk result (λ text. IsGameDrawing game.now extent text.items) }
     ensures memory { IsOkUnless result Refusal.Memory }
 {
-    let nodes = game.len();
-    let mut out = Vec::with_capacity(alloc, 32 + 64 * nodes + 16 * game.edges())?;
+    let drawn = drawn_places(alloc, game, extent)?;
+    let room = 32 + 64 * game.len() + 16 * game.edges();
+    let mut out = Vec::with_capacity(alloc, room_for(extent, room))?;
     out.extend_from_slice(b"digraph game {\n")?;
-    for place in 0..nodes as u32 {
-        write_node(game, place, None, None, &mut out)?;
+    for place in 0..game.len() as u32 {
+        write_place(game, &drawn, place, None, None, &mut out)?;
     }
     out.extend_from_slice(b"}\n")?;
     Ok(out)
 }
 
-/// The drawing of a game with a solution of it: as that of the game, each node filled in its winner's colour, light
-/// blue for player 0 and orange for player 1, and each edge to a choice bold. 60 alone.
-pub fn draw_solution(alloc: Global, game: &Game, solution: &Solution) -> Result<Vec<u8>, Refusal>
-    requires { IsSolution game.now solution.now }
-    ensures text { IfOk result (λ text. text.items ≡ drawing_of_solution game.now solution.now) }
+/// The drawing of a game, or of a part of it, with a solution of the game: as that of the game, each node filled in its
+/// winner's colour, light blue for player 0 and orange for player 1, and each edge to a choice bold; where that is asked
+/// for, with a legend that says so. 60 alone.
+pub fn draw_solution(
+    alloc: Global,
+    game: &Game,
+    extent: Extent,
+    solution: &Solution,
+    legend: bool,
+) -> Result<Vec<u8>, Refusal>
+    requires extent { IsPlaced game.now extent }
+    requires solution { IsSolution game.now solution.now }
+    ensures drawn { IfOk result (λ text. IsSolutionDrawing game.now extent solution.now legend text.items) }
     ensures memory { IsOkUnless result Refusal.Memory }
 {
-    let nodes = game.len();
-    let mut out = Vec::with_capacity(alloc, 32 + 96 * nodes + 16 * game.edges())?;
+    let drawn = drawn_places(alloc, game, extent)?;
+    let room = 512 + 96 * game.len() + 16 * game.edges();
+    let mut out = Vec::with_capacity(alloc, room_for(extent, room))?;
     out.extend_from_slice(b"digraph game {\n")?;
-    for place in 0..nodes as u32 {
-        write_solved(game, solution, place, &mut out)?;
+    for place in 0..game.len() as u32 {
+        write_solved(game, &drawn, solution, place, &mut out)?;
     }
+    write_legend_part(legend, &mut out)?;
     out.extend_from_slice(b"}\n")?;
     Ok(out)
 }
 
-/// Appends the node at a place with its winner and its owner's choice.
+/// The room that is asked for at first, of the room for the drawing of the whole game: a part may be small.
+fn room_for(extent: Extent, whole: usize) -> usize
+    ensures { result ≤ whole }
+{
+    match extent {
+        Extent::Whole => whole,
+        Extent::Part { .. } => 0,
+    }
+}
+
+/// Appends what stands for the node at a place, with its winner and its owner's choice.
 fn write_solved(
     game: &Game,
+    drawn: &[bool],
     solution: &Solution,
     place: u32,
     out: &mut Vec<u8>,
 ) -> Result<(), Refusal>
     requires solution { IsSolution game.now solution.now }
     requires place { place < length game.now }
-    ensures ok { OnOk result (out.new.items ≡ out.old.items ++ node_text game.now (Some (winner_at solution.now place)) (choice_in game.now solution.now place) (node_at game.now place)) }
+    requires entries { length drawn.now ≡ length game.now }
+    ensures ok { OnOk result (out.new.items ≡ out.old.items ++ place_text game.now drawn.now (Some (winner_at solution.now place)) (choice_in game.now solution.now place) place (node_at game.now place)) }
     ensures memory { IsOkUnless result Refusal.Memory }
 {
     let winner = solution.winners.as_slice()[place as usize];
     let choice = solution.choice(game.owner(place), place);
-    write_node(game, place, Some(winner), choice, out)
+    write_place(game, drawn, place, Some(winner), choice, out)
+}
+
+/// Appends the legend, if it is asked for.
+fn write_legend_part(legend: bool, out: &mut Vec<u8>) -> Result<(), Refusal>
+    ensures ok { OnOk result (out.new.items ≡ out.old.items ++ legend_part legend) }
+    ensures memory { IsOkUnless result Refusal.Memory }
+{
+    if legend { write_legend(out) } else { Ok(()) }
 }

@@ -1,7 +1,11 @@
 //! Drawings of parity games, as graphs in the DOT language.
 #![tactic(auto)]
 
+mod extent;
 mod game_drawing;
+mod legend;
+mod near;
 mod nodes;
 
+pub use extent::Extent;
 pub use game_drawing::{draw_game, draw_solution};

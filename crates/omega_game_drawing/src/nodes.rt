@@ -3,26 +3,33 @@
 ghost use Rattle.std.specs.Prelude.{◌≡◌, ◌<◌, ◌++◌, All, IsOkUnless, OnOk, codes, decimal, length};
 ghost use Rattle.std.specs.List.{flat_map};
 ghost use Rattle.omega_game.specs.Game.{node_at};
-ghost use Rattle.omega_game_drawing.specs.GameDrawing.{colour_of, edge_end, drawn_edge, fill_part, is_chosen, node_label, drawn_node, node_text, shape_of};
+ghost use Rattle.omega_game_drawing.specs.Nodes.{colour_of, drawn_edge, drawn_node, dots, edge_beyond, edge_end, edge_to, edge_to_dots, fill_part, is_chosen, leads_on, node_label, node_text, place_text, shape_of};
 
 use omega_dot::write_name_line;
 use omega_game::{Game, Player, Refusal};
 use omega_text::write_number;
 
-/// Appends the node at a place and its edges, with its winner and its choice if they are known.
-pub(crate) fn write_node(
+/// Appends what stands for the node at a place, with its winner and its choice if they are known: nothing where it is
+/// not drawn.
+pub(crate) fn write_place(
     game: &Game,
+    drawn: &[bool],
     place: u32,
     winner: Option<Player>,
     choice: Option<u32>,
     out: &mut Vec<u8>,
 ) -> Result<(), Refusal>
-    requires { place < length game.now }
-    ensures ok { OnOk result (out.new.items ≡ out.old.items ++ node_text game.now winner choice (node_at game.now place)) }
+    requires place { place < length game.now }
+    requires entries { length drawn.now ≡ length game.now }
+    ensures ok { OnOk result (out.new.items ≡ out.old.items ++ place_text game.now drawn.now winner choice place (node_at game.now place)) }
     ensures memory { IsOkUnless result Refusal.Memory }
 {
+    if !drawn[place as usize] {
+        return Ok(());
+    }
     write_line(game, place, winner, out)?;
-    write_edges(game, place, choice, out)
+    write_edges(game, drawn, place, choice, out)?;
+    write_edge_beyond(game, drawn, place, out)
 }
 
 /// Appends the line of the node at a place.
@@ -73,7 +80,7 @@ fn write_label(game: &Game, place: u32, out: &mut Vec<u8>) -> Result<(), Refusal
 }
 
 /// Appends the end of a node's line, with the colour of its winner if that is known.
-fn write_fill(winner: Option<Player>, out: &mut Vec<u8>) -> Result<(), Refusal>
+pub(crate) fn write_fill(winner: Option<Player>, out: &mut Vec<u8>) -> Result<(), Refusal>
     ensures ok { OnOk result (out.new.items ≡ out.old.items ++ (codes "\"" ++ (fill_part winner ++ codes "];\n"))) }
     ensures memory { IsOkUnless result Refusal.Memory }
 {
@@ -98,22 +105,46 @@ fn write_colour(winner: Player, out: &mut Vec<u8>) -> Result<(), Refusal>
     Ok(())
 }
 
-/// Appends the edges of the node at a place.
+/// Appends the edges of the node at a place to nodes that are drawn.
 fn write_edges(
     game: &Game,
+    drawn: &[bool],
     place: u32,
     choice: Option<u32>,
     out: &mut Vec<u8>,
 ) -> Result<(), Refusal>
-    requires { place < length game.now }
-    ensures ok { OnOk result (out.new.items ≡ out.old.items ++ flat_map (drawn_edge game.now choice (node_at game.now place)) (node_at game.now place).successors) }
+    requires place { place < length game.now }
+    requires entries { length drawn.now ≡ length game.now }
+    ensures ok { OnOk result (out.new.items ≡ out.old.items ++ flat_map (edge_to game.now drawn.now choice (node_at game.now place)) (node_at game.now place).successors) }
     ensures memory { IsOkUnless result Refusal.Memory }
 {
     game.keeps_limits();
     for successor in game.successors(place) {
-        write_edge(game, place, choice, *successor, out)?;
+        write_edge_to(game, drawn, place, choice, *successor, out)?;
     }
     Ok(())
+}
+
+/// Appends the edge to a successor, where the node there is drawn.
+fn write_edge_to(
+    game: &Game,
+    drawn: &[bool],
+    place: u32,
+    choice: Option<u32>,
+    successor: u32,
+    out: &mut Vec<u8>,
+) -> Result<(), Refusal>
+    requires place { place < length game.now }
+    requires successor { successor < length game.now }
+    requires entries { length drawn.now ≡ length game.now }
+    ensures ok { OnOk result (out.new.items ≡ out.old.items ++ edge_to game.now drawn.now choice (node_at game.now place) successor) }
+    ensures memory { IsOkUnless result Refusal.Memory }
+{
+    if drawn[successor as usize] {
+        write_edge(game, place, choice, successor, out)
+    } else {
+        Ok(())
+    }
 }
 
 /// Appends the edge from the node at a place to a successor.
@@ -137,7 +168,7 @@ fn write_edge(
 }
 
 /// Appends the end of an edge's line, bold if it is chosen.
-fn write_edge_end(chosen: bool, out: &mut Vec<u8>) -> Result<(), Refusal>
+pub(crate) fn write_edge_end(chosen: bool, out: &mut Vec<u8>) -> Result<(), Refusal>
     ensures ok { OnOk result (out.new.items ≡ out.old.items ++ edge_end chosen) }
     ensures memory { IsOkUnless result Refusal.Memory }
 {
@@ -157,4 +188,65 @@ fn is_chosen(choice: Option<u32>, place: u32) -> bool
         Some(choice) => choice == place,
         None => false,
     }
+}
+
+/// Appends an edge to `...` where the node at a place leads on to a node that is not drawn.
+fn write_edge_beyond(
+    game: &Game,
+    drawn: &[bool],
+    place: u32,
+    out: &mut Vec<u8>,
+) -> Result<(), Refusal>
+    requires place { place < length game.now }
+    requires entries { length drawn.now ≡ length game.now }
+    ensures ok { OnOk result (out.new.items ≡ out.old.items ++ edge_beyond drawn.now (node_at game.now place)) }
+    ensures memory { IsOkUnless result Refusal.Memory }
+{
+    if leads_on(game, drawn, place) {
+        write_dots(game, place, out)?;
+        write_edge_to_dots(game, place, out)
+    } else {
+        Ok(())
+    }
+}
+
+/// Whether an edge leads from the node at a place to a node that is not drawn.
+fn leads_on(game: &Game, drawn: &[bool], place: u32) -> bool
+    requires place { place < length game.now }
+    requires entries { length drawn.now ≡ length game.now }
+    ensures { result ≡ leads_on drawn.now (node_at game.now place) }
+{
+    game.keeps_limits();
+    for successor in game.successors(place) {
+        if !drawn[*successor as usize] {
+            return true;
+        }
+    }
+    false
+}
+
+/// Appends `...` behind the node at a place.
+fn write_dots(game: &Game, place: u32, out: &mut Vec<u8>) -> Result<(), Refusal>
+    requires { place < length game.now }
+    ensures ok { OnOk result (out.new.items ≡ out.old.items ++ dots (node_at game.now place)) }
+    ensures memory { IsOkUnless result Refusal.Memory }
+{
+    out.extend_from_slice(b"  more")?;
+    write_number(u128::from(game.id(place)), out)?;
+    out.extend_from_slice(b" [shape=plaintext, label=\"...\"];\n")?;
+    Ok(())
+}
+
+/// Appends the edge from the node at a place to `...`.
+fn write_edge_to_dots(game: &Game, place: u32, out: &mut Vec<u8>) -> Result<(), Refusal>
+    requires { place < length game.now }
+    ensures ok { OnOk result (out.new.items ≡ out.old.items ++ edge_to_dots (node_at game.now place)) }
+    ensures memory { IsOkUnless result Refusal.Memory }
+{
+    out.extend_from_slice(b"  ")?;
+    write_number(u128::from(game.id(place)), out)?;
+    out.extend_from_slice(b" -> more")?;
+    write_number(u128::from(game.id(place)), out)?;
+    out.extend_from_slice(b";\n")?;
+    Ok(())
 }

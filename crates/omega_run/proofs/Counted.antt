@@ -7,7 +7,7 @@ use Rattle.omega_game_answers.specs.declared.solve.asked.Asked.TheVariants as wa
 use Rattle.omega_io.specs.declared.exit.Exit.{Exit}
 use Rattle.omega_io.specs.Reading.{IsRead}
 use Rattle.omega_command.specs.declared.command.Command.{Command}
-use Rattle.omega_command.specs.declared.command.Command.TheVariants.{Canon, CanonPart, Check, Complement, Draw, DrawLasso, DrawSolution, Empty, EmptySearch, Game, Meet, Search, Show, Solve, Verify, VerifyLasso}
+use Rattle.omega_command.specs.declared.command.Command.TheVariants.{Canon, CanonPart, Check, Complement, Draw, DrawLasso, DrawPart, DrawSolution, Empty, EmptySearch, Game, Meet, Search, Show, Solve, Verify, VerifyLasso}
 use Rattle.omega_budget.specs.Watching.{IsWatched, TellsRun, refusal_in}
 use Rattle.omega_budget.specs.declared.watching.Progress.{Progress}
 use Rattle.omega_budget.proofs.Watched.{one_made}
@@ -40,7 +40,7 @@ files_count_none : {L : Type 0} (tells : Progress → L → L → Type 0) (every
 files_count_none tells every budget (file.Verify game from explain) unread_before unread_after output before after = tt
 files_count_none tells every budget (file.VerifyLasso automaton explain) unread_before unread_after output before after = tt
 files_count_none tells every budget (file.Meet other) unread_before unread_after output before after = tt
-files_count_none tells every budget (file.DrawSolution solution) unread_before unread_after output before after = tt
+files_count_none tells every budget (file.DrawSolution solution from depth legend) unread_before unread_after output before after = tt
 
 module _ {L : Type 0} (tells : Progress → L → L → Type 0) (every budget : ℕ) (unread_before unread_after : Option (List ℕ)) (output : List ℕ)
     (before after : L) (sort : Kind) (command : Command) (same : of_kind sort ≡ command) where
@@ -114,7 +114,9 @@ module _ {L : Type 0} (held : L → Option (List ℕ)) (failed : L → ℕ) (eve
   counted_lines Complement watched counted = uncounted_lines Complement (λ lines. tt) watched
   counted_lines Game watched counted = uncounted_lines Game (λ lines. tt) watched
   counted_lines (Draw format) watched counted = uncounted_lines (Draw format) (λ lines. tt) watched
-  counted_lines (DrawSolution solution) watched counted = uncounted_lines (DrawSolution solution) (λ lines. tt) watched
+  counted_lines (DrawPart from depth) watched counted = uncounted_lines (DrawPart from depth) (λ lines. tt) watched
+  counted_lines (DrawSolution solution from depth legend) watched counted =
+      uncounted_lines (DrawSolution solution from depth legend) (λ lines. tt) watched
   counted_lines DrawLasso watched counted = uncounted_lines DrawLasso (λ lines. tt) watched
 
 -- what was told of a run of a command is a text of lines, whose lifts its answer counts

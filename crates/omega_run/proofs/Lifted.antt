@@ -6,7 +6,7 @@ use Rattle.omega_text.specs.declared.refusal.task.TaskFault.TheVariants.{Budget}
 use Rattle.omega_game.specs.Game.{Node}
 use Rattle.omega_game.specs.declared.player.Player.{Player}
 use Rattle.omega_command.specs.declared.command.Command.{Command}
-use Rattle.omega_command.specs.declared.command.Command.TheVariants.{Canon, CanonPart, Check, Complement, Draw, DrawLasso, DrawSolution, Empty, EmptySearch, Game, Meet, Search, Show, Solve, Verify, VerifyLasso}
+use Rattle.omega_command.specs.declared.command.Command.TheVariants.{Canon, CanonPart, Check, Complement, Draw, DrawLasso, DrawPart, DrawSolution, Empty, EmptySearch, Game, Meet, Search, Show, Solve, Verify, VerifyLasso}
 use Rattle.omega_budget.specs.Watching.{IsWatched}
 use Rattle.omega_budget.specs.declared.watching.Progress.{Progress}
 use Rattle.omega_automaton_answers.proofs.Watching.{text_refused}
@@ -52,7 +52,8 @@ input_refused (Meet automaton) unread_before unread_after refusal other nodes pl
 input_refused Complement unread_before unread_after refusal other nodes players lifted = lifted
 input_refused Game unread_before unread_after refusal other nodes players lifted = lifted
 input_refused (Draw format) unread_before unread_after refusal other nodes players lifted = lifted
-input_refused (DrawSolution solution) unread_before unread_after refusal other nodes players lifted = lifted
+input_refused (DrawPart from depth) unread_before unread_after refusal other nodes players lifted = lifted
+input_refused (DrawSolution solution from depth legend) unread_before unread_after refusal other nodes players lifted = lifted
 input_refused DrawLasso unread_before unread_after refusal other nodes players lifted = lifted
 
 -- of runs for nobody nothing is told
@@ -78,7 +79,7 @@ files_lift_none : (one : OfFile) (unread_before unread_after : Option (List ℕ)
 files_lift_none (file.Verify game from explain) unread_before unread_after refusal = refl
 files_lift_none (file.VerifyLasso automaton explain) unread_before unread_after refusal = refl
 files_lift_none (file.Meet other) unread_before unread_after refusal = refl
-files_lift_none (file.DrawSolution solution) unread_before unread_after refusal = refl
+files_lift_none (file.DrawSolution solution from depth legend) unread_before unread_after refusal = refl
 
 -- so nothing is told of them
 pub stream_watched : {L : Type 0} (one : OfStream) (sort : Kind) (command : Command) (unread_before unread_after : Option (List ℕ)) (refusal : Option Refusal)

@@ -41,7 +41,7 @@ first_refuses : (command : OfFile) (budget : ℕ) (before after : Option (List �
 first_refuses (file.Verify game from explain) budget before after refusal h = record { text = h.text; read = h.read; holds = inl h.holds }
 first_refuses (file.VerifyLasso automaton explain) budget before after refusal h = record { text = h.text; read = h.read; holds = inl h.holds }
 first_refuses (file.Meet other) budget before after refusal h = record { text = h.text; read = h.read; holds = inl (inl h.holds) }
-first_refuses (file.DrawSolution solution) budget before after refusal h = record { text = h.text; read = h.read; holds = inl h.holds }
+first_refuses (file.DrawSolution solution from depth legend) budget before after refusal h = record { text = h.text; read = h.read; holds = inl h.holds }
 
 -- the second is
 second_refuses : (command : OfFile) (budget : ℕ) (before after : Option (List ℕ)) (refusal : Refusal)
@@ -49,7 +49,7 @@ second_refuses : (command : OfFile) (budget : ℕ) (before after : Option (List 
 second_refuses (file.Verify game from explain) budget before after refusal h = record { text = h.text; read = h.read; holds = inr h.holds }
 second_refuses (file.VerifyLasso automaton explain) budget before after refusal h = record { text = h.text; read = h.read; holds = inr h.holds }
 second_refuses (file.Meet other) budget before after refusal h = record { text = h.text; read = h.read; holds = inl (inr h.holds) }
-second_refuses (file.DrawSolution solution) budget before after refusal h = record { text = h.text; read = h.read; holds = inr h.holds }
+second_refuses (file.DrawSolution solution from depth legend) budget before after refusal h = record { text = h.text; read = h.read; holds = inr h.holds }
 
 -- both are
 both_refuse : (command : OfFile) (budget : ℕ) (before after : Option (List ℕ)) (refusal : Refusal)
@@ -57,7 +57,7 @@ both_refuse : (command : OfFile) (budget : ℕ) (before after : Option (List ℕ
 both_refuse (file.Verify game from explain) budget before after refusal h = absurd h.holds
 both_refuse (file.VerifyLasso automaton explain) budget before after refusal h = absurd h.holds
 both_refuse (file.Meet other) budget before after refusal h = record { text = h.text; read = h.read; holds = inr h.holds }
-both_refuse (file.DrawSolution solution) budget before after refusal h = absurd h.holds
+both_refuse (file.DrawSolution solution from depth legend) budget before after refusal h = absurd h.holds
 
 pub about_refuses : (command : OfFile) (budget : ℕ) (before after : Option (List ℕ)) (which : Option Which) (refusal : Refusal)
     → IsRefusalAbout (of_file command) before after which refusal → IsRunRefusal (of_file command) budget before after refusal
@@ -111,17 +111,18 @@ io_about command text None (inl h) = absurd (cc h)
 io_about (file.Verify game from explain) text None (inr h) = h
 io_about (file.VerifyLasso automaton explain) text None (inr h) = h
 io_about (file.Meet other) text None (inr h) = h.refused
-io_about (file.DrawSolution solution) text None (inr h) = h
+io_about (file.DrawSolution solution from depth legend) text None (inr h) = h
 io_about (file.Verify game None explain) text (Some First) h = h
 io_about (file.Verify game (Some identifier) explain) text (Some First) h = h
 io_about (file.VerifyLasso automaton explain) text (Some First) (inl h) = automaton_io automaton h
 io_about (file.VerifyLasso automaton explain) text (Some First) (inr h) = h.refused
 io_about (file.Meet other) text (Some First) h = automaton_io other h
-io_about (file.DrawSolution solution) text (Some First) h = h
+io_about (file.DrawSolution solution None depth legend) text (Some First) h = h
+io_about (file.DrawSolution solution (Some identifier) depth legend) text (Some First) h = h
 io_about (file.Verify game from explain) text (Some Second) h = h.refused
 io_about (file.VerifyLasso automaton explain) text (Some Second) h = h.refused
 io_about (file.Meet other) text (Some Second) h = automaton_io text h.refused
-io_about (file.DrawSolution solution) text (Some Second) h = h.refused
+io_about (file.DrawSolution solution from depth legend) text (Some Second) h = h.refused
 
 unfailed_about : (command : OfFile) (text : List ℕ) (which : Option Which) (refusal : Refusal)
     → IsRefusedBeside command text which refusal

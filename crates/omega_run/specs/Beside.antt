@@ -1,7 +1,7 @@
 -- Commands of two texts, one of which a file has: what each text is called, and which of them a refusal is about.
 use Rattle.std.specs.Prelude.{◌≡◌, ◌⊎◌, List, [], Option, None, Some, Result, Err, ℕ, IfErr, codes}
 use Rattle.omega_text.specs.declared.refusal.Refusal.{Refusal}
-use Rattle.omega_pg.specs.game.Refusing.{IsRefusal}
+use Rattle.omega_game_answers.specs.Draw.{RefusesDrawnSolution}
 use Rattle.omega_game_answers.specs.Verify.{IsJudgedGameRefusal, RefusesSolution}
 use Rattle.omega_command.specs.declared.command.Command.{Command}
 use Rattle.omega_command.specs.declared.command.Command.TheVariants.{DrawSolution, Meet, Verify, VerifyLasso}
@@ -25,7 +25,7 @@ abbrev pub first_name : Command → List ℕ
 first_name (Verify game from explain) = codes "game"
 first_name (VerifyLasso automaton explain) = codes "automaton"
 first_name (Meet other) = codes "other automaton"
-first_name (DrawSolution solution) = codes "game"
+first_name (DrawSolution solution from depth legend) = codes "game"
 first_name other = []
 
 -- what the other text is called
@@ -33,7 +33,7 @@ abbrev pub second_name : Command → List ℕ
 second_name (Verify game from explain) = codes "solution"
 second_name (VerifyLasso automaton explain) = codes "lasso"
 second_name (Meet other) = codes "automaton"
-second_name (DrawSolution solution) = codes "solution"
+second_name (DrawSolution solution from depth legend) = codes "solution"
 second_name other = []
 
 -- why the first text is refused, where this is the text of the input
@@ -41,7 +41,7 @@ abbrev pub RefusesFirst : Command → List ℕ → Refusal → Type 0
 RefusesFirst (Verify game from explain) text refusal = IsJudgedGameRefusal game from refusal
 RefusesFirst (VerifyLasso automaton explain) text refusal = RefusesAutomaton automaton text refusal
 RefusesFirst (Meet other) text refusal = IsAutomatonRefusal other refusal
-RefusesFirst (DrawSolution solution) text refusal = IsRefusal text refusal
+RefusesFirst (DrawSolution solution from depth legend) text refusal = IsJudgedGameRefusal text from refusal
 RefusesFirst other text refusal = ⊥
 
 -- why the other is refused, the first of which is good
@@ -49,7 +49,7 @@ abbrev pub RefusesSecond : Command → List ℕ → Refusal → Type 0
 RefusesSecond (Verify game from explain) text refusal = RefusesSolution game from text refusal
 RefusesSecond (VerifyLasso automaton explain) text refusal = RefusesLasso automaton text refusal
 RefusesSecond (Meet other) text refusal = IsTextRefused other text refusal
-RefusesSecond (DrawSolution solution) text refusal = RefusesSolution text None solution refusal
+RefusesSecond (DrawSolution solution from depth legend) text refusal = RefusesDrawnSolution text from depth solution refusal
 RefusesSecond other text refusal = ⊥
 
 -- why both are refused together, each of which is good alone

@@ -41,8 +41,8 @@ IsPerformed reads refuses (VerifyLasso file explain) status tells before after =
     IsRunWithFile reads refuses (string_bytes file) (λ automaton. command.VerifyLasso automaton explain) status tells before after
 IsPerformed reads refuses (Meet file) status tells before after =
     IsRunWithFile reads refuses (string_bytes file) command.Meet status tells before after
-IsPerformed reads refuses (DrawSolution file) status tells before after =
-    IsRunWithFile reads refuses (string_bytes file) command.DrawSolution status tells before after
+IsPerformed reads refuses (DrawSolution file from depth legend) status tells before after =
+    IsRunWithFile reads refuses (string_bytes file) (λ solution. command.DrawSolution solution from depth legend) status tells before after
 
 -- the streams with an input of which this is left, and none of whose reads failed
 abbrev pub over : Option (List ℕ) → Streams → Streams

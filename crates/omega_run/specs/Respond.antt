@@ -5,7 +5,7 @@ use Rattle.omega_text.specs.declared.refusal.Refusal.{Refusal}
 use Rattle.omega_pg.specs.game.Refusing.{IsRefusal}
 use Rattle.omega_game.specs.declared.player.Player.{Player}
 use Rattle.omega_command.specs.declared.command.Command.{Command}
-use Rattle.omega_command.specs.declared.command.Command.TheVariants.{Canon, CanonPart, Check, Complement, Draw, DrawLasso, DrawSolution, Empty, EmptySearch, Game, Meet, Search, Show, Solve, Verify, VerifyLasso}
+use Rattle.omega_command.specs.declared.command.Command.TheVariants.{Canon, CanonPart, Check, Complement, Draw, DrawLasso, DrawPart, DrawSolution, Empty, EmptySearch, Game, Meet, Search, Show, Solve, Verify, VerifyLasso}
 use Rattle.omega_command.specs.declared.command.Format.TheVariants.{Hoa, Pg}
 use Rattle.omega_io.specs.declared.exit.Exit.{Exit}
 use Rattle.omega_io.specs.declared.exit.Exit.TheVariants.{Done}
@@ -66,9 +66,11 @@ Answers (EmptySearch word) budget text = Replies (IsEmptySearchAnswer text word)
 Answers (Meet other) budget text = Replies (IsMeetAnswer other text) (IsMeetRefusal other text)
 Answers Complement budget text = Replies (IsComplementAnswer text) (IsComplementRefusal text)
 Answers Game budget text = Replies (IsEmptinessGameAnswer text) (IsEmptinessGameRefusal text)
-Answers (Draw Pg) budget text = Replies (IsGameDrawingAnswer text) (IsRefusal text)
+Answers (Draw Pg) budget text = Replies (IsGameDrawingAnswer text None None) (IsRefusal text)
 Answers (Draw Hoa) budget text = Replies (IsAutomatonDrawingAnswer text) (IsAutomatonRefusal text)
-Answers (DrawSolution solution) budget text = Replies (IsSolutionDrawingAnswer text solution) (IsSolutionDrawingRefusal text solution)
+Answers (DrawPart from depth) budget text = Replies (IsGameDrawingAnswer text (Some from) depth) (IsPartTextRefusal text from)
+Answers (DrawSolution solution from depth legend) budget text =
+    Replies (IsSolutionDrawingAnswer text solution from depth legend) (IsSolutionDrawingRefusal text from depth solution)
 Answers DrawLasso budget text = Replies (IsLassoDrawingAnswer text) (IsEmptySearchRefusal text)
 
 -- the whole input was read, and this is the command's answer to it

@@ -60,12 +60,15 @@ fn answer_beside(alloc: Global, command: OfFile, text: Vec<u8>) -> Result<(Exit,
             Ok(made) => Ok((Exit::Done, made)),
             Err(refused) => Err(refused),
         },
-        OfFile::DrawSolution { solution } => {
-            match draw_solution_text(alloc, text, solution.as_slice()) {
-                Ok(made) => Ok((Exit::Done, made)),
-                Err(refused) => Err(refused),
-            }
-        }
+        OfFile::DrawSolution {
+            solution,
+            from,
+            depth,
+            legend,
+        } => match draw_solution_text(alloc, text, solution.as_slice(), from, depth, legend) {
+            Ok(made) => Ok((Exit::Done, made)),
+            Err(refused) => Err(refused),
+        },
     }
 }
 

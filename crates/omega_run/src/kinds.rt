@@ -49,6 +49,10 @@ pub(crate) enum OfText {
     Complement,
     Game,
     DrawGame,
+    DrawPart {
+        from: u32,
+        depth: Option<u32>,
+    },
     DrawAutomaton,
     DrawLasso,
 }
@@ -70,6 +74,9 @@ pub(crate) enum OfFile {
     },
     DrawSolution {
         solution: Seq<u8>,
+        from: Option<u32>,
+        depth: Option<u32>,
+        legend: bool,
     },
 }
 
@@ -94,6 +101,7 @@ pub(crate) fn kind_of(command: Command) -> Kind
         Command::Draw(Format::Pg) => Kind::Text(OfText::DrawGame),
         Command::Draw(Format::Hoa) => Kind::Text(OfText::DrawAutomaton),
         Command::DrawLasso => Kind::Text(OfText::DrawLasso),
+        Command::DrawPart { from, depth } => Kind::Text(OfText::DrawPart { from, depth }),
         Command::Verify {
             game,
             from,
@@ -107,6 +115,16 @@ pub(crate) fn kind_of(command: Command) -> Kind
             Kind::File(OfFile::VerifyLasso { automaton, explain })
         }
         Command::Meet { with } => Kind::File(OfFile::Meet { with }),
-        Command::DrawSolution { solution } => Kind::File(OfFile::DrawSolution { solution }),
+        Command::DrawSolution {
+            solution,
+            from,
+            depth,
+            legend,
+        } => Kind::File(OfFile::DrawSolution {
+            solution,
+            from,
+            depth,
+            legend,
+        }),
     }
 }

@@ -97,7 +97,8 @@ fn answer<L, T: Watch<L>>(
         OfText::EmptySearch { word } => search_emptiness(alloc, text, word),
         OfText::Complement => complement_text(alloc, text.as_slice()),
         OfText::Game => write_emptiness_game(alloc, text),
-        OfText::DrawGame => draw_game_text(alloc, text),
+        OfText::DrawGame => draw_game_text(alloc, text, None, None),
+        OfText::DrawPart { from, depth } => draw_game_text(alloc, text, Some(from), depth),
         OfText::DrawAutomaton => draw_automaton_text(alloc, text),
         OfText::DrawLasso => draw_lasso_text(alloc, text),
     }

@@ -64,15 +64,19 @@ pub(crate) fn perform<F: GameFiles, R: Input, W: Output, E: Output>(
             output,
             errors,
         ),
-        Task::DrawSolution { file } => run_with_file(
-            alloc,
-            file.as_str(),
-            WithFile::DrawSolution,
-            files,
-            input,
-            output,
-            errors,
-        ),
+        Task::DrawSolution {
+            file,
+            from,
+            depth,
+            legend,
+        } => {
+            let asked = WithFile::DrawSolution {
+                from,
+                depth,
+                legend,
+            };
+            run_with_file(alloc, file.as_str(), asked, files, input, output, errors)
+        }
     }
 }
 

@@ -8,10 +8,19 @@ use omega_text::Seq;
 /// What is to be done with the text of a file, and the text of the input beside it.
 #[derive(Clone, Copy)]
 pub(crate) enum WithFile {
-    Verify { from: Option<u32>, explain: bool },
-    VerifyLasso { explain: bool },
+    Verify {
+        from: Option<u32>,
+        explain: bool,
+    },
+    VerifyLasso {
+        explain: bool,
+    },
     Meet,
-    DrawSolution,
+    DrawSolution {
+        from: Option<u32>,
+        depth: Option<u32>,
+        legend: bool,
+    },
 }
 
 impl WithFile {
@@ -30,7 +39,16 @@ impl WithFile {
                 explain,
             },
             WithFile::Meet => OfFile::Meet { with: text },
-            WithFile::DrawSolution => OfFile::DrawSolution { solution: text },
+            WithFile::DrawSolution {
+                from,
+                depth,
+                legend,
+            } => OfFile::DrawSolution {
+                solution: text,
+                from,
+                depth,
+                legend,
+            },
         }
     }
 }

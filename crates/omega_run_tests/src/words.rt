@@ -5,7 +5,7 @@ use std::alloc::Global;
 use std::test::Fail;
 
 /// Command lines, and what each asks for, as it shows itself to a programmer. A budget that is not given is 2^40.
-static ASKED: [(&str, &str); 39] = [
+static ASKED: [(&str, &str); 42] = [
     (
         "omega show --format pg",
         "Do(Run(Show(Pg), 1099511627776), Input)",
@@ -133,7 +133,19 @@ static ASKED: [(&str, &str); 39] = [
     ),
     (
         "omega draw --solution s --format pg",
-        "Do(DrawSolution { file: \"s\" }, Input)",
+        "Do(DrawSolution { file: \"s\", from: None, depth: None, legend: false }, Input)",
+    ),
+    (
+        "omega draw --depth 0 --format pg --legend --from 7 --solution s g",
+        "Do(DrawSolution { file: \"s\", from: Some(7), depth: Some(0), legend: true }, File(\"g\"))",
+    ),
+    (
+        "omega draw --format pg --from 7",
+        "Do(Run(DrawPart { from: 7, depth: None }, 1099511627776), Input)",
+    ),
+    (
+        "omega draw --format pg --from 7 --depth 2147483647",
+        "Do(Run(DrawPart { from: 7, depth: Some(2147483647) }, 1099511627776), Input)",
     ),
     (
         "omega show --format pg g",
@@ -156,7 +168,7 @@ static ASKED: [(&str, &str); 39] = [
 ];
 
 /// Command lines that are at fault, and what is said of each.
-static FAULTS: [(&str, &str); 20] = [
+static FAULTS: [(&str, &str); 24] = [
     ("omega", "requires a subcommand"),
     ("omega frobnicate", "unrecognized subcommand 'frobnicate'"),
     ("omega show", "--format <FORMAT>"),
@@ -215,6 +227,22 @@ static FAULTS: [(&str, &str); 20] = [
     (
         "omega draw --format pg --lasso",
         "the argument '--lasso' can only be used with '--format hoa'",
+    ),
+    (
+        "omega draw --format pg --legend",
+        "the following required arguments were not provided:\\n  --solution <FILE>\\n\\nUsage: omega draw [OPTIONS] --format <FORMAT> [FILE]\\n",
+    ),
+    (
+        "omega draw --format pg --depth 1",
+        "the following required arguments were not provided:\\n  --from <ID>\\n\\nUsage: omega draw [OPTIONS] --format <FORMAT> [FILE]\\n",
+    ),
+    (
+        "omega draw --format pg --from 1 --depth 2147483648",
+        "invalid value '2147483648' for '--depth <N>': 2147483648 is not in 0..=2147483647",
+    ),
+    (
+        "omega draw --format hoa --depth 1",
+        "the argument '--depth <N>' can only be used with '--format pg'",
     ),
     ("omega verify --explain", "--game <FILE>"),
     (

@@ -23,7 +23,9 @@ pub fn options_in<'a>(found: &ArgMatches<'a>) -> Options<'a>
         word: found.get_str("word"),
         with: found.get_str("with"),
         solution: found.get_str("solution"),
+        legend: found.get_str("legend"),
         lasso: found.get_str("lasso"),
+        depth: found.get_str("depth"),
         progress: found.get_str("progress"),
         file: found.get_str("file"),
     }

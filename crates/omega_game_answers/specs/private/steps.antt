@@ -2,6 +2,7 @@
 pub mod SolveGameRefusal
 pub mod PartRefusal
 pub mod Places
+pub mod Drawn
 pub mod Solved
 pub mod Verdict
 pub mod Winners

@@ -6,12 +6,12 @@ use Rattle.omega_game_answers.proofs.draw.draw_solved.Goals as goal
 pub returns-clause-drawn : goal.returns-clause-drawn
 returns-clause-drawn c =
     IfOk-weaker c.draw_solution.result _ _
-    (λ output written. record {
+    (λ output drawn. record {
       solution = c.in_ok-solution.solution;
       read = c.in_ok-solution.ensures.solution;
-      written = written;
+      drawn = drawn;
     })
-    c.draw_solution.ensures.text
+    c.draw_solution.ensures.drawn
 
 pub returns-clause-refused : goal.returns-clause-refused
 returns-clause-refused c = IfErr-weaker c.draw_solution.result _ _ (λ refusal e. inl e) c.draw_solution.ensures.memory

@@ -1,17 +1,10 @@
 -- What is answered of a game that was read and of the text of a solution of it.
-use Rattle.std.specs.Prelude.{◌≡◌, Bool, List, ℕ}
+use Rattle.std.specs.Prelude.{Bool, List, ℕ}
 use Rattle.omega_game.specs.Game.{Node}
-use Rattle.omega_game_drawing.specs.GameDrawing.{drawing_of_solution}
 use Rattle.omega_io.specs.declared.exit.Exit.{Exit}
 use Rattle.omega_pg.specs.solution.Text.{IsSolutionText}
 use Rattle.omega_game.specs.declared.solution.Solution.{Solution}
 use Rattle.omega_game_answers.specs.Verify.{IsSolutionVerdict}
-
--- the text stands for a solution of the game, and the drawing of the game with it is written
-pub record IsSolutionDrawn (game : List Node) (text output : List ℕ) : Type 0 where
-  pub solution : Solution
-  pub read : IsSolutionText game text solution
-  pub written : output ≡ drawing_of_solution game solution
 
 -- the text stands for a solution of the game, and the verdict on it is written
 pub record IsSolutionJudged (game : List Node) (text : List ℕ) (explain : Bool) (exit : Exit) (output : List ℕ) : Type 0 where

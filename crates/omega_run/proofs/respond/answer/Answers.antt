@@ -31,6 +31,9 @@ returns-in-Game-clause-told g c = rw c.in-Game.is (λ before after read. nothing
 pub returns-in-DrawGame-clause-told : goal.returns-in-DrawGame-clause-told
 returns-in-DrawGame-clause-told g c = rw c.in-DrawGame.is (λ before after read. nothing_lifted _ _ _ _ _ _ refl)
 
+pub returns-in-DrawPart-clause-told : goal.returns-in-DrawPart-clause-told
+returns-in-DrawPart-clause-told g c = rw c.in-DrawPart.is (λ before after read. nothing_lifted _ _ _ _ _ _ refl)
+
 pub returns-in-DrawAutomaton-clause-told : goal.returns-in-DrawAutomaton-clause-told
 returns-in-DrawAutomaton-clause-told g c = rw c.in-DrawAutomaton.is (λ before after read. nothing_lifted _ _ _ _ _ _ refl)
 
@@ -84,6 +87,9 @@ returns-in-Game-clause-printed g c = rw c.in-Game.is (λ before after read. of_a
 
 pub returns-in-DrawGame-clause-printed : goal.returns-in-DrawGame-clause-printed
 returns-in-DrawGame-clause-printed g c = rw c.in-DrawGame.is (λ before after read. of_all c.draw_game_text.result _ (λ output. tt))
+
+pub returns-in-DrawPart-clause-printed : goal.returns-in-DrawPart-clause-printed
+returns-in-DrawPart-clause-printed g c = rw c.in-DrawPart.is (λ before after read. of_all c.draw_game_text-in-DrawPart.result _ (λ output. tt))
 
 pub returns-in-DrawAutomaton-clause-printed : goal.returns-in-DrawAutomaton-clause-printed
 returns-in-DrawAutomaton-clause-printed g c = rw c.in-DrawAutomaton.is (λ before after read. of_all c.draw_automaton_text.result _ (λ output. tt))

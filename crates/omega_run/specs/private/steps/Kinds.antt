@@ -30,6 +30,7 @@ of_text (text.EmptySearch word) = command.EmptySearch word
 of_text text.Complement = command.Complement
 of_text text.Game = command.Game
 of_text text.DrawGame = command.Draw Pg
+of_text (text.DrawPart from depth) = command.DrawPart from depth
 of_text text.DrawAutomaton = command.Draw Hoa
 of_text text.DrawLasso = command.DrawLasso
 
@@ -38,7 +39,7 @@ abbrev pub of_file : OfFile → Command
 of_file (file.Verify game from explain) = command.Verify game from explain
 of_file (file.VerifyLasso automaton explain) = command.VerifyLasso automaton explain
 of_file (file.Meet other) = command.Meet other
-of_file (file.DrawSolution solution) = command.DrawSolution solution
+of_file (file.DrawSolution solution from depth legend) = command.DrawSolution solution from depth legend
 
 -- the command of one of the three kinds
 abbrev pub of_kind : Kind → Command

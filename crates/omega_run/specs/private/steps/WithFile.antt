@@ -10,4 +10,4 @@ abbrev pub with_text : WithFile → List ℕ → Command
 with_text (Verify from explain) text = command.Verify text from explain
 with_text (VerifyLasso explain) text = command.VerifyLasso text explain
 with_text Meet text = command.Meet text
-with_text DrawSolution text = command.DrawSolution text
+with_text (DrawSolution from depth legend) text = command.DrawSolution text from depth legend

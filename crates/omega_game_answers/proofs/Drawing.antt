@@ -1,0 +1,37 @@
+-- What refuses the drawing of a game that was read refuses that of its text.
+use Rattle.std.proofs.Common.{List, Option, None, Some, ℕ, refl}
+use Rattle.omega_text.specs.Cases.{or_memory}
+use Rattle.omega_text.specs.declared.refusal.Refusal.{Refusal}
+use Rattle.omega_refused.specs.Refused.{IsAbout}
+use Rattle.omega_refused.specs.declared.refused.Which.{Which}
+use Rattle.omega_refused.specs.declared.refused.Which.TheVariants.{First, Second}
+use Rattle.omega_game.specs.Game.{Node}
+use Rattle.omega_pg.specs.game.Text.{IsGameText}
+use Rattle.omega_game_answers.specs.Draw.{RefusesDrawnSolution}
+use Rattle.omega_game_answers.specs.Verify.{IsJudgedGameRefusal}
+use Rattle.omega_game_answers.specs.private.steps.Drawn.{IsDrawnRefusal, IsUnknownFrom}
+
+-- a refusal of one of two texts, where what refuses them is said otherwise
+pub about_as : (none first second first' second' : Refusal → Type 0) (text : Option Which) (refusal : Refusal) → (first refusal → first' refusal)
+    → (second refusal → second' refusal) → IsAbout none first second text refusal → IsAbout none first' second' text refusal
+about_as none first second first' second' None refusal one other about = about
+about_as none first second first' second' (Some First) refusal one other about = one about
+about_as none first second first' second' (Some Second) refusal one other about = other about
+
+-- an identifier that no node of the game has
+pub unknown_refused : (text : List ℕ) (game : List Node) (from : Option ℕ) (refusal : Refusal) → IsGameText text game → IsUnknownFrom game from refusal
+    → IsJudgedGameRefusal text from refusal
+unknown_refused text game None refusal read unknown = absurd unknown
+unknown_refused text game (Some identifier) refusal read (is, unknown) = rw is (refl, record { game = game; read = read; unknown = unknown })
+
+pub unknown_refused_or_memory : (text : List ℕ) (game : List Node) (from : Option ℕ) (refusal : Refusal) → IsGameText text game
+    → IsUnknownFrom game from refusal → or_memory (IsJudgedGameRefusal text from) refusal
+unknown_refused_or_memory text game None refusal read unknown = absurd unknown
+unknown_refused_or_memory text game (Some identifier) refusal read (is, unknown) =
+    rw is (refl, record { game = game; read = read; unknown = unknown })
+
+-- a text that is no solution of the game
+pub solution_refused : (text : List ℕ) (game : List Node) (from depth : Option ℕ) (solution_text : List ℕ) (refusal : Refusal) → IsGameText text game
+    → IsDrawnRefusal game from depth solution_text refusal → RefusesDrawnSolution text from depth solution_text refusal
+solution_refused text game from depth solution_text refusal read refused =
+    record { game = game; read = read; extent = refused.extent; asked = refused.asked; refused = refused.refused }

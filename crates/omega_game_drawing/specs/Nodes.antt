@@ -1,0 +1,78 @@
+-- How a node of a game and its edges are drawn: player 0's nodes are diamonds and player 1's are boxes.
+use Rattle.std.specs.Prelude.{ℕ, ◌==◌, Bool, false, not, if◌then◌else◌, Option, Some, None, List, [], ◌++◌, codes, decimal}
+use Rattle.std.specs.List.{flat_map, list_any}
+use Rattle.omega_game.specs.Game.{Node, identifier_at}
+use Rattle.omega_game.specs.declared.player.Player.{Player}
+use Rattle.omega_game.specs.declared.player.Player.TheVariants.{One, Zero}
+use Rattle.omega_game_drawing.specs.Extent.{is_drawn}
+use Rattle.omega_dot.specs.Labels.{line_end, name_label_line}
+
+-- the shape of a player's nodes
+abbrev pub shape_of : Player → List ℕ
+shape_of Zero = codes "diamond"
+shape_of One = codes "box"
+
+-- the colour of what a player wins
+abbrev pub colour_of : Player → List ℕ
+colour_of Zero = codes "lightblue"
+colour_of One = codes "orange"
+
+-- a node is filled in its winner's colour, if the winner is known
+abbrev pub fill_part : Option Player → List ℕ
+fill_part None = []
+fill_part (Some winner) = codes ", style=filled, fillcolor=" ++ colour_of winner
+
+-- the label of a node: a line each for its identifier, its name if it has one, and its priority
+abbrev pub node_label : Node → List ℕ
+node_label node =
+    decimal node.identifier ++ (line_end ++ (name_label_line node.name ++ (codes "priority " ++ (decimal node.priority ++ line_end))))
+
+-- a node, with its winner if that is known
+abbrev pub drawn_node : Option Player → Node → List ℕ
+drawn_node winner node =
+    codes "  " ++ (decimal node.identifier ++ (codes " [shape=" ++ (shape_of node.owner
+    ++ (codes ", label=\"" ++ (node_label node ++ (codes "\"" ++ (fill_part winner ++ codes "];\n")))))))
+
+-- whether a choice, if there is one, is this place
+abbrev pub is_chosen : Option ℕ → ℕ → Bool
+is_chosen None place = false
+is_chosen (Some choice) place = choice == place
+
+-- the end of an edge's line, bold if it is chosen
+abbrev pub edge_end : Bool → List ℕ
+edge_end chosen = if chosen then codes " [style=bold];\n" else codes ";\n"
+
+-- an edge from a node to a place, bold if it is the choice
+abbrev pub drawn_edge : List Node → Option ℕ → Node → ℕ → List ℕ
+drawn_edge nodes choice node place =
+    codes "  " ++ (decimal node.identifier ++ (codes " -> " ++ (decimal (identifier_at nodes place)
+    ++ edge_end (is_chosen choice place))))
+
+-- the edge to a place, where the node there is drawn
+abbrev pub edge_to : List Node → List Bool → Option ℕ → Node → ℕ → List ℕ
+edge_to nodes drawn choice node place = if is_drawn drawn place then drawn_edge nodes choice node place else []
+
+-- whether the node leads on, to a node that is not drawn
+abbrev pub leads_on : List Bool → Node → Bool
+leads_on drawn node = list_any (λ place. not (is_drawn drawn place)) node.successors
+
+-- `...` behind a node
+abbrev pub dots : Node → List ℕ
+dots node = codes "  more" ++ (decimal node.identifier ++ codes " [shape=plaintext, label=\"...\"];\n")
+
+-- an edge from the node to `...`
+abbrev pub edge_to_dots : Node → List ℕ
+edge_to_dots node = codes "  " ++ (decimal node.identifier ++ (codes " -> more" ++ (decimal node.identifier ++ codes ";\n")))
+
+-- both, where the node leads on
+abbrev pub edge_beyond : List Bool → Node → List ℕ
+edge_beyond drawn node = if leads_on drawn node then dots node ++ edge_to_dots node else []
+
+-- a node and its edges: one for each listed successor that is drawn, and one to `...` where it leads on
+abbrev pub node_text : List Node → List Bool → Option Player → Option ℕ → Node → List ℕ
+node_text nodes drawn winner choice node =
+    drawn_node winner node ++ (flat_map (edge_to nodes drawn choice node) node.successors ++ edge_beyond drawn node)
+
+-- what stands for the node at a place: nothing where it is not drawn
+abbrev pub place_text : List Node → List Bool → Option Player → Option ℕ → ℕ → Node → List ℕ
+place_text nodes drawn winner choice place node = if is_drawn drawn place then node_text nodes drawn winner choice node else []

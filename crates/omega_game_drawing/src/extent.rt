@@ -1,0 +1,27 @@
+ghost use Rattle.std.specs.Prelude.{IfOk, IsOkUnless};
+ghost use Rattle.omega_game_drawing.specs.Extent.{AreDrawn, IsPlaced};
+
+use crate::near::places_near;
+use omega_game::{Game, Refusal};
+use std::alloc::Global;
+
+/// Which nodes of a game are drawn.
+#[derive(Clone, Copy, Debug, PartialEq, Eq)]
+pub enum Extent {
+    /// All of them.
+    Whole,
+    /// Those that a place reaches, itself included; where a depth is given, by at most so many edges.
+    Part { place: u32, depth: Option<u32> },
+}
+
+/// Flags the places that are to be drawn. 60 alone.
+pub(crate) fn drawn_places(alloc: Global, game: &Game, extent: Extent) -> Result<Vec<bool>, Refusal>
+    requires { IsPlaced game.now extent }
+    ensures drawn { IfOk result (λ drawn. AreDrawn game.now extent drawn.items) }
+    ensures memory { IsOkUnless result Refusal.Memory }
+{
+    match extent {
+        Extent::Whole => Ok(vec![in alloc; true; game.len()]?),
+        Extent::Part { place, depth } => Ok(places_near(alloc, game, place, depth)?),
+    }
+}
