@@ -36,6 +36,11 @@ AUTOMATA = [
     b'HOA: v1 States: 2 Start: 0 AP: 2 "0" "b" Acceptance: 1 Inf(0) --BODY-- '
     b'State: 0 0 1 {0} 1 1 State: 1 [0] 0&1 1 0 0 {0} --END--',
     b'HOA: v1 States: 2 Start: 0 Acceptance: 1 Inf(0) --BODY-- State: 0 1 State: 1 {0} 0&1 --END--',
+    b'HOA: v1 States: 2 Start: 0 AP: 1 "a" Acceptance: 1 Inf(0) --BODY-- State: 0 [0] 1 [!0] 0 [!0] 1 {0} [t] 0&1 [0] 0 '
+    b'[f] 1 State: 1 [f] 1 [0] 1 {0} [t] 1 [0] 0 [t] 1 --END--',
+    b'HOA: v1 States: 2 Start: 0 AP: 1 "a" Acceptance: 1 Inf(0) --BODY-- State: 0 [0&!0] 1 [0] 1 [f] 1 [!0] 1 State: 1 [0] 1 {0} '
+    b'[f] 1 [t] 1 [!0] 0 [0] 0 [!0] 1 --END--',
+    b'HOA: v1 States: 2 Start: 0 Start: 1 AP: 2 "a" "b" Acceptance: 1 Inf(0) --BODY-- State: 0 1 0 1 {0} 0 State: 1 {0} 1 1 1 1 --END--',
     b'HOA: v1 States: 1 Start: 0 AP: 1 "\xc3\xa9\xc3\xe1\x80\xf4\x90\x80\xed\xa0\x80\xc0\xaf\xf0\x9f\x92" Acceptance: 0 t '
     b"--BODY-- State: 0 [0] 0 --END--",
     b"HOA: v1 States: 2147483647 Start: 2147483646 acc-name: all Acceptance: 0 t --BODY-- --END--",
@@ -136,13 +141,33 @@ def start_lines(number, states):
     return [b"  start%d [shape=point%s];\n" % (number, hidden)] + [b"  start%d -> %d;\n" % (number, state) for state in states]
 
 
-def edge_lines(number, state, edge, label, style):
-    drawn = (b"edge %d\\n" % number if style else b"") + label + marks_line(edge.marks)
-    if len(edge.targets) == 1:
-        return [b'  %d -> %d [label="%s"%s];\n' % (state, edge.targets[0], drawn, style)]
+def arrow(state, target, drawn, style):
+    return b'  %d -> %d [label="%s"%s];\n' % (state, target, drawn, style)
+
+
+def branch_lines(number, state, targets, drawn, style):
     lines = [b'  %d -> branch%d [label="%s"%s, arrowhead=none];\n' % (state, number, drawn, style),
              b"  branch%d [shape=point];\n" % number]
-    return lines + [b'  branch%d -> %d [label=""%s];\n' % (number, target, style) for target in edge.targets]
+    return lines + [b'  branch%d -> %d [label=""%s];\n' % (number, target, style) for target in targets]
+
+
+def edge_lines(state, edges, first, demanded, styles):
+    """The edges of a state, numbered from a first number on; those on no lasso to the same one state share an arrow."""
+    shared = [edge.targets[0] if len(edge.targets) == 1 and first + index not in styles else None
+              for index, edge in enumerate(edges)]
+    labels = [(b"edge %d\\n" % (first + index) if first + index in styles else b"") + demanded(index, edge) + marks_line(edge.marks)
+              for index, edge in enumerate(edges)]
+    lines = []
+    for index, edge in enumerate(edges):
+        style = styles.get(first + index, b"")
+        if len(edge.targets) != 1:
+            lines += branch_lines(first + index, state, edge.targets, labels[index], style)
+        elif shared[index] is None:
+            lines.append(arrow(state, edge.targets[0], labels[index], style))
+        elif shared.index(shared[index]) == index:
+            together = b"".join(label for label, target in zip(labels, shared) if target == shared[index])
+            lines.append(arrow(state, edge.targets[0], together, style))
+    return lines
 
 
 def automaton_drawing(automaton, stem=(), cycle=()):
@@ -150,6 +175,11 @@ def automaton_drawing(automaton, stem=(), cycle=()):
 
     def text_of(label):
         return named(aliases.measure(label)[2], names)
+
+    def demanded(state, index, edge):
+        if edge.label is not None:
+            return text_of(edge.label) + b"\\n"
+        return valuation(index, names) + b"\\n" if state.label is None else b""
 
     front = name_line(automaton.first(b"name:", [None])[0]) + written(bare(automaton.first(b"Acceptance:", None)[1]))
     lines = [b'digraph automaton {\n  rankdir=LR;\n  labelloc=t;\n  label="%s\\n";\n' % front]
@@ -159,14 +189,12 @@ def automaton_drawing(automaton, stem=(), cycle=()):
         label = b"" if state.label is None else b"[" + text_of(state.label) + b"]\\n"
         lines.append(b'  %d [label="%d\\n%s%s%s"];\n' % (
             state.number, state.number, name_line(state.name), label, marks_line(state.marks)))
-    numbered = enumerate((state, index, edge) for state in automaton.states for index, edge in enumerate(state.edges))
-    for number, (state, index, edge) in numbered:
-        style = b", style=bold, color=red" if number in cycle else b", style=bold, color=blue" if number in stem else b""
-        if edge.label is not None:
-            label = text_of(edge.label) + b"\\n"
-        else:
-            label = valuation(index, names) + b"\\n" if state.label is None else b""
-        lines += edge_lines(number, state.number, edge, label, style)
+    styles = {number: b", style=bold, color=blue" for number in stem}
+    styles.update((number, b", style=bold, color=red") for number in cycle)
+    first = 0
+    for state in automaton.states:
+        lines += edge_lines(state.number, state.edges, first, lambda index, edge: demanded(state, index, edge), styles)
+        first += len(state.edges)
     return b"".join(lines) + b"}\n"
 
 

@@ -1,14 +1,16 @@
--- The edges of a body: their texts edge by edge and state by state, and with the roles of a table.
+-- The edges of a body: their texts state by state, and with the roles of a table.
 use Rattle.std.proofs.Common.{◌≡◌, ℕ, ◌+◌, ◌<◌, ◌≤◌, List, [], ◌∷◌, ◌++◌, length, drop, get_or, sym, ap, refl, ◌∙◌, subst, append_assoc, arith, All, length-append}
 use Rattle.std.specs.List.{flat_map}
-use Rattle.std.proofs.lemmas.List.{append-nil, drop_all, drop_more, length-map}
+use Rattle.std.proofs.lemmas.List.{drop_more, length-map}
 use Rattle.omega_automaton.specs.Automaton.{BodyEdge, Description, edge_count, edges_from}
 use Rattle.omega_automaton.specs.declared.edge.Edge.{Edge}
 use Rattle.omega_automaton.specs.declared.state.State.{State}
-use Rattle.omega_automaton_drawing.specs.Arrows.{Drawn, drawn_edge, drawn_from, edge_lines, edge_text, edges_text, state_edges_text}
+use Rattle.omega_automaton_drawing.specs.Arrows.{Drawn, drawn_edge, drawn_from, edge_text, edges_text, state_edges_text}
+use Rattle.omega_automaton_drawing.specs.EdgeLines.{edge_lines}
 use Rattle.omega_automaton_drawing.specs.Roles.{role_of}
 use Rattle.omega_automaton_drawing.specs.declared.role.Role.{Role}
 use Rattle.omega_automaton_drawing.specs.private.layout.Marking.{AreRoles, role_at}
+use Rattle.omega_dot.specs.Numbered.{numbered}
 
 -- what holds of each of a list holds of the one at a place
 pub at_place : {X : Type 0} (P : X → Type 0) (xs : List X) (index : ℕ) (x : X) → All P xs → index < length xs → x ≡ get_or xs index x → P x
@@ -46,30 +48,6 @@ module _ (names : List (List ℕ)) (role : ℕ → Role) where
       (edges_text names role first (drop index states)) out after whole
       (ap (edges_text names role first) (next_left states index state below here)) step so_far
 
-  -- the edges of all states are written
-  pub states_written : (first : ℕ) (states : List State) (index : ℕ) (out whole : List ℕ) → length states ≤ index
-      → out ++ edges_text names role first (drop index states) ≡ whole → out ≡ whole
-  states_written first states index out whole all so_far =
-      sym (append-nil out) ∙ ap (λ left. out ++ edges_text names role first left) (sym (drop_all index states all)) ∙ so_far
-
-  -- an edge more of a state is written
-  pub edge_written : (first : ℕ) (state : State) (index : ℕ) (edge : Edge) (out after whole : List ℕ) → index < length state.edges
-      → edge ≡ get_or state.edges index edge → after ≡ out ++ edge_text state.number (drawn_edge names role first state index edge)
-      → out ++ flat_map (edge_text state.number) (drawn_from names role first state index (drop index state.edges)) ≡ whole
-      → after ++ flat_map (edge_text state.number) (drawn_from names role first state (index + 1) (drop (index + 1) state.edges)) ≡ whole
-  edge_written first state index edge out after whole below here step so_far =
-      part_written (edge_text state.number (drawn_edge names role first state index edge))
-      (flat_map (edge_text state.number) (drawn_from names role first state (index + 1) (drop (index + 1) state.edges)))
-      (flat_map (edge_text state.number) (drawn_from names role first state index (drop index state.edges))) out after whole
-      (ap (λ left. flat_map (edge_text state.number) (drawn_from names role first state index left)) (next_left state.edges index edge below here)) step so_far
-
-  -- all edges of a state are written
-  pub edges_written : (first : ℕ) (state : State) (index : ℕ) (out whole : List ℕ) → length state.edges ≤ index
-      → out ++ flat_map (edge_text state.number) (drawn_from names role first state index (drop index state.edges)) ≡ whole → out ≡ whole
-  edges_written first state index out whole all so_far =
-      sym (append-nil out)
-      ∙ ap (λ left. out ++ flat_map (edge_text state.number) (drawn_from names role first state index left)) (sym (drop_all index state.edges all)) ∙ so_far
-
   -- the same with roles that are the same number by number
   module _ (other : ℕ → Role) (bound : ℕ) (same : (number : ℕ) → number < bound → role number ≡ other number) where
     same_edge : (first : ℕ) (state : State) (index : ℕ) (edge : Edge) → first + index < bound
@@ -96,7 +74,7 @@ module _ (names : List (List ℕ)) (role : ℕ → Role) where
     same_texts first (state ∷ states) within =
         let count : length (flat_map edges_from (state ∷ states)) ≡ length state.edges + length (flat_map edges_from states) =
         length-append (edges_from state) (flat_map edges_from states) ∙ ap (λ n. n + length (flat_map edges_from states)) (length-edges_from state) in
-        ap (λ list. flat_map (edge_text state.number) list ++ edges_text names role (first + length state.edges) states)
+        ap (λ list. numbered (edge_text state.number list) 0 list ++ edges_text names role (first + length state.edges) states)
         (same_edges first state 0 state.edges (omega arith))
         ∙ ap (λ list. state_edges_text names other first state ++ list) (same_texts (first + length state.edges) states (omega arith))
 

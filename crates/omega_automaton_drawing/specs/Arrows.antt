@@ -1,34 +1,13 @@
--- The edges of an automaton in its drawing.
-use Rattle.std.specs.Prelude.{ℕ, ◌+◌, ◌==◌, if◌then◌else◌, Option, Some, None, List, [], ◌∷◌, ◌++◌, codes, decimal, length, slice_index}
-use Rattle.std.specs.List.{flat_map}
-use Rattle.omega_acc.specs.label.Label.{LabelTree}
+-- The edges of an automaton in its drawing: arrows, of which edges to the same one state share one.
+use Rattle.std.specs.Prelude.{ℕ, ◌+◌, ◌==◌, nat_eq, Bool, false, if◌then◌else◌, Option, Some, None, List, [], ◌∷◌, ◌++◌, codes, decimal, length, slice_index}
+use Rattle.std.specs.List.{flat_map, position_from}
+use Rattle.std.specs.Option.{option_eq}
 use Rattle.omega_automaton.specs.declared.edge.Edge.{Edge}
 use Rattle.omega_automaton.specs.declared.state.State.{State}
-use Rattle.omega_automaton_drawing.specs.Expressions.{named_text}
-use Rattle.omega_automaton_drawing.specs.States.{marks_line}
-use Rattle.omega_automaton_drawing.specs.Valuations.{valuation_label}
+use Rattle.omega_automaton_drawing.specs.EdgeLines.{edge_lines}
 use Rattle.omega_automaton_drawing.specs.declared.role.Role.{Role}
 use Rattle.omega_automaton_drawing.specs.declared.role.Role.TheVariants.{Cycle, Plain, Stem}
-use Rattle.omega_dot.specs.Labels.{line_end}
-
--- the line of the number of an edge of a lasso
-abbrev pub number_line : Role → ℕ → List ℕ
-number_line Plain number = []
-number_line Stem number = codes "edge " ++ (decimal number ++ line_end)
-number_line Cycle number = codes "edge " ++ (decimal number ++ line_end)
-
--- the line of what an edge demands, by the label of its state, its index there and its own label: its label, or that of
--- the valuation of its index where neither has one
-abbrev pub expression_line : List (List ℕ) → Option LabelTree → ℕ → Option LabelTree → List ℕ
-expression_line names of_state index (Some label) = named_text names label ++ line_end
-expression_line names (Some of_state) index None = []
-expression_line names None index None = named_text names (valuation_label index (length names)) ++ line_end
-
--- the lines of an edge of a state by its index there and its number: for its number, if it is on a lasso, for what it
--- demands and for its sets
-abbrev pub edge_lines : List (List ℕ) → Role → ℕ → State → ℕ → Edge → List ℕ
-edge_lines names role number state index edge =
-    number_line role number ++ (expression_line names state.label index edge.label ++ marks_line edge.marks)
+use Rattle.omega_dot.specs.Numbered.{numbered}
 
 -- the edges of a lasso are bold: those of the cycle red, and others of the stem blue
 abbrev pub style_part : Role → List ℕ
@@ -88,15 +67,60 @@ drawn_from names role first state index [] = []
 drawn_from names role first state index (edge ∷ edges) =
     drawn_edge names role first state index edge ∷ drawn_from names role first state (index + 1) edges
 
--- an edge that leaves a state
-abbrev pub edge_text : ℕ → Drawn → List ℕ
-edge_text state edge =
+-- the edges of a state
+abbrev pub drawn_edges : List (List ℕ) → (ℕ → Role) → ℕ → State → List Drawn
+drawn_edges names role first state = drawn_from names role first state 0 state.edges
+
+-- the state that an edge shares an arrow to: the one that it leads to, if it is one, and the edge is on no lasso
+abbrev pub shared_target : Role → List ℕ → Option ℕ
+shared_target Plain [] = None
+shared_target Plain (target ∷ []) = Some target
+shared_target Plain (target ∷ other ∷ others) = None
+shared_target Stem targets = None
+shared_target Cycle targets = None
+
+-- whether there is a target, and it is this one
+abbrev pub is_to : ℕ → Option ℕ → Bool
+is_to target None = false
+is_to target (Some other) = other == target
+
+-- whether an edge shares an arrow to a state
+abbrev pub shares_to : ℕ → Drawn → Bool
+shares_to target edge = is_to target (shared_target edge.role edge.targets)
+
+-- the lines of the edges that share an arrow to a state, in order
+abbrev pub shared_lines : ℕ → List Drawn → List ℕ
+shared_lines target edges = flat_map (λ edge. if shares_to target edge then edge.lines else []) edges
+
+-- whether the edge of an index is the first of those that share an arrow to a state
+abbrev pub is_first : ℕ → List Drawn → ℕ → Bool
+is_first target edges index = option_eq nat_eq (position_from (shares_to target) 0 edges) (Some index)
+
+-- an edge that shares no arrow
+abbrev pub own_text : ℕ → Drawn → List ℕ
+own_text state edge =
     if length edge.targets == 1 then arrow_line edge.role state (slice_index edge.targets 0) edge.lines
     else branch_text edge.role edge.number state edge.targets edge.lines
 
+-- what the edge of an index has of the arrow to a state that edges share: the first of them has it, with the lines of
+-- each, and the others have nothing
+abbrev pub shared_text : ℕ → List Drawn → ℕ → ℕ → List ℕ
+shared_text state edges index target =
+    if is_first target edges index then arrow_line Plain state target (shared_lines target edges) else []
+
+-- an edge of a state by its index among its edges, and by the state that it shares an arrow to, if it shares one
+abbrev pub edge_text_to : ℕ → List Drawn → ℕ → Drawn → Option ℕ → List ℕ
+edge_text_to state edges index edge None = own_text state edge
+edge_text_to state edges index edge (Some target) = shared_text state edges index target
+
+-- an edge of a state by its index among its edges
+abbrev pub edge_text : ℕ → List Drawn → ℕ → Drawn → List ℕ
+edge_text state edges index edge = edge_text_to state edges index edge (shared_target edge.role edge.targets)
+
 -- the edges of a state, numbered from a first number on
 abbrev pub state_edges_text : List (List ℕ) → (ℕ → Role) → ℕ → State → List ℕ
-state_edges_text names role first state = flat_map (edge_text state.number) (drawn_from names role first state 0 state.edges)
+state_edges_text names role first state =
+    let edges = drawn_edges names role first state in numbered (edge_text state.number edges) 0 edges
 
 -- the edges of states one behind the other, numbered from a first number on
 abbrev pub edges_text : List (List ℕ) → (ℕ → Role) → ℕ → List State → List ℕ

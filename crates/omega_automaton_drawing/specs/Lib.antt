@@ -4,6 +4,7 @@ pub mod Names
 pub mod Expressions
 pub mod Valuations
 pub mod States
+pub mod EdgeLines
 pub mod Arrows
 pub mod AutomatonDrawing
 pub mod private

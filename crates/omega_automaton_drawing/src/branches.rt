@@ -2,32 +2,33 @@
 
 ghost use Rattle.std.specs.Prelude.{◌≡◌, ◌++◌, IsOkUnless, OnOk};
 ghost use Rattle.std.specs.List.{flat_map};
-ghost use Rattle.omega_automaton.specs.Automaton.{IsEdge};
-ghost use Rattle.omega_automaton_drawing.specs.Arrows.{branch_arrow, branch_name, branch_point, branch_text, edge_lines};
+ghost use Rattle.omega_automaton_drawing.specs.Arrows.{branch_arrow, branch_name, branch_point, branch_text};
+ghost use Rattle.omega_automaton_drawing.specs.private.layout.Drawing.{HaveRoles, IsEdgeOf, drawn_at};
 
 use crate::arrows::{write_attributes, write_style, write_tail};
 use crate::role::Role;
-use omega_automaton::{Automaton, EdgeRef, State};
+use crate::state_edges::StateEdges;
+use omega_automaton::EdgeRef;
 use omega_text::{Refusal, write_number};
 
 /// Appends an edge that leads to several states at once.
 pub(crate) fn write_branch(
-    automaton: &Automaton,
-    state: &State,
+    edges: &StateEdges<'_>,
     index: usize,
     edge: &EdgeRef<'_>,
-    number: usize,
-    role: Role,
     out: &mut Vec<u8>,
 ) -> Result<(), Refusal>
-    requires { IsEdge automaton.now edge.now }
-    ensures ok { OnOk result (out.new.items ≡ out.old.items
-        ++ branch_text role number state.now.number edge.now.targets (edge_lines automaton.now.propositions role number state.now index edge.now)) }
+    requires roles { HaveRoles edges.now }
+    requires edge { IsEdgeOf edges.now index edge.now }
+    ensures ok { let drawn = drawn_at edges.now index edge.now in OnOk result
+        (out.new.items ≡ out.old.items ++ branch_text drawn.role drawn.number edges.now.state.now.number drawn.targets drawn.lines) }
     ensures memory { IsOkUnless result Refusal.Memory }
 {
-    write_tail(state.number, out)?;
+    let number = edges.number(index);
+    let role = edges.role(index);
+    write_tail(edges.state.number, out)?;
     write_branch_name(number, out)?;
-    write_attributes(automaton, state, index, edge, number, role, out)?;
+    write_attributes(edges, index, edge, out)?;
     out.extend_from_slice(b", arrowhead=none];\n")?;
     write_branch_point(number, out)?;
     write_branch_arrows(number, role, edge.targets(), out)?;

@@ -2,33 +2,39 @@
 
 ghost use Rattle.std.specs.Prelude.{◌≡◌, ◌++◌, IfSome, IsOkUnless, OnOk};
 ghost use Rattle.std.specs.Option.{option_copied};
-ghost use Rattle.omega_automaton.specs.Automaton.{IsEdge, IsLabel};
-ghost use Rattle.omega_automaton_drawing.specs.Arrows.{edge_lines, expression_line, number_line};
+ghost use Rattle.omega_automaton.specs.Automaton.{IsLabel};
+ghost use Rattle.omega_automaton_drawing.specs.EdgeLines.{expression_line, number_line};
+ghost use Rattle.omega_automaton_drawing.specs.private.layout.Drawing.{HaveRoles, IsEdgeOf, drawn_at};
 
 use crate::naming::write_named;
 use crate::role::Role;
+use crate::state_edges::StateEdges;
 use crate::states::write_marks;
 use crate::valuations::write_valuation;
 use omega_acc::Label;
-use omega_automaton::{Automaton, EdgeRef, State};
+use omega_automaton::{Automaton, EdgeRef};
 use omega_text::{Refusal, write_number};
 
-/// Appends the lines of an edge of a state by its index there.
+/// Appends the lines of an edge.
 pub(crate) fn write_lines(
-    automaton: &Automaton,
-    state: &State,
+    edges: &StateEdges<'_>,
     index: usize,
     edge: &EdgeRef<'_>,
-    number: usize,
-    role: Role,
     out: &mut Vec<u8>,
 ) -> Result<(), Refusal>
-    requires { IsEdge automaton.now edge.now }
-    ensures ok { OnOk result (out.new.items ≡ out.old.items ++ edge_lines automaton.now.propositions role number state.now index edge.now) }
+    requires roles { HaveRoles edges.now }
+    requires edge { IsEdgeOf edges.now index edge.now }
+    ensures ok { OnOk result (out.new.items ≡ out.old.items ++ (drawn_at edges.now index edge.now).lines) }
     ensures memory { IsOkUnless result Refusal.Memory }
 {
-    write_number_line(role, number, out)?;
-    write_expression_line(automaton, &state.label, index, edge.label(), out)?;
+    write_number_line(edges.role(index), edges.number(index), out)?;
+    write_expression_line(
+        edges.automaton,
+        &edges.state.label,
+        index,
+        edge.label(),
+        out,
+    )?;
     write_marks(edge.marks(), out)
 }
 
@@ -57,7 +63,8 @@ fn write_expression_line(
     out: &mut Vec<u8>,
 ) -> Result<(), Refusal>
     requires { IfSome (option_copied label) (IsLabel automaton.now) }
-    ensures ok { OnOk result (out.new.items ≡ out.old.items ++ expression_line automaton.now.propositions of_state.now index (option_copied label.entry)) }
+    ensures ok { OnOk result (out.new.items ≡ out.old.items
+        ++ expression_line automaton.now.propositions of_state.now index (option_copied label.entry)) }
     ensures memory { IsOkUnless result Refusal.Memory }
 {
     automaton.keeps_limits();

@@ -1,14 +1,19 @@
 //! The edges of an automaton.
 
-ghost use Rattle.std.specs.Prelude.{◌≡◌, ◌+◌, ◌^◌, ◌≤◌, ◌<◌, ◌++◌, IsOkUnless, OnOk, length};
-ghost use Rattle.omega_automaton.specs.Automaton.{IsEdge, IsState, edge_count};
-ghost use Rattle.omega_automaton_drawing.specs.Arrows.{drawn_edge, edge_text, edges_text, state_edges_text};
+ghost use Rattle.std.specs.Prelude.{◌≡◌, ◌^◌, ◌<◌, ◌++◌, IsOkUnless, OnOk, length};
+ghost use Rattle.omega_automaton.specs.Automaton.{edge_count};
+ghost use Rattle.omega_automaton_drawing.specs.Arrows.{edge_text, edges_text, own_text, state_edges_text};
+ghost use Rattle.omega_automaton_drawing.specs.private.layout.Drawing.{HaveRoles, IsEdgeOf, drawn_all, drawn_at};
 ghost use Rattle.omega_automaton_drawing.specs.private.layout.Marking.{role_at};
+ghost use Rattle.omega_automaton_drawing.specs.private.layout.Sharing.{IsSharing, targets_of};
 
 use crate::arrows::write_arrow;
 use crate::branches::write_branch;
-use crate::role::{Role, role_at};
-use omega_automaton::{Automaton, EdgeRef, State};
+use crate::role::Role;
+use crate::shared_arrows::write_shared_arrow;
+use crate::sharing::{Sharing, sharing_of};
+use crate::state_edges::StateEdges;
+use omega_automaton::{Automaton, EdgeRef};
 use omega_text::Refusal;
 
 /// Appends all edges, each with its role.
@@ -19,59 +24,79 @@ pub(crate) fn write_edges(
 ) -> Result<(), Refusal>
     requires entries { length roles.now ≡ edge_count automaton.now }
     requires counted { edge_count automaton.now < 2 ^ 32 }
-    ensures ok { OnOk result (out.new.items ≡ out.old.items ++ edges_text automaton.now.propositions (role_at roles.now) 0 automaton.now.defined) }
+    ensures ok { OnOk result (out.new.items ≡ out.old.items
+        ++ edges_text automaton.now.propositions (role_at roles.now) 0 automaton.now.defined) }
     ensures memory { IsOkUnless result Refusal.Memory }
 {
     automaton.keeps_limits();
     let mut first: usize = 0;
     for state in automaton.defined() {
-        write_edges_of(automaton, roles, state, first, out)?;
+        let edges = StateEdges {
+            automaton,
+            roles,
+            state,
+            first,
+        };
+        write_edges_of(&edges, out)?;
         first += state.edges.len();
     }
     Ok(())
 }
 
-/// Appends the edges of a state, which are numbered from a first number on.
-fn write_edges_of(
-    automaton: &Automaton,
-    roles: &[Role],
-    state: &State,
-    first: usize,
-    out: &mut Vec<u8>,
-) -> Result<(), Refusal>
-    requires state { IsState automaton.now state.now }
-    requires within { first + length state.now.edges ≤ length roles.now }
-    ensures ok { OnOk result (out.new.items ≡ out.old.items ++ state_edges_text automaton.now.propositions (role_at roles.now) first state.now) }
+/// Appends the edges of a state.
+fn write_edges_of(edges: &StateEdges<'_>, out: &mut Vec<u8>) -> Result<(), Refusal>
+    requires { HaveRoles edges.now }
+    ensures ok { OnOk result (out.new.items ≡ out.old.items
+        ++ state_edges_text edges.now.automaton.now.propositions (role_at edges.now.roles.now) edges.now.first edges.now.state.now) }
     ensures memory { IsOkUnless result Refusal.Memory }
 {
-    for index in 0..state.edges.len() {
-        let edge = state.edges.edge(index);
-        write_edge(automaton, roles, state, first, index, &edge, out)?;
+    let alloc = *out.allocator();
+    let targets = edges.targets(alloc)?;
+    let sharing = sharing_of(alloc, targets.as_slice())?;
+    for index in 0..edges.len() {
+        let edge = edges.edge(index);
+        write_edge(edges, &sharing, index, &edge, out)?;
     }
     Ok(())
 }
 
-/// Appends an edge of a state by its index there.
+/// Appends an edge of a state, or where edges share an arrow, the arrow for the first of them.
 fn write_edge(
-    automaton: &Automaton,
-    roles: &[Role],
-    state: &State,
-    first: usize,
+    edges: &StateEdges<'_>,
+    sharing: &Sharing,
     index: usize,
     edge: &EdgeRef<'_>,
     out: &mut Vec<u8>,
 ) -> Result<(), Refusal>
-    requires edge { IsEdge automaton.now edge.now }
-    requires within { first + index < length roles.now }
+    requires roles { HaveRoles edges.now }
+    requires sharing { IsSharing (targets_of (drawn_all edges.now)) sharing.now }
+    requires edge { IsEdgeOf edges.now index edge.now }
     ensures ok { OnOk result (out.new.items ≡ out.old.items
-        ++ edge_text state.now.number (drawn_edge automaton.now.propositions (role_at roles.now) first state.now index edge.now)) }
+        ++ edge_text edges.now.state.now.number (drawn_all edges.now) index (drawn_at edges.now index edge.now)) }
     ensures memory { IsOkUnless result Refusal.Memory }
 {
-    let number = first + index;
-    let role = role_at(roles, number);
+    match edges.target(index, edge) {
+        Some(target) => write_shared_arrow(edges, sharing, index, target, out),
+        None => write_own(edges, index, edge, out),
+    }
+}
+
+/// Appends an edge that shares no arrow.
+fn write_own(
+    edges: &StateEdges<'_>,
+    index: usize,
+    edge: &EdgeRef<'_>,
+    out: &mut Vec<u8>,
+) -> Result<(), Refusal>
+    requires roles { HaveRoles edges.now }
+    requires edge { IsEdgeOf edges.now index edge.now }
+    ensures ok { OnOk result (out.new.items ≡ out.old.items
+        ++ own_text edges.now.state.now.number (drawn_at edges.now index edge.now)) }
+    ensures memory { IsOkUnless result Refusal.Memory }
+{
     if edge.targets().len() == 1 {
-        write_arrow(automaton, state, index, edge, number, role, out)
+        write_arrow(edges, index, edge, out)
     } else {
-        write_branch(automaton, state, index, edge, number, role, out)
+        write_branch(edges, index, edge, out)
     }
 }

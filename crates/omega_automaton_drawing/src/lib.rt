@@ -9,6 +9,9 @@ mod edges;
 mod names;
 mod naming;
 mod role;
+mod shared_arrows;
+mod sharing;
+mod state_edges;
 mod states;
 mod valuations;
 

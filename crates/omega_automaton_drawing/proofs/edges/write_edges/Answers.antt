@@ -1,17 +1,21 @@
 -- `write_edges`: the edges of a state more.
 use Rattle.std.proofs.Common.{◌≡◌, ℕ, ◌+◌, ◌<◌, ◌++◌, List, length, drop, get_or, ap, ◌∙◌, arith}
+use Rattle.omega_automaton.specs.Automaton.{IsState}
 use Rattle.omega_automaton.specs.declared.state.State.{State}
 use Rattle.omega_automaton_drawing.specs.Arrows.{edges_text}
 use Rattle.omega_automaton_drawing.specs.private.layout.Marking.{role_at}
-use Rattle.omega_automaton_drawing.proofs.Bodies.{edges_left, state_written}
+use Rattle.omega_automaton_drawing.proofs.Bodies.{at_place, edges_left, state_written}
 use Rattle.omega_automaton_drawing.proofs.edges.write_edges.Goals as goal
 
-pub write_edges_of-requires-clause-within : goal.write_edges_of-requires-clause-within
-write_edges_of-requires-clause-within c =
+pub write_edges_of-requires : goal.write_edges_of-requires
+write_edges_of-requires c =
     let states : List State = c.args.automaton.now.defined in
     let here : c.state-item.result ≡ get_or states c.loop-state.state-index c.state-item.result = cc in
     let below : c.loop-state.state-index < length states = omega (arith, ap length c.defined-state-items.ensures) in
-    omega (arith, c.requires.entries, edges_left states c.loop-state.state-index c.state-item.result below here, c.loop-state.invariant.count)
+    record {
+      state = at_place (IsState c.args.automaton.now) states c.loop-state.state-index c.state-item.result c.keeps_limits.ensures.states below here;
+      within = omega (arith, c.requires.entries, edges_left states c.loop-state.state-index c.state-item.result below here, c.loop-state.invariant.count);
+    }
 
 pub overflow_add-first : goal.overflow_add-first
 overflow_add-first c =
