@@ -20,7 +20,8 @@ use Rattle.omega_hoa.specs.Alone.{IsAutomatonText}
 use Rattle.omega_hoa.specs.Laws.{AutomataFillSegments}
 use Rattle.omega_product.specs.Acceptance.{IsJointAcceptance, buchi_name}
 use Rattle.omega_product.specs.Joining.{joined_names}
-use Rattle.omega_product.specs.Limits.{IsWithin, most_states}
+use Rattle.omega_product.specs.Limits.{IsWithin}
+use Rattle.omega_written.specs.Limits.{most_states}
 use Rattle.omega_product.specs.Pairs.{Pair, first_leaving, number_of, same_pair, second_leaving, start_pairs}
 use Rattle.omega_product.specs.Product.{joint_transitions}
 use Rattle.omega_product.specs.Written.{IsWritten, name_items, raw_edge, raw_product, raw_start, raw_state_of}

@@ -1,20 +1,21 @@
 //! Labels as they are written, with parentheses only where an operator needs them.
 
-ghost use Rattle.std.specs.Prelude.{◌≡◌, ◌<◌, ◌≤◌, IfErr, IfOk};
+ghost use Rattle.std.specs.Prelude.{◌≡◌, ◌<◌, ◌≤◌, IfErr, IfOk, OnOk};
 ghost use Rattle.omega_acc.specs.Depth.{IsDeeper};
 ghost use Rattle.omega_acc.specs.Limits.{most_depth};
 ghost use Rattle.omega_acc.specs.Writing.{label_text};
 ghost use Rattle.omega_acc.specs.WritingLaws.{grouped, label_written};
 ghost use Rattle.omega_acc.specs.label.Raw.{raw_depth};
 ghost use Rattle.omega_acc.specs.label.Shape.{label_tree_of_shape};
-ghost use Rattle.omega_product.specs.private.Unfit.{IsLarge};
+ghost use Rattle.omega_written.specs.Fitting.{IsLarge};
 
 use omega_acc::{LabelShape, RawLabel};
 use omega_text::{Refusal, TaskFault};
 use std::alloc::Global;
 
-/// A label as it is written. 55 where it is over 256 deep so.
-pub(crate) fn written_label(alloc: Global, shape: &LabelShape) -> Result<RawLabel, Refusal>
+/// A label as it is written. 55 where it is over 256 deep so, or 60. Linear in the label.
+pub fn written_label(alloc: Global, shape: &LabelShape) -> Result<RawLabel, Refusal>
+    ensures shallow { OnOk result (raw_depth (label_written (label_tree_of_shape shape.now)) ≤ most_depth) }
     ensures ok { IfOk result (λ raw. raw ≡ label_written (label_tree_of_shape shape.now)) }
     ensures err { IfErr result (IsLarge (most_depth < raw_depth (label_written (label_tree_of_shape shape.now)))) }
 {
@@ -27,6 +28,7 @@ pub(crate) fn written_label(alloc: Global, shape: &LabelShape) -> Result<RawLabe
 
 /// A label as it is written. 32 where it is over 256 deep so.
 fn written(alloc: Global, shape: &LabelShape) -> Result<RawLabel, Refusal>
+    ensures shallow { OnOk result (raw_depth (label_written (label_tree_of_shape shape.now)) ≤ most_depth) }
     ensures ok { IfOk result (λ raw. raw ≡ label_written (label_tree_of_shape shape.now)) }
     ensures err { IfErr result (IsDeeper (most_depth < raw_depth (label_written (label_tree_of_shape shape.now)))) }
 {

@@ -7,14 +7,14 @@ ghost use Rattle.omega_acc.specs.Writing.{acc_text};
 ghost use Rattle.omega_acc.specs.WritingLaws.{acc_grouped, acc_written};
 ghost use Rattle.omega_acc.specs.formula.Raw.{raw_acc_depth};
 ghost use Rattle.omega_acc.specs.formula.Shape.{acc_tree_of_shape};
-ghost use Rattle.omega_product.specs.private.Unfit.{IsLarge};
+ghost use Rattle.omega_written.specs.Fitting.{IsLarge};
 
 use omega_acc::{AccShape, RawAcc};
 use omega_text::{Refusal, TaskFault};
 use std::alloc::Global;
 
-/// A formula as it is written. 55 where it is over 256 deep so.
-pub(crate) fn written_formula(alloc: Global, shape: &AccShape) -> Result<RawAcc, Refusal>
+/// A formula as it is written. 55 where it is over 256 deep so, or 60. Linear in the formula.
+pub fn written_formula(alloc: Global, shape: &AccShape) -> Result<RawAcc, Refusal>
     ensures ok { IfOk result (λ raw. raw ≡ acc_written (acc_tree_of_shape shape.now)) }
     ensures err { IfErr result (IsLarge (most_depth < raw_acc_depth (acc_written (acc_tree_of_shape shape.now)))) }
 {
