@@ -60,8 +60,8 @@ part of the next.
 
 """
 
-BEHIND = """The last row is the contract of `obey`, which is all that the program does once its words are read: it contains
-every subcommand, the exit statuses, the lines of refusals, progress, and streams that fail.
+BEHIND = """The last row but one is the contract of `read_words`, by which the words of the command line say what is to be done.
+The last is that of `obey`, which is all that the program does once its words are read: it contains every subcommand, the exit statuses, the lines of refusals, progress, and streams that fail.
 
 **How to read one.** Each section below lists the files of `crates/CRATE/specs/` in an order in which nothing is cited
 before it was read, and how many lines of each file are needed. `checks/believing.py check --format pg` prints just
@@ -72,10 +72,11 @@ leads from each promise to its clause.
 **What lies outside**, and has to be trusted or is tested:
 
 - the toolchain that `omega --version` names: its prover, its compiler, its standard library with the words that
-  contracts cite (`List`, `Option`, numbers), and the crates `indexmap`, `itoa`, `smallvec` and `thiserror`;
-- the way from the words of the command line to what a subcommand asks for. `line_for` is proved: what a subcommand
-  asks for with the texts of its options, by `crates/omega_command/specs/CommandLine.antt`. That the words have these
-  options rests on `clap` and on how `omega_help` describes them to it, and is tested;
+  contracts cite (`List`, `Option`, numbers), and the crates `clap`, `indexmap`, `itoa`, `smallvec` and `thiserror`
+  with their contracts;
+- that the definitions of `clap` for what it makes of words (`subcommand_of`, `fault_of`) are what one expects of a
+  command line. In these words `read_words` is proved: the line that it gives is the one that the words ask for
+  (`IsLineAsked`), for the subcommands and options of `crates/omega_help/specs/Program.antt`;
 - the texts of help and of faults of the command line, which are tested;
 - `main`, which hands `obey` the machine's streams and files. Of these the toolchain says nothing; which is which is
   tested.
@@ -282,6 +283,8 @@ def promises(sources):
     yield "the headline, `Headline` of `omega_solve`", sources.reached([sources.held[HEADLINE]])
     for label, arguments in COMMANDS.items():
         yield f"`omega {label}`", sources.reached(sources.rows_cite(arguments))
+    read_words = clause_words("crates/omega_words/src/words.rt", "read_words")
+    yield "the words of the command line, `read_words`", sources.reached(sources.cited(read_words))
     obey = clause_words("crates/omega_run/src/obeying.rt", "obey")
     yield "the whole program, `obey`", sources.reached(sources.cited(obey))
 

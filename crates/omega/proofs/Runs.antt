@@ -4,10 +4,10 @@ use Rattle.omega_text.specs.declared.refusal.Refusal.{Refusal}
 use Rattle.omega_text.specs.declared.refusal.Refusal.TheVariants.{Memory}
 use Rattle.omega_command.specs.declared.line.Line.{Line}
 use Rattle.omega_run.specs.Perform.{streams}
-use Rattle.omega.specs.Running.{IsAsked, IsLineOf, IsObeyedSomehow}
+use Rattle.omega.specs.Running.{IsAsked, IsLineOfWords, IsObeyedSomehow}
 
 -- words that were read, or not for want of memory
-pub asked_is : (words : List ℕ) (asked : Result Line Refusal) → IfOk asked (IsLineOf words) → IsOkUnless asked Memory → IsAsked words asked
+pub asked_is : (words : List ℕ) (asked : Result Line Refusal) → IfOk asked (IsLineOfWords words) → IsOkUnless asked Memory → IsAsked words asked
 asked_is words (Ok line) is memory = is
 asked_is words (Err refusal) is memory = memory
 

@@ -41,13 +41,13 @@ TellsNoText (Fault text) = string_bytes text ≡ codes "error: the command line 
 TellsNoText line = ⊥
 
 -- the line that the words ask for, or where one is not UTF-8, the fault that tells of it
-abbrev pub IsLineOf : List ℕ → Line → Type 0
-IsLineOf text line =
+abbrev pub IsLineOfWords : List ℕ → Line → Type 0
+IsLineOfWords text line =
     ((words : List (List ℕ)) × AreWords text words × IsLineAsked words line) ⊎ (HasNoText text × TellsNoText line)
 
 -- the words were read as this line, or there was no memory for it
 abbrev pub IsAsked : List ℕ → Result Line Refusal → Type 0
-IsAsked words (Ok line) = IsLineOf words line
+IsAsked words (Ok line) = IsLineOfWords words line
 IsAsked words (Err refusal) = refusal ≡ Memory
 
 -- the program obeyed the command line, whatever is left of the input, and however many reads and writes failed
@@ -61,7 +61,7 @@ pub record IsObeyedSomehow (reads : List ℕ → List ℕ → Type 0) (refuses :
 
 -- the program obeyed the words, with the input, where each file holds the text; it wrote the output, and told the
 -- errors
-pub record IsRun (words input file : List ℕ) (status : ℕ) (output errors : List ℕ) : Type 0 where
+pub record IsProgramRun (words input file : List ℕ) (status : ℕ) (output errors : List ℕ) : Type 0 where
   pub asked : Result Line Refusal
   pub read : IsAsked words asked
   pub obeyed : IsObeyedSomehow (λ name text. text ≡ file) (λ name refusal. refusal ≡ Memory) asked status (Some []) (Some errors) 0
@@ -71,7 +71,7 @@ pub record IsRun (words input file : List ℕ) (status : ℕ) (output errors : L
 pub record IsRunOutcome (words input file : List ℕ) (ran : Ran) (output output' errors errors' : List ℕ) : Type 0 where
   pub written : List ℕ
   pub told : List ℕ
-  pub run : IsRun words input file ran.status written told
+  pub run : IsProgramRun words input file ran.status written told
   pub output_length : ran.output ≡ length written
   pub errors_length : ran.errors ≡ length told
   pub output_laid : output' ≡ laid_over written output

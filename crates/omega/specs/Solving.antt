@@ -6,7 +6,7 @@ use Rattle.omega_arrays.specs.declared.solving.Lifts.{Lifts}
 use Rattle.omega_arrays.specs.Answer.{solution_in, wrong_room}
 use Rattle.omega_arrays.specs.Arrays.{GameArrays, nodes_in}
 use Rattle.omega_arrays.specs.Shape.{IsSized}
-use Rattle.omega_arrays.specs.Solving.{AreLifts, IsSolvingRefusal, budget_of, or_shape}
+use Rattle.omega_arrays.specs.Solving.{AreLifts, IsArraysSolvingRefusal, budget_of, or_shape}
 use Rattle.omega.specs.declared.outcome.Outcome.{Outcome}
 use Rattle.omega.specs.Outcome.{given, outcome_of}
 
@@ -26,7 +26,7 @@ pub record IsSolvedGame (a : GameArrays) (by_search budget : ℕ) (winners winne
 pub record IsSolveRefused (a : GameArrays) (budget : ℕ) (outcome : Outcome) (winners winners' choices choices' : List ℕ) (lifts lifts' : Lifts) : Type 0 where
   pub fault : ArrayFault
   pub outcome_is : outcome ≡ outcome_of fault
-  pub refused : or_shape (wrong_room a (length winners) (length choices)) (IsSolvingRefusal a (budget_of budget)) fault
+  pub refused : or_shape (wrong_room a (length winners) (length choices)) (IsArraysSolvingRefusal a (budget_of budget)) fault
   pub winners_kept : winners' ≡ winners
   pub choices_kept : choices' ≡ choices
   pub lifts_kept : lifts' ≡ lifts

@@ -3,7 +3,7 @@ ghost use Rattle.std.specs.Prelude.{◌≡◌, ◌-◌, ◌^◌, ◌<◌, IfOk, 
 ghost use Rattle.omega_run.specs.Perform.{streams};
 ghost use Rattle.omega_text.specs.declared.refusal.Refusal.TheVariants.{Memory};
 ghost use Rattle.omega_command.specs.Line.{IsRunnable};
-ghost use Rattle.omega.specs.Running.{IsLineOf, IsObeyedSomehow, IsRun, IsRunOutcome};
+ghost use Rattle.omega.specs.Running.{IsLineOfWords, IsObeyedSomehow, IsProgramRun, IsRunOutcome};
 
 mod files;
 mod words;
@@ -62,7 +62,7 @@ struct Left {
 
 /// Obeys the words over the input, with the one text in the place of each file.
 fn left_by(alloc: Global, words: &[u8], input: &[u8], file: &[u8]) -> Left
-    ensures { IsRun words.now input.now file.now result.status result.output.items result.errors.items }
+    ensures { IsProgramRun words.now input.now file.now result.status result.output.items result.errors.items }
 {
     let asked = asked_of(alloc, words);
     let files = OneFile::new(file);
@@ -106,7 +106,7 @@ fn status_of<F: GameFiles, R: Input, W: Output, E: Output>(
 
 /// What the words of the command line ask for. 60 alone.
 fn asked_of(alloc: Global, words: &[u8]) -> Result<Line, Refusal>
-    ensures asked { IfOk result (IsLineOf words.now) }
+    ensures asked { IfOk result (IsLineOfWords words.now) }
     ensures runnable { IfOk result IsRunnable }
     ensures memory { IsOkUnless result Memory }
 {

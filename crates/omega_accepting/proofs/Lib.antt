@@ -7,3 +7,4 @@ pub mod Steps
 pub mod Parts
 pub mod Tours
 pub mod Runs
+pub mod Ways

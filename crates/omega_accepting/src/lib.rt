@@ -5,12 +5,15 @@ mod accepting;
 mod exploring;
 mod flattening;
 mod meeting;
+mod narrowing;
 mod node;
 mod search;
+mod set_table;
 mod stepping;
 mod task;
 mod touring;
 mod valuing;
+mod way;
 
 pub use accepting::accepting_walk;
 pub use omega_acc::AccShape;

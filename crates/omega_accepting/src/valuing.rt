@@ -3,11 +3,11 @@ ghost use Rattle.std.specs.Prelude.{◌≡◌, ◌<◌, ℕ, length, All, IfOk, 
 ghost use Rattle.omega_components.specs.Graph.{marked};
 ghost use Rattle.omega_accepting.specs.Rows.{row_at};
 ghost use Rattle.omega_accepting.specs.private.Formulas.{IsFormula, IsNode, tree_at};
-ghost use Rattle.omega_accepting.specs.private.Walks.{AreValues, IsReady, value_on};
+ghost use Rattle.omega_accepting.specs.private.Walks.{AreSetsOn, AreValues, IsReady, value_on};
 
-use crate::meeting::occurs;
 use crate::node::Node;
 use crate::search::Search;
+use crate::set_table::{occurs_by, set_table};
 use omega_text::Refusal;
 use std::alloc::Global;
 
@@ -20,7 +20,8 @@ pub(crate) struct Value {
     pub(crate) possible: bool,
 }
 
-/// The value of each node. One pass over the edges for each atom at most. 60 alone.
+/// The value of each node. One pass over the marks of the edges, and one for each atom with `!` or past the table of
+/// sets at most. 60 alone.
 pub(crate) fn values(
     alloc: Global,
     search: &Search<'_>,
@@ -32,18 +33,27 @@ pub(crate) fn values(
     ensures count { IfOk result (λ values. length values.items ≡ length search.now.nodes.now) }
     ensures memory { IsOkUnless result Refusal.Memory }
 {
+    let sets = set_table(alloc, search, edges)?;
+    let sets = sets.as_slice();
     let mut values = Vec::new(alloc);
     for node in search.nodes {
-        let value = node_value(search, edges, *node, values.as_slice());
+        let value = node_value(search, edges, sets, *node, values.as_slice());
         values.push(value)?;
     }
     Ok(values)
 }
 
 /// The value of the next node, by those of the nodes before it.
-fn node_value(search: &Search<'_>, edges: &[u32], node: Node, before: &[Value]) -> Value
+fn node_value(
+    search: &Search<'_>,
+    edges: &[u32],
+    sets: &[bool],
+    node: Node,
+    before: &[Value],
+) -> Value
     requires node { IsNode (tree_at search.now.nodes.now) (length before.now) node }
     requires edges { All (λ edge. edge < length search.now.marks.now) edges.now }
+    requires sets { AreSetsOn (marked search.now.graph.now (row_at search.now.marks.now)) edges.now sets.now }
     requires before { AreValues (marked search.now.graph.now (row_at search.now.marks.now)) (tree_at search.now.nodes.now) edges.now before.now }
     ensures { result ≡ value_on (marked search.now.graph.now (row_at search.now.marks.now)) edges.now (tree_at search.now.nodes.now (length before.now)) }
 {
@@ -53,14 +63,14 @@ fn node_value(search: &Search<'_>, edges: &[u32], node: Node, before: &[Value]) 
             possible: value,
         },
         Node::Inf(negated, set) => {
-            let met = occurs(search, edges, negated, set);
+            let met = occurs_by(search, edges, sets, negated, set);
             Value {
                 holds: met,
                 possible: met,
             }
         }
         Node::Fin(negated, set) => Value {
-            holds: !occurs(search, edges, negated, set),
+            holds: !occurs_by(search, edges, sets, negated, set),
             possible: true,
         },
         Node::And(left, right) => {

@@ -19,26 +19,26 @@ use Rattle.omega_game.specs.Limits.{most_nodes, most_successors}
 use Rattle.omega_game.specs.Building.{IsBuildRefusal, IsGameOf, game_fault_of, specified, with_last, with_successor}
 use Rattle.omega_game.proofs.parts.Specifying.{with_last-push}
 use Rattle.omega_arrays.specs.Arrays.{GameArrays, array_node, listed_at, node_count, nodes_in, player_of, start_at}
-use Rattle.omega_arrays.specs.Shape.{IsShape, IsSizeFault}
+use Rattle.omega_arrays.specs.Shape.{IsGameShape, IsSizeFault}
 use Rattle.omega_arrays.specs.private.Specified.{spec_of, spec_with, specs_below}
 
 -- ---- starts
 
 -- starts rise
-rises_by : (a : GameArrays) → IsShape a → (d v : ℕ) → v + d ≤ node_count a → start_at a v ≤ start_at a (v + d)
+rises_by : (a : GameArrays) → IsGameShape a → (d v : ℕ) → v + d ≤ node_count a → start_at a v ≤ start_at a (v + d)
 rises_by a shape zero v h = let e : start_at a (v + zero) ≡ start_at a v = ap (start_at a) (omega arith) in omega (arith, e)
 rises_by a shape (suc d) v h =
     let e : start_at a (v + suc d) ≡ start_at a (v + d + 1) = ap (start_at a) (omega arith) in
     omega (arith, e, rises_by a shape d v (omega arith), shape.rising (v + d) (omega arith))
 
 -- no start is past the successors
-pub starts_within : (a : GameArrays) → IsShape a → (v : ℕ) → v ≤ node_count a → start_at a v ≤ length a.successors
+pub starts_within : (a : GameArrays) → IsGameShape a → (v : ℕ) → v ≤ node_count a → start_at a v ≤ length a.successors
 starts_within a shape v h =
     let e : start_at a (v + (node_count a - v)) ≡ start_at a (node_count a) = ap (start_at a) (omega arith) in
     omega (arith, e, rises_by a shape (node_count a - v) v (omega arith), shape.last)
 
 -- the successors of a node end behind their start, and within all
-pub ends_within : (a : GameArrays) → IsShape a → (v : ℕ) → v < node_count a
+pub ends_within : (a : GameArrays) → IsGameShape a → (v : ℕ) → v < node_count a
     → (start_at a v < start_at a (v + 1)) × (start_at a (v + 1) ≤ length a.successors)
 ends_within a shape v h = (shape.rising v h, starts_within a shape (v + 1) (omega arith))
 
@@ -83,7 +83,7 @@ pub count_is : (a : GameArrays) → length (nodes_in a) ≡ node_count a
 count_is a = length-map-range_with_len (array_node a) 0 (node_count a)
 
 -- a successor of a node is a place
-listed_within : (a : GameArrays) → IsShape a → (v k : ℕ) → v < node_count a → k < length (listed_at a v)
+listed_within : (a : GameArrays) → IsGameShape a → (v k : ℕ) → v < node_count a → k < length (listed_at a v)
     → get_or (listed_at a v) k 0 < node_count a
 listed_within a shape v k h within =
     let ends = ends_within a shape v h in
@@ -92,7 +92,7 @@ listed_within a shape v k h within =
     (All-get_or (λ w. w < node_count a) a.successors (start_at a v + k) 0 (omega (arith, size, ends.1)) shape.places)
 
 -- the successors by their identifiers are themselves
-identified : (a : GameArrays) → IsShape a → (v : ℕ) → v < node_count a
+identified : (a : GameArrays) → IsGameShape a → (v : ℕ) → v < node_count a
     → map (λ w. (node_at (nodes_in a) w).identifier) (listed_at a v) ≡ listed_at a v
 identified a shape v h =
     same_lists _ _ (length-map (listed_at a v) (λ w. (node_at (nodes_in a) w).identifier))
@@ -103,11 +103,11 @@ identified a shape v h =
     ∙ get_or_default (listed_at a v) k 0 d inside)
 
 -- a node of the game as it is specified
-specified_is : (a : GameArrays) → IsShape a → (v : ℕ) → v < node_count a → specified (nodes_in a) (array_node a v) ≡ spec_of a v
+specified_is : (a : GameArrays) → IsGameShape a → (v : ℕ) → v < node_count a → specified (nodes_in a) (array_node a v) ≡ spec_of a v
 specified_is a shape v h = ap (λ (listed : List ℕ). spec_with a v listed) (identified a shape v h)
 
 -- the specifications of all nodes are those of the game
-pub specs_are : (a : GameArrays) → IsShape a → map (specified (nodes_in a)) (nodes_in a) ≡ specs_below a (node_count a)
+pub specs_are : (a : GameArrays) → IsGameShape a → map (specified (nodes_in a)) (nodes_in a) ≡ specs_below a (node_count a)
 specs_are a shape =
     fill_by_all (spec_of a) (map (specified (nodes_in a)) (nodes_in a)) (node_count a) (spec_of a 0)
     (length-map (nodes_in a) (specified (nodes_in a)) ∙ count_is a)
@@ -121,7 +121,7 @@ identifier_is a v d h =
     get_or-map (λ node. node.identifier) (nodes_in a) v no_node d (omega (arith, count_is a)) ∙ ap (λ (node : Node). node.identifier) (node_is a v h)
 
 -- a node has a successor
-continued_at : (a : GameArrays) → IsShape a → (v : ℕ) → v < length (nodes_in a) → 0 < length (successors_at (nodes_in a) v)
+continued_at : (a : GameArrays) → IsGameShape a → (v : ℕ) → v < length (nodes_in a) → 0 < length (successors_at (nodes_in a) v)
 continued_at a shape v h =
     let inside : v < node_count a = omega (arith, count_is a) in
     let ends = ends_within a shape v inside in
@@ -129,7 +129,7 @@ continued_at a shape v h =
     (omega (arith, ends.0, length-between a.successors (start_at a v) (start_at a (v + 1)) ends.1))
 
 -- edges lead to nodes
-closed_at : (a : GameArrays) → IsShape a → (v w : ℕ) → HasEdge (nodes_in a) v w → w < length (nodes_in a)
+closed_at : (a : GameArrays) → IsGameShape a → (v w : ℕ) → HasEdge (nodes_in a) v w → w < length (nodes_in a)
 closed_at a shape v w edge =
     elim (cases_lt v (node_count a)) [
       | inl inside ↦ inside_at inside (subst (λ (node : Node). Contains node.successors w) (node_is a v inside) edge)
@@ -143,7 +143,7 @@ closed_at a shape v w edge =
         let below = listed_within a shape v k inside within in
         omega (arith, below, count_is a, sym (get_or_default (listed_at a v) k w 0 within) ∙ is)
 
-pub game_of_shape : (a : GameArrays) → IsShape a → IsGame (nodes_in a)
+pub game_of_shape : (a : GameArrays) → IsGameShape a → IsGame (nodes_in a)
 game_of_shape a shape = record {
   inhabited = omega (arith, count_is a, shape.inhabited);
   rising = λ k h.
@@ -156,7 +156,7 @@ game_of_shape a shape = record {
 -- ---- the limits
 
 -- the nodes below a place list so many successors
-listed_below : (a : GameArrays) → IsShape a → (v : ℕ) → v ≤ node_count a
+listed_below : (a : GameArrays) → IsGameShape a → (v : ℕ) → v ≤ node_count a
     → sum_by (λ (node : Node). length node.successors) (map (array_node a) (range_with_len 0 v)) ≡ start_at a v
 listed_below a shape zero h = sym shape.first
 listed_below a shape (suc v) h =
@@ -168,7 +168,7 @@ listed_below a shape (suc v) h =
     subst P e
     (omega (arith, sum_by-map-range_with_len_more lengths (array_node a) 0 v v (omega arith), listed_below a shape v (omega arith), size, ends.0))
 
-pub limits_of_shape : (a : GameArrays) → IsShape a → node_count a ≤ most_nodes → length a.successors ≤ most_successors → IsWithinLimits (nodes_in a)
+pub limits_of_shape : (a : GameArrays) → IsGameShape a → node_count a ≤ most_nodes → length a.successors ≤ most_successors → IsWithinLimits (nodes_in a)
 limits_of_shape a shape nodes edges = record {
   few_nodes = omega (arith, count_is a);
   few_edges = omega (arith, listed_below a shape (node_count a) (omega arith), shape.last);
@@ -182,7 +182,7 @@ limits_of_shape a shape nodes edges = record {
 }
 
 -- the specifications have this game
-pub game_of_specs : (a : GameArrays) → IsShape a → IsGameOf (specs_below a (node_count a)) (nodes_in a)
+pub game_of_specs : (a : GameArrays) → IsGameShape a → IsGameOf (specs_below a (node_count a)) (nodes_in a)
 game_of_specs a shape = record {
   game = game_of_shape a shape;
   rearranged = rw (specs_are a shape) (IsPermutation-refl (specs_below a (node_count a)));

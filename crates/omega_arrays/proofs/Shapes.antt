@@ -4,7 +4,7 @@ use Rattle.std.specs.Prelude.{option_map, nat_le, nat_lt}
 use Rattle.std.proofs.lemmas.Bool.{eqb-false, eqb-true, leb-false, ltb-false}
 use Rattle.omega_text.specs.Limits.{most_number}
 use Rattle.omega_arrays.specs.Arrays.{GameArrays, node_count, start_at}
-use Rattle.omega_arrays.specs.Shape.{IsShape, entry, first_above, first_fall, first_of, miscounted, wrong_entry, wrong_length, wrong_start}
+use Rattle.omega_arrays.specs.Shape.{IsGameShape, entry, first_above, first_fall, first_of, miscounted, wrong_entry, wrong_length, wrong_start}
 use Rattle.omega_arrays.proofs.Firsts.{fails_at, range_fails_at}
 
 -- the first of two is nothing where both are
@@ -49,7 +49,7 @@ rises_at a none v h =
     (range_fails_at (λ v. nat_le (start_at a (v + 1)) (start_at a v)) (node_count a) v none h)
 
 -- arrays without a wrong entry have the shape
-pub shape_of : (a : GameArrays) → wrong_entry a ≡ None → IsShape a
+pub shape_of : (a : GameArrays) → wrong_entry a ≡ None → IsGameShape a
 shape_of a none =
     let one = both_none (wrong_length a) _ none in
     let two = both_none (first_above 0 most_number a.priorities) _ one.1 in

@@ -22,13 +22,13 @@ pub record IsRefuted (nodes : List Node) (solution : Solution) (player : Player)
   pub loses : LosesGiven nodes solution player lasso
 
 -- the solution is right, and this is said
-pub record IsRight (verdict : Verdict) (stem stem' cycle cycle' : List ℕ) : Type 0 where
+pub record SaysRight (verdict : Verdict) (stem stem' cycle cycle' : List ℕ) : Type 0 where
   pub right : verdict.is_right ≡ 1
   pub zeros : (verdict.player ≡ 0) × (verdict.stem ≡ 0) × (verdict.cycle ≡ 0)
   pub kept : (stem' ≡ stem) × (cycle' ≡ cycle)
 
 -- the player loses by a lasso, and this is said: its places are laid over the stem and the cycle
-pub record IsWrong (player : Player) (lasso : Lasso) (verdict : Verdict) (stem stem' cycle cycle' : List ℕ) : Type 0 where
+pub record SaysWrong (player : Player) (lasso : Lasso) (verdict : Verdict) (stem stem' cycle cycle' : List ℕ) : Type 0 where
   pub wrong : verdict.is_right ≡ 0
   pub number : verdict.player ≡ player_number player
   pub lengths : (verdict.stem ≡ length lasso.stem) × (verdict.cycle ≡ length lasso.cycle)
@@ -36,9 +36,9 @@ pub record IsWrong (player : Player) (lasso : Lasso) (verdict : Verdict) (stem s
   pub cycle_laid : cycle' ≡ laid_over lasso.cycle cycle
 
 -- what was found is said
-abbrev pub IsTold : Option (Player × Lasso) → Verdict → (stem stem' cycle cycle' : List ℕ) → Type 0
-IsTold None verdict stem stem' cycle cycle' = IsRight verdict stem stem' cycle cycle'
-IsTold (Some found) verdict stem stem' cycle cycle' = IsWrong found.0 found.1 verdict stem stem' cycle cycle'
+abbrev pub IsVerdictOf : Option (Player × Lasso) → Verdict → (stem stem' cycle cycle' : List ℕ) → Type 0
+IsVerdictOf None verdict stem stem' cycle cycle' = SaysRight verdict stem stem' cycle cycle'
+IsVerdictOf (Some found) verdict stem stem' cycle cycle' = SaysWrong found.0 found.1 verdict stem stem' cycle cycle'
 
 -- what was found of a solution: nothing where for each player the choices win from all nodes given to that player
 abbrev pub IsFinding : List Node → Solution → Option (Player × Lasso) → Type 0
@@ -46,17 +46,17 @@ IsFinding nodes solution None = WinsAsGiven nodes solution
 IsFinding nodes solution (Some found) = IsRefuted nodes solution found.0 found.1
 
 -- the solution is judged, and what was found is said
-pub record IsJudged (nodes : List Node) (solution : Solution) (verdict : Verdict) (stem stem' cycle cycle' : List ℕ) : Type 0 where
+pub record IsJudgement (nodes : List Node) (solution : Solution) (verdict : Verdict) (stem stem' cycle cycle' : List ℕ) : Type 0 where
   pub found : Option (Player × Lasso)
   pub is_so : IsFinding nodes solution found
-  pub told : IsTold found verdict stem stem' cycle cycle'
+  pub told : IsVerdictOf found verdict stem stem' cycle cycle'
 
 -- the refusal of judging what should be a solution of a game: it is none, or memory
-abbrev pub IsSolutionRefusal : List Node → Solution → Refusal → Type 0
-IsSolutionRefusal nodes solution = or_task (λ fault. (fault ≡ BadSolution) × ¬ IsSolution nodes solution) (or_memory never)
+abbrev pub IsArraysSolutionRefusal : List Node → Solution → Refusal → Type 0
+IsArraysSolutionRefusal nodes solution = or_task (λ fault. (fault ≡ BadSolution) × ¬ IsSolution nodes solution) (or_memory never)
 
 -- the refusal of judging arrays: 13 or 14, or else that they hold no solution of the game
-abbrev pub IsJudgingRefusal : GameArrays → (winners choices : List ℕ) → Refusal → Type 0
-IsJudgingRefusal a winners choices =
+abbrev pub IsArraysJudgingRefusal : GameArrays → (winners choices : List ℕ) → Refusal → Type 0
+IsArraysJudgingRefusal a winners choices =
     or_game (IsSizeFault a)
     (or_task (λ fault. IsSized a × (fault ≡ BadSolution) × ¬ IsSolution (nodes_in a) (solution_in winners choices)) (or_memory never))

@@ -9,7 +9,7 @@ use Rattle.omega_arrays.specs.declared.fault.WrongEntry.{WrongEntry}
 use Rattle.omega_arrays.specs.Arrays.{GameArrays, node_count, start_at}
 
 -- arrays that stand for a game: a node or more, for each an owner, a start and a successor or more, all places of nodes
-pub record IsShape (a : GameArrays) : Type 0 where
+pub record IsGameShape (a : GameArrays) : Type 0 where
   pub inhabited : 0 < node_count a
   pub owned : length a.owners ≡ node_count a
   pub started : length a.starts ≡ node_count a + 1

@@ -38,6 +38,6 @@ abbrev pub IsWholeRefusal : List Node → ℕ → Refusal → Type 0
 IsWholeRefusal nodes budget = or_task (IsWholeFault nodes Both budget) (or_memory never)
 
 -- the refusal of solving the game of arrays that stand for one: 13 or 14, or else that of its game
-abbrev pub IsSolvingRefusal : GameArrays → ℕ → Refusal → Type 0
-IsSolvingRefusal a budget =
+abbrev pub IsArraysSolvingRefusal : GameArrays → ℕ → Refusal → Type 0
+IsArraysSolvingRefusal a budget =
     or_game (IsSizeFault a) (or_task (λ fault. IsSized a × IsWholeFault (nodes_in a) Both budget fault) (or_memory never))

@@ -5,7 +5,7 @@ ghost use Rattle.omega_game.specs.Game.{owner_at};
 ghost use Rattle.omega_game.specs.Solution.{IsSolution, choices_of};
 ghost use Rattle.omega_arrays.specs.Answer.{choice_for, choice_of, choices_for, no_choice, solution_in, wrong_answer, wrong_room};
 ghost use Rattle.omega_arrays.specs.Arrays.{node_count, player_of};
-ghost use Rattle.omega_arrays.specs.Shape.{IsShape};
+ghost use Rattle.omega_arrays.specs.Shape.{IsGameShape};
 ghost use Rattle.omega_arrays.specs.private.Written.{AreWritten, ChoosesWhereWon};
 
 use crate::arrays::Arrays;
@@ -25,7 +25,7 @@ const CHOICES: u32 = 5;
 /// The first entry that is wrong, of the arrays or by the lengths of those for an answer.
 pub(crate) fn wrong_room(arrays: &Arrays<'_>, winners: usize, choices: usize) -> Option<WrongEntry>
     ensures first { result ≡ wrong_room arrays.now winners choices }
-    ensures shape { result ≡ None → IsShape arrays.now }
+    ensures shape { result ≡ None → IsGameShape arrays.now }
     ensures winners { result ≡ None → winners ≡ node_count arrays.now }
     ensures choices { result ≡ None → choices ≡ node_count arrays.now }
 {
@@ -46,7 +46,7 @@ pub(crate) fn wrong_answer(
     choices: &[u32],
 ) -> Option<WrongEntry>
     ensures first { result ≡ wrong_answer arrays.now winners.now choices.now }
-    ensures shape { result ≡ None → IsShape arrays.now }
+    ensures shape { result ≡ None → IsGameShape arrays.now }
     ensures winners { result ≡ None → length winners.now ≡ node_count arrays.now }
     ensures choices { result ≡ None → length choices.now ≡ node_count arrays.now }
 {

@@ -3,7 +3,7 @@ ghost use Rattle.std.specs.Prelude.{◌≡◌, ◌++◌, ◌∷◌, [], ◌<◌,
 ghost use Rattle.omega_text.specs.Cases.{never, or_game, or_memory};
 ghost use Rattle.omega_game.specs.Limits.{most_nodes};
 ghost use Rattle.omega_arrays.specs.Arrays.{nodes_in, node_count, player_of};
-ghost use Rattle.omega_arrays.specs.Shape.{IsShape, IsSizeFault, IsSized};
+ghost use Rattle.omega_arrays.specs.Shape.{IsGameShape, IsSizeFault, IsSized};
 ghost use Rattle.omega_arrays.specs.private.Specified.{spec_of, specs_below};
 
 use crate::arrays::Arrays;
@@ -16,7 +16,7 @@ use std::alloc::Global;
 
 /// The game of arrays that stand for one. 13, 14 or 60.
 pub(crate) fn built(alloc: Global, arrays: &Arrays<'_>) -> Result<Game, Refusal>
-    requires { IsShape arrays.now }
+    requires { IsGameShape arrays.now }
     ensures game { IfOk result (λ game. game ≡ nodes_in arrays.now) }
     ensures count { IfOk result (λ game. length game ≡ node_count arrays.now) }
     ensures sized { IsOk result → IsSized arrays.now }
@@ -36,7 +36,7 @@ pub(crate) fn built(alloc: Global, arrays: &Arrays<'_>) -> Result<Game, Refusal>
 
 /// The specifications of the nodes. 60 alone.
 fn collected(alloc: Global, arrays: &Arrays<'_>) -> Result<GameBuilder, Refusal>
-    requires shape { IsShape arrays.now }
+    requires shape { IsGameShape arrays.now }
     requires few { node_count arrays.now ≤ most_nodes }
     ensures specified { IfOk result (λ nodes. nodes ≡ specs_below arrays.now (node_count arrays.now)) }
     ensures memory { IsOkUnless result Refusal.Memory }
@@ -51,7 +51,7 @@ fn collected(alloc: Global, arrays: &Arrays<'_>) -> Result<GameBuilder, Refusal>
 
 /// Adds the specification of the node at a place. 60 alone.
 fn add_node(arrays: &Arrays<'_>, place: usize, nodes: &mut GameBuilder) -> Result<(), Refusal>
-    requires shape { IsShape arrays.now }
+    requires shape { IsGameShape arrays.now }
     requires few { node_count arrays.now ≤ most_nodes }
     requires inside { place < node_count arrays.now }
     ensures added { OnOk result (nodes.new ≡ nodes.old ++ spec_of arrays.now place ∷ []) }

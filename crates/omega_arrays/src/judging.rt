@@ -5,7 +5,7 @@ ghost use Rattle.omega_game.specs.Solution.{IsSolution, WinsGiven};
 ghost use Rattle.omega_game_answers.specs.Verify.{LosesGiven};
 ghost use Rattle.omega_arrays.specs.Answer.{solution_in, wrong_answer};
 ghost use Rattle.omega_arrays.specs.Arrays.{nodes_in};
-ghost use Rattle.omega_arrays.specs.Judging.{IsFinding, IsJudged, IsJudgingRefusal, IsSolutionRefusal, IsTold};
+ghost use Rattle.omega_arrays.specs.Judging.{IsFinding, IsJudgement, IsArraysJudgingRefusal, IsArraysSolutionRefusal, IsVerdictOf};
 ghost use Rattle.omega_arrays.specs.Shape.{IsSized};
 ghost use Rattle.omega_arrays.specs.Solving.{or_shape};
 
@@ -42,13 +42,13 @@ pub fn verify_arrays(
     stem: &mut [u32],
     cycle: &mut [u32],
 ) -> Result<Verdict, ArrayFault>
-    ensures judged { IfOk result (λ verdict. IsJudged (nodes_in arrays.now) (solution_in winners.now choices.now) verdict stem.old stem.new cycle.old cycle.new) }
+    ensures judged { IfOk result (λ verdict. IsJudgement (nodes_in arrays.now) (solution_in winners.now choices.now) verdict stem.old stem.new cycle.old cycle.new) }
     ensures solution { IsOk result → IsSolution (nodes_in arrays.now) (solution_in winners.now choices.now) }
     ensures faultless { IsOk result → wrong_answer arrays.now winners.now choices.now ≡ None }
     ensures sized { IsOk result → IsSized arrays.now }
     ensures stem_kept { OnErr result (stem.new ≡ stem.old) }
     ensures cycle_kept { OnErr result (cycle.new ≡ cycle.old) }
-    ensures refused { IfErr result (or_shape (wrong_answer arrays.now winners.now choices.now) (IsJudgingRefusal arrays.now winners.now choices.now)) }
+    ensures refused { IfErr result (or_shape (wrong_answer arrays.now winners.now choices.now) (IsArraysJudgingRefusal arrays.now winners.now choices.now)) }
 {
     if let Some(wrong) = wrong_answer(arrays, winners, choices) {
         return Err(ArrayFault::BadShape(wrong));
@@ -69,7 +69,7 @@ fn judged(
     requires choices { length choices.now ≡ length game.now }
     ensures finding { IfOk result (IsFinding game.now (solution_in winners.now choices.now)) }
     ensures solution { IsOk result → IsSolution game.now (solution_in winners.now choices.now) }
-    ensures refused { IfErr result (IsSolutionRefusal game.now (solution_in winners.now choices.now)) }
+    ensures refused { IfErr result (IsArraysSolutionRefusal game.now (solution_in winners.now choices.now)) }
 {
     let solution = solution_held(alloc, winners, choices)?;
     if !is_solution(game, &solution, winners, choices) {
@@ -119,7 +119,7 @@ fn lost_by(
 
 /// The verdict, and the places of a counterexample written.
 fn told(found: &Option<(Player, Lasso)>, stem: &mut [u32], cycle: &mut [u32]) -> Verdict
-    ensures { IsTold found.now result stem.old stem.new cycle.old cycle.new }
+    ensures { IsVerdictOf found.now result stem.old stem.new cycle.old cycle.new }
 {
     match found {
         None => Verdict {

@@ -1,7 +1,7 @@
 //! Which arrays stand for a game.
 ghost use Rattle.std.specs.Prelude.{◌≡◌, ◌+◌, ◌<◌, IfSome, None, length, nat_lt, option_map, position};
 ghost use Rattle.omega_arrays.specs.Arrays.{node_count};
-ghost use Rattle.omega_arrays.specs.Shape.{IsShape, entry, first_above, first_fall, miscounted, wrong_entry, wrong_length, wrong_start};
+ghost use Rattle.omega_arrays.specs.Shape.{IsGameShape, entry, first_above, first_fall, miscounted, wrong_entry, wrong_length, wrong_start};
 
 use crate::arrays::Arrays;
 use crate::fault::WrongEntry;
@@ -20,7 +20,7 @@ impl Arrays<'_> {
     /// then the priorities, the owners, the starts and the successors. Takes time in the entries, and no memory.
     pub fn wrong_entry(&self) -> Option<WrongEntry>
         ensures first { result ≡ wrong_entry self.now }
-        ensures shape { result ≡ None → IsShape self.now }
+        ensures shape { result ≡ None → IsGameShape self.now }
     {
         self.first_wrong()
     }

@@ -5,7 +5,7 @@ ghost use Rattle.omega_solve.specs.Limits.{most_lifts};
 ghost use Rattle.omega_arrays.specs.Answer.{solution_in, wrong_room};
 ghost use Rattle.omega_arrays.specs.Arrays.{nodes_in};
 ghost use Rattle.omega_arrays.specs.Shape.{IsSized};
-ghost use Rattle.omega_arrays.specs.Solving.{AreLifts, IsSolvingRefusal, IsWholeRefusal, budget_of, or_shape};
+ghost use Rattle.omega_arrays.specs.Solving.{AreLifts, IsArraysSolvingRefusal, IsWholeRefusal, budget_of, or_shape};
 
 use crate::answer::{write_solution, wrong_room};
 use crate::arrays::Arrays;
@@ -46,7 +46,7 @@ pub fn solve_arrays(
     ensures sized { IsOk result → IsSized arrays.now }
     ensures winners_kept { OnErr result (winners.new ≡ winners.old) }
     ensures choices_kept { OnErr result (choices.new ≡ choices.old) }
-    ensures refused { IfErr result (or_shape (wrong_room arrays.now (length winners.old) (length choices.old)) (IsSolvingRefusal arrays.now (budget_of budget))) }
+    ensures refused { IfErr result (or_shape (wrong_room arrays.now (length winners.old) (length choices.old)) (IsArraysSolvingRefusal arrays.now (budget_of budget))) }
 {
     if let Some(wrong) = wrong_room(arrays, winners.len(), choices.len()) {
         return Err(ArrayFault::BadShape(wrong));

@@ -1,12 +1,11 @@
 -- Tables of roles: of one number more, and of two lists of numbers.
-use Rattle.std.proofs.Common.{◌≡◌, ℕ, ◌+◌, ◌<◌, Bool, true, false, cond, ◌||◌, List, [], ◌∷◌, length, get_or, take, replicate, sym, ap, refl, ◌∙◌, arith}
+use Rattle.std.proofs.Common.{◌≡◌, ℕ, ◌+◌, ◌<◌, Bool, true, false, cond, ◌||◌, List, [], ◌∷◌, length, get_or, take, sym, ap, refl, ◌∙◌, arith}
 use Rattle.std.specs.Prelude.{◌==◌}
-use Rattle.std.proofs.lemmas.List.{get_or-replicate, take_more}
+use Rattle.std.proofs.lemmas.List.{take_more}
 use Rattle.std.proofs.lemmas.List.Folds.{list_any-append}
-use Rattle.omega_automaton_drawing.specs.Roles.{is_member, marked}
+use Rattle.omega_automaton_drawing.specs.Roles.{is_member}
 use Rattle.omega_automaton_drawing.specs.declared.role.Role.{Role}
-use Rattle.omega_automaton_drawing.specs.declared.role.Role.TheVariants.{Cycle, Plain, Stem}
-use Rattle.omega_automaton_drawing.specs.private.layout.Marking.{AreMarked, AreRoles, role_at}
+use Rattle.omega_automaton_drawing.specs.private.layout.Marking.{AreMarked, role_at}
 
 either_marks : (role other : Role) (one another : Bool) → cond another role (cond one role other) ≡ cond (one || another) role other
 either_marks role other true true = refl
@@ -25,15 +24,3 @@ one_marked numbers i role before between after below same first then number with
     ∙ ap (λ other. cond (is_member number (get_or numbers i 0 ∷ [])) role other) (first number within)
     ∙ either_marks role (role_at before number) (is_member number (take i numbers)) (is_member number (get_or numbers i 0 ∷ []))
     ∙ ap (λ b. cond b role (role_at before number)) (sym one)
-
--- the table of a stem and then a cycle
-pub both_marked : (stem cycle : List ℕ) (edges : ℕ) (between after : List Role) → length between ≡ edges → length after ≡ edges
-    → AreMarked stem Stem (replicate edges Plain) between → AreMarked cycle Cycle between after → length (replicate edges Plain) ≡ edges
-    → AreRoles stem cycle edges after
-both_marked stem cycle edges between after kept entries first then long = record {
-  entries = entries;
-  each = λ number within.
-      then number (omega (arith, within, kept))
-      ∙ ap (λ other. marked cycle Cycle other number)
-      (first number (omega (arith, within, long)) ∙ ap (λ other. marked stem Stem other number) (get_or-replicate edges number Plain Plain within));
-}

@@ -11,8 +11,8 @@ use Rattle.omega_acc.specs.Writing.{bracketed, label_text, truth_text}
 use Rattle.omega_automaton.specs.Automaton.{AreBelow}
 use Rattle.omega_automaton.specs.Limits.{most_propositions}
 use Rattle.omega_text.specs.Bytes.{is_digit}
-use Rattle.omega_automaton_drawing.specs.Expressions.{name_at, named_text}
-use Rattle.omega_dot.specs.Labels.{escaped}
+use Rattle.omega_automaton_drawing.specs.Expressions.{named_text}
+use Rattle.omega_automaton_drawing.specs.Names.{drawn_name, name_at}
 use Rattle.omega_automaton_drawing.specs.private.layout.Naming.{pending_name, sign_text, with_digit, with_names}
 
 -- a digit of a number is one
@@ -31,7 +31,7 @@ back_all P xs ys all =
 module _ (names : List (List ℕ)) (few : length names ≤ most_propositions) where
   -- a number ends before these bytes
   abbrev Ends : List ℕ → Type 0
-  Ends rest = (number : ℕ) → with_names names (Some number) rest ≡ escaped (name_at names number) ++ with_names names None rest
+  Ends rest = (number : ℕ) → with_names names (Some number) rest ≡ drawn_name (name_at names number) ++ with_names names None rest
 
   -- bytes that are written as others, whatever is behind where a number ends
   abbrev Makes : List ℕ → List ℕ → Type 0
@@ -63,7 +63,7 @@ module _ (names : List (List ℕ)) (few : length names ≤ most_propositions) wh
       ∙ ap (λ m. with_names names (Some m) rest) e
 
   -- a number makes the name of its proposition
-  number_makes : (n : ℕ) → n < length names → Makes (decimal n) (escaped (name_at names n))
+  number_makes : (n : ℕ) → n < length names → Makes (decimal n) (drawn_name (name_at names n))
   number_makes n below rest ends =
       let e : min n most_propositions ≡ n = omega arith in
       decimal_by_steps Passes one_digit more_digits n (omega arith) rest
@@ -120,7 +120,7 @@ module _ (names : List (List ℕ)) (few : length names ≤ most_propositions) wh
   -- the whole text of a label makes the whole
   pub label_named : (tree : LabelTree) → AreBelow (length names) (propositions tree) → with_names names None (label_text tree).bytes ≡ named_text names tree
   label_named tree below =
-      let ends : Ends [] = λ number. sym (append-nil (escaped (name_at names number))) in
+      let ends : Ends [] = λ number. sym (append-nil (drawn_name (name_at names number))) in
       ap (with_names names None) (sym (append-nil (label_text tree).bytes))
       ∙ label_makes tree below [] ends
       ∙ append-nil (named_text names tree)

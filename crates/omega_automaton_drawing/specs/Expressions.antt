@@ -1,17 +1,13 @@
 -- The text of a label in a drawing: the names of the propositions stand in place of their numbers.
-use Rattle.std.specs.Prelude.{ℕ, nat_le, nat_lt, List, [], ◌++◌, codes, slice_index_or}
+use Rattle.std.specs.Prelude.{ℕ, nat_le, nat_lt, List, ◌++◌, codes}
 use Rattle.omega_acc.specs.label.Label.{LabelTree, conjunction, constant, disjunction, negation, proposition}
 use Rattle.omega_acc.specs.Writing.{bracketed, label_text, truth_text}
-use Rattle.omega_dot.specs.Labels.{escaped}
-
--- the name of the proposition of a number
-abbrev pub name_at : List (List ℕ) → ℕ → List ℕ
-name_at names number = slice_index_or names number []
+use Rattle.omega_automaton_drawing.specs.Names.{drawn_name, name_at}
 
 -- a label with names, in parentheses where its canonical text has them, and with spaces about `&` and `|`
 abbrev pub named_text : List (List ℕ) → LabelTree → List ℕ
 named_text names (constant value) = truth_text value
-named_text names (proposition number) = escaped (name_at names number)
+named_text names (proposition number) = drawn_name (name_at names number)
 named_text names (negation part) = codes "!" ++ bracketed (nat_lt (label_text part).rank 3) (named_text names part)
 named_text names (conjunction left right) =
     bracketed (nat_lt (label_text left).rank 2) (named_text names left) ++ (codes " & "

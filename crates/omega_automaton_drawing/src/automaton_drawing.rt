@@ -13,10 +13,13 @@ use std::alloc::Global;
 /// The drawing of an automaton as a graph in DOT. 60 alone.
 ///
 /// Its name and its acceptance formula stand above it. A state has its number, its name, its own label in brackets and
-/// its sets in braces; an edge its label, with the names of propositions, and its sets. An arrow from nowhere leads to
-/// each start. A universal branch, and a start of several states, leads to a point and from there to each of its
-/// states. States that are only counted, and neither defined nor started from nor entered, are not drawn. The text is
-/// in the DOT language (graphviz.org/doc/info/lang.html). The cost is linear in it.
+/// its sets in braces; an edge its label and its sets. An edge without a label in a state without one has the label of
+/// its valuation. Labels have the names of propositions, in quotes where they are no identifiers, or `t` or `f`. Edges
+/// of a state to the same one state share an arrow, which has the lines of each. An arrow from nowhere leads to each
+/// start. A universal branch, and a start of several states, leads to a point and from there to each of its states.
+/// States that are only counted, and neither defined nor started from nor entered, are not drawn. The text is in the DOT
+/// language (graphviz.org/doc/info/lang.html) and in UTF-8, whatever bytes the names have. The cost is linear in it, but
+/// for n log n in the edges of a state.
 pub fn draw_automaton(alloc: Global, automaton: &Automaton) -> Result<Vec<u8>, Refusal>
     ensures text { IfOk result (λ text. text.items ≡ drawing_of_automaton automaton.now) }
     ensures memory { IsOkUnless result Refusal.Memory }
@@ -25,7 +28,8 @@ pub fn draw_automaton(alloc: Global, automaton: &Automaton) -> Result<Vec<u8>, R
 }
 
 /// The drawing of an automaton with a lasso, given by the numbers of its edges: as that of the automaton, the edges of
-/// the cycle bold and red, and others of the stem bold and blue. Numbers of no edge change nothing. 60 alone.
+/// the cycle bold and red, and others of the stem bold and blue, each with its number and an arrow of its own. Numbers
+/// of no edge change nothing. 60 alone.
 pub fn draw_lasso(
     alloc: Global,
     automaton: &Automaton,

@@ -1,19 +1,20 @@
 //! The edges of an automaton.
 
-ghost use Rattle.std.specs.Prelude.{◌≡◌, ◌+◌, ◌^◌, ◌≤◌, ◌<◌, ◌++◌, IfSome, IsOkUnless, OnOk, length};
-ghost use Rattle.std.specs.List.{flat_map};
-ghost use Rattle.std.specs.Option.{option_copied};
-ghost use Rattle.omega_automaton.specs.Automaton.{IsEdge, IsLabel, IsState, edge_count, edges_from, edges_of};
-ghost use Rattle.omega_automaton_drawing.specs.AutomatonDrawing.{arrow_line, attributes_part, body_edge, branch_arrow, branch_name, branch_point, branch_text, edge_label_line, edge_text, style_part, tail_part};
-ghost use Rattle.omega_dot.specs.Numbered.{numbered};
+ghost use Rattle.std.specs.Prelude.{◌≡◌, ◌^◌, ◌<◌, ◌++◌, IsOkUnless, OnOk, length};
+ghost use Rattle.omega_automaton.specs.Automaton.{edge_count};
+ghost use Rattle.omega_automaton_drawing.specs.Arrows.{edge_text, edges_text, own_text, state_edges_text};
+ghost use Rattle.omega_automaton_drawing.specs.private.layout.Drawing.{HaveRoles, IsEdgeOf, drawn_all, drawn_at};
 ghost use Rattle.omega_automaton_drawing.specs.private.layout.Marking.{role_at};
+ghost use Rattle.omega_automaton_drawing.specs.private.layout.Sharing.{IsSharing, targets_of};
 
-use crate::naming::write_named;
-use crate::role::{Role, role_at};
-use crate::states::write_marks;
-use omega_acc::Label;
-use omega_automaton::{Automaton, EdgeRef, State};
-use omega_text::{Refusal, write_number};
+use crate::arrows::write_arrow;
+use crate::branches::write_branch;
+use crate::role::Role;
+use crate::shared_arrows::write_shared_arrow;
+use crate::sharing::{Sharing, sharing_of};
+use crate::state_edges::StateEdges;
+use omega_automaton::{Automaton, EdgeRef};
+use omega_text::Refusal;
 
 /// Appends all edges, each with its role.
 pub(crate) fn write_edges(
@@ -23,215 +24,79 @@ pub(crate) fn write_edges(
 ) -> Result<(), Refusal>
     requires entries { length roles.now ≡ edge_count automaton.now }
     requires counted { edge_count automaton.now < 2 ^ 32 }
-    ensures ok { OnOk result (out.new.items ≡ out.old.items ++ numbered (body_edge automaton.now (role_at roles.now)) 0 (edges_of automaton.now)) }
+    ensures ok { OnOk result (out.new.items ≡ out.old.items
+        ++ edges_text automaton.now.propositions (role_at roles.now) 0 automaton.now.defined) }
     ensures memory { IsOkUnless result Refusal.Memory }
 {
     automaton.keeps_limits();
-    let mut number: usize = 0;
+    let mut first: usize = 0;
     for state in automaton.defined() {
-        write_edges_of(automaton, roles, state, number, out)?;
-        number += state.edges.len();
+        let edges = StateEdges {
+            automaton,
+            roles,
+            state,
+            first,
+        };
+        write_edges_of(&edges, out)?;
+        first += state.edges.len();
     }
     Ok(())
 }
 
-/// Appends the edges of a state, which are numbered from a number on.
-fn write_edges_of(
-    automaton: &Automaton,
-    roles: &[Role],
-    state: &State,
-    number: usize,
-    out: &mut Vec<u8>,
-) -> Result<(), Refusal>
-    requires state { IsState automaton.now state.now }
-    requires within { number + length state.now.edges ≤ length roles.now }
-    ensures ok { OnOk result (out.new.items ≡ out.old.items ++ numbered (body_edge automaton.now (role_at roles.now)) number (edges_from state.now)) }
+/// Appends the edges of a state.
+fn write_edges_of(edges: &StateEdges<'_>, out: &mut Vec<u8>) -> Result<(), Refusal>
+    requires { HaveRoles edges.now }
+    ensures ok { OnOk result (out.new.items ≡ out.old.items
+        ++ state_edges_text edges.now.automaton.now.propositions (role_at edges.now.roles.now) edges.now.first edges.now.state.now) }
     ensures memory { IsOkUnless result Refusal.Memory }
 {
-    let mut next = number;
-    for at in 0..state.edges.len() {
-        let edge = state.edges.edge(at);
-        let role = role_at(roles, next);
-        write_edge(automaton, state.number, &edge, next, role, out)?;
-        next += 1;
+    let alloc = *out.allocator();
+    let targets = edges.targets(alloc)?;
+    let sharing = sharing_of(alloc, targets.as_slice())?;
+    for index in 0..edges.len() {
+        let edge = edges.edge(index);
+        write_edge(edges, &sharing, index, &edge, out)?;
     }
     Ok(())
 }
 
-/// Appends an edge of a state.
+/// Appends an edge of a state, or where edges share an arrow, the arrow for the first of them.
 fn write_edge(
-    automaton: &Automaton,
-    state: u32,
+    edges: &StateEdges<'_>,
+    sharing: &Sharing,
+    index: usize,
     edge: &EdgeRef<'_>,
-    number: usize,
-    role: Role,
     out: &mut Vec<u8>,
 ) -> Result<(), Refusal>
-    requires { IsEdge automaton.now edge.now }
-    ensures ok { OnOk result (out.new.items ≡ out.old.items ++ edge_text automaton.now.propositions number role state edge.now) }
+    requires roles { HaveRoles edges.now }
+    requires sharing { IsSharing (targets_of (drawn_all edges.now)) sharing.now }
+    requires edge { IsEdgeOf edges.now index edge.now }
+    ensures ok { OnOk result (out.new.items ≡ out.old.items
+        ++ edge_text edges.now.state.now.number (drawn_all edges.now) index (drawn_at edges.now index edge.now)) }
+    ensures memory { IsOkUnless result Refusal.Memory }
+{
+    match edges.target(index, edge) {
+        Some(target) => write_shared_arrow(edges, sharing, index, target, out),
+        None => write_own(edges, index, edge, out),
+    }
+}
+
+/// Appends an edge that shares no arrow.
+fn write_own(
+    edges: &StateEdges<'_>,
+    index: usize,
+    edge: &EdgeRef<'_>,
+    out: &mut Vec<u8>,
+) -> Result<(), Refusal>
+    requires roles { HaveRoles edges.now }
+    requires edge { IsEdgeOf edges.now index edge.now }
+    ensures ok { OnOk result (out.new.items ≡ out.old.items
+        ++ own_text edges.now.state.now.number (drawn_at edges.now index edge.now)) }
     ensures memory { IsOkUnless result Refusal.Memory }
 {
     if edge.targets().len() == 1 {
-        write_arrow(automaton, state, edge, role, out)
+        write_arrow(edges, index, edge, out)
     } else {
-        write_branch(automaton, state, edge, number, role, out)
+        write_branch(edges, index, edge, out)
     }
-}
-
-/// Appends an edge that leads to one state.
-fn write_arrow(
-    automaton: &Automaton,
-    state: u32,
-    edge: &EdgeRef<'_>,
-    role: Role,
-    out: &mut Vec<u8>,
-) -> Result<(), Refusal>
-    requires edge { IsEdge automaton.now edge.now }
-    requires single { length edge.now.targets ≡ 1 }
-    ensures ok { OnOk result (out.new.items ≡ out.old.items ++ arrow_line automaton.now.propositions role state edge.now) }
-    ensures memory { IsOkUnless result Refusal.Memory }
-{
-    write_tail(state, out)?;
-    write_number(u128::from(edge.targets()[0]), out)?;
-    write_attributes(automaton, edge, role, out)?;
-    out.extend_from_slice(b"];\n")?;
-    Ok(())
-}
-
-/// Appends an edge that leads to several states at once.
-fn write_branch(
-    automaton: &Automaton,
-    state: u32,
-    edge: &EdgeRef<'_>,
-    number: usize,
-    role: Role,
-    out: &mut Vec<u8>,
-) -> Result<(), Refusal>
-    requires { IsEdge automaton.now edge.now }
-    ensures ok { OnOk result (out.new.items ≡ out.old.items ++ branch_text automaton.now.propositions number role state edge.now) }
-    ensures memory { IsOkUnless result Refusal.Memory }
-{
-    write_tail(state, out)?;
-    write_branch_name(number, out)?;
-    write_attributes(automaton, edge, role, out)?;
-    out.extend_from_slice(b", arrowhead=none];\n")?;
-    write_branch_point(number, out)?;
-    write_branch_arrows(number, role, edge.targets(), out)?;
-    Ok(())
-}
-
-/// Appends the beginning of an arrow that leaves a state.
-fn write_tail(state: u32, out: &mut Vec<u8>) -> Result<(), Refusal>
-    ensures ok { OnOk result (out.new.items ≡ out.old.items ++ tail_part state) }
-    ensures memory { IsOkUnless result Refusal.Memory }
-{
-    out.extend_from_slice(b"  ")?;
-    write_number(u128::from(state), out)?;
-    out.extend_from_slice(b" -> ")?;
-    Ok(())
-}
-
-/// Appends the label of an edge and its style.
-fn write_attributes(
-    automaton: &Automaton,
-    edge: &EdgeRef<'_>,
-    role: Role,
-    out: &mut Vec<u8>,
-) -> Result<(), Refusal>
-    requires { IsEdge automaton.now edge.now }
-    ensures ok { OnOk result (out.new.items ≡ out.old.items ++ attributes_part automaton.now.propositions role edge.now) }
-    ensures memory { IsOkUnless result Refusal.Memory }
-{
-    out.extend_from_slice(b" [label=\"")?;
-    write_edge_label(automaton, edge.label(), out)?;
-    write_marks(edge.marks(), out)?;
-    out.push(b'"')?;
-    write_style(role, out)
-}
-
-/// Appends the line of an edge's label, if it has one.
-fn write_edge_label(
-    automaton: &Automaton,
-    label: Option<&Label>,
-    out: &mut Vec<u8>,
-) -> Result<(), Refusal>
-    requires { IfSome (option_copied label) (IsLabel automaton.now) }
-    ensures ok { OnOk result (out.new.items ≡ out.old.items ++ edge_label_line automaton.now.propositions (option_copied label.entry)) }
-    ensures memory { IsOkUnless result Refusal.Memory }
-{
-    automaton.keeps_limits();
-    if let Some(label) = label {
-        write_named(label, automaton.propositions(), out)?;
-        out.extend_from_slice(b"\\n")?;
-    }
-    Ok(())
-}
-
-/// Appends the style of a role.
-fn write_style(role: Role, out: &mut Vec<u8>) -> Result<(), Refusal>
-    ensures ok { OnOk result (out.new.items ≡ out.old.items ++ style_part role) }
-    ensures memory { IsOkUnless result Refusal.Memory }
-{
-    match role {
-        Role::Plain => {}
-        Role::Stem => out.extend_from_slice(b", style=bold, color=blue")?,
-        Role::Cycle => out.extend_from_slice(b", style=bold, color=red")?,
-    }
-    Ok(())
-}
-
-/// Appends the name of the point of a universal branch.
-fn write_branch_name(number: usize, out: &mut Vec<u8>) -> Result<(), Refusal>
-    ensures ok { OnOk result (out.new.items ≡ out.old.items ++ branch_name number) }
-    ensures memory { IsOkUnless result Refusal.Memory }
-{
-    out.extend_from_slice(b"branch")?;
-    write_number(number as u128, out)
-}
-
-/// Appends the point of a universal branch.
-fn write_branch_point(number: usize, out: &mut Vec<u8>) -> Result<(), Refusal>
-    ensures ok { OnOk result (out.new.items ≡ out.old.items ++ branch_point number) }
-    ensures memory { IsOkUnless result Refusal.Memory }
-{
-    out.extend_from_slice(b"  ")?;
-    write_branch_name(number, out)?;
-    out.extend_from_slice(b" [shape=point];\n")?;
-    Ok(())
-}
-
-/// Appends the arrows from the point of a universal branch.
-fn write_branch_arrows(
-    number: usize,
-    role: Role,
-    targets: &[u32],
-    out: &mut Vec<u8>,
-) -> Result<(), Refusal>
-    ensures ok { OnOk result (out.new.items ≡ out.old.items ++ flat_map (branch_arrow number role) targets.now) }
-    ensures memory { IsOkUnless result Refusal.Memory }
-{
-    for target in targets {
-        write_branch_arrow(number, role, *target, out)?;
-    }
-    Ok(())
-}
-
-/// Appends an arrow from the point of a universal branch to a state.
-fn write_branch_arrow(
-    number: usize,
-    role: Role,
-    target: u32,
-    out: &mut Vec<u8>,
-) -> Result<(), Refusal>
-    ensures ok { OnOk result (out.new.items ≡ out.old.items ++ branch_arrow number role target) }
-    ensures memory { IsOkUnless result Refusal.Memory }
-{
-    out.extend_from_slice(b"  ")?;
-    write_branch_name(number, out)?;
-    out.extend_from_slice(b" -> ")?;
-    write_number(u128::from(target), out)?;
-    out.extend_from_slice(b" [label=\"\"")?;
-    write_style(role, out)?;
-    out.extend_from_slice(b"];\n")?;
-    Ok(())
 }

@@ -1,10 +1,18 @@
 //! Drawings of omega-automata, as graphs in the DOT language.
 #![tactic(auto)]
 
+mod arrows;
 mod automaton_drawing;
+mod branches;
+mod edge_lines;
 mod edges;
+mod names;
 mod naming;
 mod role;
+mod shared_arrows;
+mod sharing;
+mod state_edges;
 mod states;
+mod valuations;
 
 pub use automaton_drawing::{draw_automaton, draw_lasso};

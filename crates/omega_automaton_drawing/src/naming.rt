@@ -8,9 +8,9 @@ ghost use Rattle.omega_text.specs.Bytes.{is_digit};
 ghost use Rattle.omega_automaton_drawing.specs.Expressions.{named_text};
 ghost use Rattle.omega_automaton_drawing.specs.private.layout.Naming.{AreOwed, pending_name, sign_text, with_digit, with_names};
 
+use crate::names::write_name_at;
 use omega_acc::{Label, write_label};
 use omega_automaton::MOST_PROPOSITIONS;
-use omega_dot::write_escaped;
 use omega_text::{ByteString, Refusal};
 
 /// Appends the text of a label with the names of its propositions.
@@ -81,12 +81,10 @@ fn write_pending(
     ensures ok { OnOk result (out.new.items ≡ out.old.items ++ pending_name names.now number) }
     ensures memory { IsOkUnless result Refusal.Memory }
 {
-    if let Some(number) = number {
-        if let Some(name) = names.get(number as usize) {
-            write_escaped(name.as_slice(), out)?;
-        }
+    match number {
+        Some(number) => write_name_at(names, number as usize, out),
+        None => Ok(()),
     }
-    Ok(())
 }
 
 /// Appends a sign of a label.

@@ -3,7 +3,8 @@
 ghost use Rattle.std.specs.Prelude.{◌≡◌, ◌++◌, IfSome, IsOkUnless, OnOk, decimal};
 ghost use Rattle.std.specs.List.{flat_map};
 ghost use Rattle.omega_automaton.specs.Automaton.{IsLabel, IsState};
-ghost use Rattle.omega_automaton_drawing.specs.AutomatonDrawing.{front, marks_line, spaced_numbers, point_end, start_arrow, start_point, start_text, state_front, state_label_line, drawn_state};
+ghost use Rattle.omega_automaton_drawing.specs.AutomatonDrawing.{front, point_end, start_arrow, start_point, start_text};
+ghost use Rattle.omega_automaton_drawing.specs.States.{drawn_state, marks_line, spaced_numbers, state_front, state_label_line};
 ghost use Rattle.omega_dot.specs.Numbered.{numbered};
 
 use crate::naming::write_named;

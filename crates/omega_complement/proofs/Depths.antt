@@ -1,52 +1,26 @@
--- What is written is as deep as what it means.
-use Rattle.std.proofs.Common.{◌≡◌, ◌+◌, ◌<◌, ◌≤◌, max, refl, ap, ap₂, ◌∙◌, arith}
-use Rattle.omega_acc.specs.formula.Acceptance.{AccTree, acc_depth}
+-- The dual formula with room for an atom more.
+use Rattle.std.proofs.Common.{◌≡◌, ◌<◌, ◌≤◌, ℕ, Bool, nat_lt, max, codes, refl, ap, arith}
+use Rattle.omega_acc.specs.Limits.{most_depth}
+use Rattle.omega_acc.specs.Writing.{acc_text}
+use Rattle.omega_acc.specs.WritingLaws.{acc_grouped, acc_written}
+use Rattle.omega_acc.specs.formula.Acceptance.{AccTree}
 use Rattle.omega_acc.specs.formula.Acceptance as acc
 use Rattle.omega_acc.specs.formula.Raw.{RawAccTree, raw_acc_depth}
-use Rattle.omega_acc.specs.label.Label.{LabelTree, label_depth}
-use Rattle.omega_acc.specs.label.Label as label
-use Rattle.omega_acc.specs.label.Raw.{RawLabelTree, raw_depth}
-use Rattle.omega_acc.specs.Limits.{most_depth}
-use Rattle.omega_complement.specs.Dual.{dual}
-use Rattle.omega_complement.specs.Written.{raw_acc_tree, raw_tree}
+use Rattle.omega_acc.specs.formula.Raw as raw_acc
 
-pub written_depth : (tree : LabelTree) → raw_depth (raw_tree tree) ≡ label_depth tree
-written_depth (label.constant value) = refl
-written_depth (label.proposition number) = refl
-written_depth (label.negation part) = ap (λ n. n + 1) (written_depth part)
-written_depth (label.conjunction left right) = ap₂ (λ m n. max m n + 1) (written_depth left) (written_depth right)
-written_depth (label.disjunction left right) = ap₂ (λ m n. max m n + 1) (written_depth left) (written_depth right)
+-- a formula before `|` needs no parentheses
+bare_before_or : (tree : AccTree) → acc_grouped (nat_lt (acc_text tree).rank 1) (acc_written tree) ≡ acc_written tree
+bare_before_or (acc.constant value) = refl
+bare_before_or (acc.inf negated set) = refl
+bare_before_or (acc.fin negated set) = refl
+bare_before_or (acc.conjunction left right) = refl
+bare_before_or (acc.disjunction left right) = refl
 
-pub dual_depth : (tree : AccTree) → raw_acc_depth (raw_acc_tree (dual tree)) ≡ acc_depth tree
-dual_depth (acc.constant value) = refl
-dual_depth (acc.inf negated set) = refl
-dual_depth (acc.fin negated set) = refl
-dual_depth (acc.conjunction left right) = ap₂ (λ m n. max m n + 1) (dual_depth left) (dual_depth right)
-dual_depth (acc.disjunction left right) = ap₂ (λ m n. max m n + 1) (dual_depth left) (dual_depth right)
-
--- parts of a formula that is not too deep can be joined
-pub dual_joins : (l r : AccTree) (left right : RawAccTree) → left ≡ raw_acc_tree (dual l) → right ≡ raw_acc_tree (dual r)
-    → max (acc_depth l) (acc_depth r) + 1 ≤ most_depth → most_depth ≤ max (raw_acc_depth left) (raw_acc_depth right) → ⊥
-dual_joins l r left right one other shallow deep =
-    let first : raw_acc_depth left ≡ acc_depth l = ap raw_acc_depth one ∙ dual_depth l in
-    let second : raw_acc_depth right ≡ acc_depth r = ap raw_acc_depth other ∙ dual_depth r in
-    omega (arith, first, second, shallow, deep)
-
-pub labels_join : (l r : LabelTree) (left right : RawLabelTree) → left ≡ raw_tree l → right ≡ raw_tree r
-    → max (label_depth l) (label_depth r) + 1 ≤ most_depth → most_depth ≤ max (raw_depth left) (raw_depth right) → ⊥
-labels_join l r left right one other shallow deep =
-    let first : raw_depth left ≡ label_depth l = ap raw_depth one ∙ written_depth l in
-    let second : raw_depth right ≡ label_depth r = ap raw_depth other ∙ written_depth r in
-    omega (arith, first, second, shallow, deep)
-
-pub label_negates : (l : LabelTree) (part : RawLabelTree) → part ≡ raw_tree l → label_depth l + 1 ≤ most_depth → most_depth ≤ raw_depth part → ⊥
-label_negates l part one shallow deep =
-    let first : raw_depth part ≡ label_depth l = ap raw_depth one ∙ written_depth l in
-    omega (arith, first, shallow, deep)
+-- nor does an atom behind it
+pub with_atom : (tree : AccTree) (negated : Bool) (set : ℕ)
+    → acc_written (acc.disjunction tree (acc.inf negated set)) ≡ raw_acc.disjunction (acc_written tree) (raw_acc.atom (codes "Inf") negated set)
+with_atom tree negated set = ap (λ (f : RawAccTree). raw_acc.disjunction f (raw_acc.atom (codes "Inf") negated set)) (bare_before_or tree)
 
 -- a formula that has room below the limit can be joined with an atom
-pub atom_joins : (l : AccTree) (left right : RawAccTree) → left ≡ raw_acc_tree (dual l) → raw_acc_depth right ≡ 1 → acc_depth l < most_depth
-    → most_depth ≤ max (raw_acc_depth left) (raw_acc_depth right) → ⊥
-atom_joins l left right one other shallow deep =
-    let first : raw_acc_depth left ≡ acc_depth l = ap raw_acc_depth one ∙ dual_depth l in
-    omega (arith, first, other, shallow, deep)
+pub atom_joins : (left right : RawAccTree) → raw_acc_depth right ≡ 1 → raw_acc_depth left < most_depth → most_depth ≤ max (raw_acc_depth left) (raw_acc_depth right) → ⊥
+atom_joins left right one shallow deep = omega (arith, one, shallow, deep)

@@ -1,99 +1,91 @@
 -- Refusals of a label that is judged are those of its state.
-use Rattle.std.proofs.Common.{◌≡◌, ℕ, ◌<◌, ◌⊎◌, inl, inr, Bool, List, length, sym, subst}
+use Rattle.std.proofs.Common.{◌≡◌, ℕ, ◌<◌, ◌⊎◌, inl, inr, Bool, false, List, length, Some, sym, subst, arith}
 use Rattle.omega_acc.specs.label.Label.{LabelTree}
+use Rattle.omega_acc.specs.label.Raw.{raw_depth}
 use Rattle.omega_acc.specs.label.Satisfiable.{mentioned}
 use Rattle.omega_acc.specs.label.Shape.{FitsALabel}
-use Rattle.omega_acc.specs.Limits.{most_mentioned}
-use Rattle.omega_acc.specs.Depth.{IsDeeper}
+use Rattle.omega_acc.specs.formula.Raw.{raw_acc_depth}
+use Rattle.omega_acc.specs.Limits.{most_depth, most_mentioned}
+use Rattle.omega_acc.specs.WritingLaws.{acc_written, label_written}
 use Rattle.omega_text.specs.Cases.{IsMemory}
 use Rattle.omega_text.specs.declared.refusal.Refusal.{Refusal}
-use Rattle.omega_text.specs.declared.refusal.Refusal.TheVariants.{Automaton, Game, Io, Memory, Task, Text}
+use Rattle.omega_text.specs.declared.refusal.automaton.AutomatonFault.{AutomatonFault}
 use Rattle.omega_text.specs.declared.refusal.task.TaskFault.{TaskFault}
 use Rattle.omega_text.specs.declared.refusal.task.TaskFault.TheVariants.{BadSolution, Budget, NotDeterministic, NotParity, TooLarge, TooManyPropositions, TooWide, UniversalBranch, UnknownNode}
 use Rattle.omega_automaton.specs.Automaton.{Description}
+use Rattle.omega_automaton.specs.Branching.{has_branch}
+use Rattle.omega_automaton.specs.Faults.{automaton_fault_of}
 use Rattle.omega_raw.specs.declared.raw_automaton.RawAutomaton.{RawAutomaton}
-use Rattle.omega_complement.specs.Complement.{AreApartBelow}
+use Rattle.omega_complement.specs.Complement.{AreApartBelow, AreFittingBelow}
+use Rattle.omega_complement.specs.Dual.{dual}
+use Rattle.omega_complement.specs.Judged.{IsJudged, IsWritten}
 use Rattle.omega_complement.specs.Labels.{is_full, labels_at, state_at}
-use Rattle.omega_complement.specs.Refusing.{HasStart, IsComplementFault, IsFirstFault, IsJudged, IsStateFault, IsUncomplemented}
+use Rattle.omega_complement.specs.Refusing.{HasStart, IsComplementFault, IsFirstFault, IsStateFault, IsUncomplemented}
 use Rattle.omega_complement.specs.Written.{IsWrittenComplement}
-use Rattle.omega_complement.specs.private.Turned.{AreRefused, IsStateRefusal, IsUnfit, IsUnformed, IsUnjudged}
+use Rattle.omega_complement.specs.private.Turned.{AreRefused, IsStateRefusal, IsUnformed, IsUnjudged}
+use Rattle.omega_complement.proofs.RoomTests.{deep_formula}
+use Rattle.omega_written.specs.Fitting.{FitsAText, IsLarge, IsUnfit}
+use Rattle.omega_written.proofs.Depths.{deep_text, unfit_text}
+use Rattle.omega_written.proofs.Refusals.{large_task, memory_task, task_weaker}
 
 module _ (full : Bool) (labels : List LabelTree) (number : ℕ) (label : LabelTree) where
-  pub unfit_refused : (refusal : Refusal) → IsJudged full labels label → IsUnfit label refusal → IsStateRefusal full labels number refusal
-  unfit_refused (Text fault) judged is = is
-  unfit_refused (Game fault) judged is = is
-  unfit_refused (Automaton fault) judged is = is
-  unfit_refused (Task fault) judged is = subst (IsStateFault full labels number) (sym is.0) (label, judged, is.1)
-  unfit_refused Memory judged is = tt
-  unfit_refused Io judged is = is
+  -- a label that is written and is no label, or is none in a text
+  pub unwritten_refused : (refusal : Refusal) → IsWritten labels label → IsLarge (FitsAText label → ⊥) refusal → IsStateRefusal full labels number refusal
+  unwritten_refused refusal written is =
+      large_task (FitsAText label → ⊥) (IsStateFault full labels number) (λ unfit. inr (label, written, unfit)) refusal is
+
+  pub unfit_refused : (refusal : Refusal) → IsWritten labels label → IsUnfit label refusal → IsStateRefusal full labels number refusal
+  unfit_refused refusal written is =
+      large_task (FitsALabel label → ⊥) (IsStateFault full labels number) (λ unfit. inr (label, written, unfit_text label unfit)) refusal is
+
+  pub deep_refused : (refusal : Refusal) → IsWritten labels label → IsLarge (most_depth < raw_depth (label_written label)) refusal → IsStateRefusal full labels number refusal
+  deep_refused refusal written is =
+      large_task (most_depth < raw_depth (label_written label)) (IsStateFault full labels number) (λ deep. inr (label, written, deep_text label deep)) refusal is
 
   pub unjudged_refused : (refusal : Refusal) → IsJudged full labels label → IsUnjudged label refusal → IsStateRefusal full labels number refusal
-  unjudged_refused (Text fault) judged is = is
-  unjudged_refused (Game fault) judged is = is
-  unjudged_refused (Automaton fault) judged is = is
-  unjudged_refused (Task fault) judged is = go is
+  unjudged_refused refusal judged is =
+      task_weaker (λ fault. ((fault ≡ TooLarge) × (FitsALabel label → ⊥)) ⊎ ((fault ≡ TooManyPropositions) × (most_mentioned < length (mentioned label))))
+      (IsStateFault full labels number) go refusal is
     where
-      go : ((fault ≡ TooLarge) × (FitsALabel label → ⊥)) ⊎ ((fault ≡ TooManyPropositions) × (most_mentioned < length (mentioned label)))
+      go : (fault : TaskFault) → ((fault ≡ TooLarge) × (FitsALabel label → ⊥)) ⊎ ((fault ≡ TooManyPropositions) × (most_mentioned < length (mentioned label)))
           → IsStateFault full labels number fault
-      go (inl large) = subst (IsStateFault full labels number) (sym large.0) (label, judged, large.1)
-      go (inr wide) = subst (IsStateFault full labels number) (sym wide.0) (label, judged, wide.1)
-  unjudged_refused Memory judged is = tt
-  unjudged_refused Io judged is = is
+      go fault (inl large) = subst (IsStateFault full labels number) (sym large.0) (inl (label, judged, large.1))
+      go fault (inr wide) = subst (IsStateFault full labels number) (sym wide.0) (label, judged, wide.1)
 
 -- want of memory
 pub memory_refused : (full : Bool) (labels : List LabelTree) (number : ℕ) (refusal : Refusal) → IsMemory refusal → IsStateRefusal full labels number refusal
-memory_refused full labels number (Text fault) is = absurd is
-memory_refused full labels number (Game fault) is = absurd is
-memory_refused full labels number (Automaton fault) is = absurd is
-memory_refused full labels number (Task fault) is = absurd is
-memory_refused full labels number Memory is = tt
-memory_refused full labels number Io is = absurd is
+memory_refused full labels number refusal is = memory_task (IsStateFault full labels number) refusal is
 
--- what is not deep is refused only for want of memory
-pub not_deep : (deep : Type 0) → (deep → ⊥) → (refusal : Refusal) → IsDeeper deep refusal → IsMemory refusal
-not_deep deep never (Text fault) is = is
-not_deep deep never (Game fault) is = is
-not_deep deep never (Automaton fault) is = never is.1
-not_deep deep never (Task fault) is = is
-not_deep deep never Memory is = tt
-not_deep deep never Io is = is
+-- a formula that is too deep leaves no room
+pub formula_refused : (a : Description) → has_branch a ≡ false → (refusal : Refusal) → IsLarge (most_depth < raw_acc_depth (acc_written (dual a.acceptance))) refusal
+    → IsUncomplemented a refusal
+formula_refused a plain refusal is =
+    large_task (most_depth < raw_acc_depth (acc_written (dual a.acceptance))) (IsComplementFault a) (λ deep. inl (plain, deep_formula a (omega (arith, deep)))) refusal is
 
--- the refusal of a state is that of the states, where those before it are deterministic
-pub state_refused : (a : Description) (number : ℕ) → number < a.states → AreApartBelow a number → (refusal : Refusal) → IsStateRefusal (is_full (length a.propositions) (state_at a number)) (labels_at a number) number refusal
+-- the refusal of a state is that of the states, where those before it are deterministic and fit
+pub state_refused : (a : Description) (number : ℕ) → number < a.states → AreApartBelow a number → AreFittingBelow a number → (refusal : Refusal) → IsStateRefusal (is_full (length a.propositions) (state_at a number)) (labels_at a number) number refusal
     → AreRefused a refusal
-state_refused a number below apart (Text fault) is = is
-state_refused a number below apart (Game fault) is = is
-state_refused a number below apart (Automaton fault) is = is
-state_refused a number below apart (Task fault) is = (number, below, apart, is)
-state_refused a number below apart Memory is = tt
-state_refused a number below apart Io is = is
+state_refused a number below apart fitting refusal is =
+    task_weaker (IsStateFault (is_full (length a.propositions) (state_at a number)) (labels_at a number) number) (IsFirstFault a)
+    (λ fault here. (number, below, apart, fitting, here)) refusal is
 
 -- and that of the complement
 fault_refused : (a : Description) → HasStart a → (fault : TaskFault) → IsFirstFault a fault → IsComplementFault a fault
-fault_refused a start NotParity is = is.3
-fault_refused a start UniversalBranch is = absurd is.3
+fault_refused a start NotParity is = is.4
+fault_refused a start UniversalBranch is = absurd is.4
 fault_refused a start TooManyPropositions is = (start, is)
-fault_refused a start TooWide is = is.3
-fault_refused a start Budget is = is.3
-fault_refused a start BadSolution is = is.3
-fault_refused a start UnknownNode is = is.3
+fault_refused a start TooWide is = is.4
+fault_refused a start Budget is = is.4
+fault_refused a start BadSolution is = is.4
+fault_refused a start UnknownNode is = is.4
 fault_refused a start TooLarge is = inr (start, inl is)
 fault_refused a start (NotDeterministic state) is = inr (start, is)
 
 pub states_refused : (a : Description) → HasStart a → (refusal : Refusal) → AreRefused a refusal → IsUncomplemented a refusal
-states_refused a start (Text fault) is = is
-states_refused a start (Game fault) is = is
-states_refused a start (Automaton fault) is = is
-states_refused a start (Task fault) is = fault_refused a start fault is
-states_refused a start Memory is = tt
-states_refused a start Io is = is
+states_refused a start refusal is = task_weaker (IsFirstFault a) (IsComplementFault a) (fault_refused a start) refusal is
 
-pub writing_refused : (a : Description) → HasStart a → AreApartBelow a a.states → (raw : RawAutomaton) → IsWrittenComplement a raw → (refusal : Refusal)
+pub writing_refused : (a : Description) → HasStart a → AreApartBelow a a.states → AreFittingBelow a a.states → (raw : RawAutomaton) → IsWrittenComplement a raw → (refusal : Refusal)
     → IsUnformed raw refusal → IsUncomplemented a refusal
-writing_refused a start apart raw written (Text fault) is = is
-writing_refused a start apart raw written (Game fault) is = is
-writing_refused a start apart raw written (Automaton fault) is = is
-writing_refused a start apart raw written (Task fault) is =
-    subst (IsComplementFault a) (sym is.0) (inr (start, inr (apart, (raw, written, is.1))))
-writing_refused a start apart raw written Memory is = tt
-writing_refused a start apart raw written Io is = is
+writing_refused a start apart fitting raw written refusal is =
+    large_task ((fault : AutomatonFault) × (automaton_fault_of raw ≡ Some fault)) (IsComplementFault a)
+    (λ broken. inr (start, inr (apart, fitting, (raw, written, broken)))) refusal is

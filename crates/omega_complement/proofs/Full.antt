@@ -8,10 +8,11 @@ use Rattle.std.proofs.lemmas.Option.{slice_get-get_or, slice_get_within}
 use Rattle.omega_acc.specs.label.Label.{LabelTree, truth}
 use Rattle.omega_automaton.specs.declared.edge.Edge.{Edge}
 use Rattle.omega_automaton.specs.declared.state.State.{State}
-use Rattle.omega_complement.specs.Labels.{is_full, label_at, labels_of, valuation_label}
+use Rattle.omega_complement.specs.Labels.{is_full, labels_of}
 use Rattle.omega_complement.specs.Letters.{AreApart, LacksLetter}
 use Rattle.omega_complement.proofs.Bits.{and_parts, index_of, one_index, valuation_true}
 use Rattle.omega_complement.proofs.Rows.{each_at, each_there}
+use Rattle.omega_written.specs.Labels.{label_at, valuation_label}
 
 all_at : {X : Type 0} (p : X → Bool) (xs : List X) (k : ℕ) (x : X) → list_all p xs ≡ true → slice_get xs k ≡ Some x → p x ≡ true
 all_at p [] k x all e = absurd (never e)

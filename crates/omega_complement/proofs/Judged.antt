@@ -1,12 +1,16 @@
--- Labels that are apart, one more at a time, and what is judged of them.
-use Rattle.std.proofs.Common.{◌≡◌, ℕ, suc, ◌+◌, ◌-◌, ◌/◌, ◌<◌, ◌≤◌, ◌⊎◌, ◌↔◌, inl, inr, Bool, false, List, [], ◌∷◌, length, take, drop, get_or, slice_get, Some, refl, sym, ap, subst, ◌∙◌, arith, true≢false}
-use Rattle.std.specs.Prelude.{IsTrue}
+-- Labels that are apart and fit, one more at a time, and their alternatives.
+use Rattle.std.proofs.Common.{◌≡◌, ℕ, suc, ◌+◌, ◌-◌, ◌/◌, ◌<◌, ◌≤◌, ◌⊎◌, inl, inr, Bool, List, [], ◌∷◌, length, take, drop, get_or, slice_get, Some, refl, sym, ap, subst, ◌∙◌, arith}
+use Rattle.std.specs.List.{All}
 use Rattle.std.proofs.lemmas.Bool.{cases_lt}
+use Rattle.std.proofs.lemmas.List.Elements.{All-contains}
 use Rattle.std.proofs.lemmas.List.{length-drop, length-take, take-append-drop}
-use Rattle.std.proofs.lemmas.Option.{slice_get_read, slice_get_within}
-use Rattle.omega_acc.specs.label.Label.{LabelTree, conjunction, disjunction}
-use Rattle.omega_acc.specs.label.Satisfiable.{IsSatisfiable}
-use Rattle.omega_complement.specs.Letters.{AreApart, IsAnyOf, IsPair, alone, halves}
+use Rattle.std.proofs.lemmas.Option.{get_or_from_slice_get, slice_get_read, slice_get_within}
+use Rattle.omega_acc.specs.label.Label.{LabelTree, disjunction}
+use Rattle.omega_acc.specs.label.Shape.{FitsALabel}
+use Rattle.omega_complement.specs.Judged.{AreFitting, IsBoth, IsJudged, IsOne, IsWritten}
+use Rattle.omega_complement.specs.Letters.{AreApart, IsAnyOf, IsPair, IsRest, LacksLetter, alone, halves}
+use Rattle.omega_complement.specs.private.Apart.{AreApartTo, IsApart, IsApartFrom}
+use Rattle.omega_written.specs.Fitting.{FitsAText}
 
 same_there : (labels : List LabelTree) (i : ℕ) (x y : LabelTree) → i < length labels → x ≡ get_or labels i x → slice_get labels i ≡ Some y → x ≡ y
 same_there labels i x y below here there = same (sym (slice_get_read labels (length labels) i x refl below here) ∙ there)
@@ -15,12 +19,6 @@ same_there labels i x y below here there = same (sym (slice_get_read labels (len
     same e = cc
 
 module _ (labels : List LabelTree) where
-  -- none before a place can be taken together with one
-  abbrev pub AreApartFrom : ℕ → ℕ → Type 0
-  AreApartFrom second count =
-      (first : ℕ) (one other : LabelTree) → first < count → slice_get labels first ≡ Some one → slice_get labels second ≡ Some other
-      → IsSatisfiable (conjunction one other) → ⊥
-
   pub a_pair : (first second : ℕ) (x y : LabelTree) → first < second → second < length labels → x ≡ get_or labels first x → y ≡ get_or labels second y → IsPair labels x y
   a_pair first second x y before below here there = record {
     first = first;
@@ -30,36 +28,55 @@ module _ (labels : List LabelTree) where
     second_is = slice_get_read labels (length labels) second y refl below there;
   }
 
-  pub apart_from_more : (second at : ℕ) (x y : LabelTree) (possible : Bool) → at < second → second < length labels → x ≡ get_or labels at x → y ≡ get_or labels second y
-      → (IsTrue possible ↔ IsSatisfiable (conjunction x y)) → possible ≡ false → AreApartFrom second at → AreApartFrom second (at + 1)
-  apart_from_more second at x y possible before below here there judged false_is earlier first one other within first_is second_is sat = go (cases_lt first at)
+  pub apart_from_more : (second at : ℕ) (x y : LabelTree) → at < second → second < length labels → x ≡ get_or labels at x → y ≡ get_or labels second y
+      → IsApart x y → IsApartFrom labels second at → IsApartFrom labels second (at + 1)
+  apart_from_more second at x y before below here there apart earlier first one other within first_is second_is = go (cases_lt first at)
     where
-      go : (first < at) ⊎ (at ≤ first) → ⊥
-      go (inl less) = earlier first one other less first_is second_is sat
+      go : (first < at) ⊎ (at ≤ first) → IsApart one other
+      go (inl less) = earlier first one other less first_is second_is
       go (inr past) =
           let last : at ≡ first = omega arith in
           let left : x ≡ one = same_there labels at x one (omega (arith, before, below)) here (ap (slice_get labels) last ∙ first_is) in
           let right : y ≡ other = same_there labels second y other below there second_is in
-          true≢false (sym (judged.1 (subst (λ (l : LabelTree). IsSatisfiable (conjunction l y)) (sym left) (subst (λ (r : LabelTree). IsSatisfiable (conjunction one r)) (sym right) sat))) ∙ false_is)
+          subst (λ (l : LabelTree). IsApart l other) left (subst (λ (r : LabelTree). IsApart x r) right apart)
 
-  pub apart_more : (at : ℕ) → ((second first : ℕ) (one other : LabelTree) → second < at → first < second → slice_get labels first ≡ Some one → slice_get labels second ≡ Some other
-      → IsSatisfiable (conjunction one other) → ⊥)
-      → AreApartFrom at at
-      → (second first : ℕ) (one other : LabelTree) → second < at + 1 → first < second → slice_get labels first ≡ Some one → slice_get labels second ≡ Some other
-      → IsSatisfiable (conjunction one other) → ⊥
-  apart_more at earlier here second first one other below before first_is second_is sat = go (cases_lt second at)
+  pub apart_more : (at : ℕ) → AreApartTo labels at → IsApartFrom labels at at → AreApartTo labels (at + 1)
+  apart_more at earlier here second below = go (cases_lt second at)
     where
-      go : (second < at) ⊎ (at ≤ second) → ⊥
-      go (inl less) = earlier second first one other less before first_is second_is sat
-      go (inr past) =
-          let last : second ≡ at = omega arith in
-          here first one other (omega (arith, before, last)) first_is (sym (ap (slice_get labels) last) ∙ second_is) sat
+      go : (second < at) ⊎ (at ≤ second) → IsApartFrom labels second second
+      go (inl less) = earlier second less
+      go (inr past) = let last : at ≡ second = omega arith in subst (λ n. IsApartFrom labels n n) last here
 
-  pub all_apart : (at : ℕ) → length labels ≤ at → ((second first : ℕ) (one other : LabelTree) → second < at → first < second → slice_get labels first ≡ Some one → slice_get labels second ≡ Some other
-      → IsSatisfiable (conjunction one other) → ⊥)
-      → AreApart labels
-  all_apart at whole are (x, (y, pair, sat)) =
-      are pair.second pair.first x y (omega (arith, whole, slice_get_within labels pair.second y pair.second_is)) pair.in_order pair.first_is pair.second_is sat
+  all_judged : (at : ℕ) → length labels ≤ at → AreApartTo labels at → (one other : LabelTree) → IsPair labels one other → IsApart one other
+  all_judged at whole are one other pair =
+      are pair.second (omega (arith, whole, slice_get_within labels pair.second other pair.second_is)) pair.first one other pair.in_order pair.first_is pair.second_is
+
+  pub all_apart : (at : ℕ) → length labels ≤ at → AreApartTo labels at → AreApart labels
+  all_apart at whole are (one, (other, pair, sat)) = (all_judged at whole are one other pair).apart sat
+
+  pub all_fit : (at : ℕ) → length labels ≤ at → AreApartTo labels at → (label : LabelTree) → IsBoth labels label → FitsALabel label
+  all_fit at whole are label (one, (other, pair, is)) = subst FitsALabel (sym is) (all_judged at whole are one other pair).fits
+
+-- what all labels are each is
+pub each_one : (P : LabelTree → Type 0) (labels : List LabelTree) → All P labels → (label : LabelTree) → IsOne labels label → P label
+each_one P labels all label (index, is) =
+    All-contains P labels label all (index, slice_get_within labels index label is, get_or_from_slice_get labels index label label is)
+
+module _ (full : Bool) (labels : List LabelTree) where
+  -- labels that are judged fit, where both of two do and the rest does
+  pub judged_fit : ((label : LabelTree) → IsBoth labels label → FitsALabel label) → ((label : LabelTree) → IsRest labels label → FitsALabel label)
+      → (label : LabelTree) → IsJudged full labels label → FitsALabel label
+  judged_fit both rest label (other, inl is) = both label is
+  judged_fit both rest label (other, inr is) = rest label is
+
+  -- and all fit, where each that is written does
+  pub all_fitting : ((label : LabelTree) → IsJudged full labels label → FitsALabel label)
+      → (LacksLetter labels → (label : LabelTree) → IsRest labels label → FitsAText label) → All FitsAText labels → AreFitting full labels
+  all_fitting judged rest all = record { judged = judged; written = go }
+    where
+      go : (label : LabelTree) → IsWritten labels label → FitsAText label
+      go label (inl one) = each_one FitsAText labels all label one
+      go label (inr (lacks, is)) = rest lacks label is
 
 -- the alternative of one label is the label
 pub any_of_one : (labels : List LabelTree) (x : LabelTree) → length labels ≡ 1 → x ≡ get_or labels 0 x → IsAnyOf labels x

@@ -8,4 +8,3 @@ pub mod RoomTests
 pub mod Rows
 pub mod StateNumbers
 pub mod Turned
-pub mod Valuations

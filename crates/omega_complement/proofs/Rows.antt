@@ -1,5 +1,5 @@
 -- What is given for each edge by its index, one edge more at a time, and at an index.
-use Rattle.std.proofs.Common.{◌≡◌, ℕ, zero, suc, ◌+◌, ◌<◌, ◌≤◌, List, [], ◌∷◌, ◌++◌, length, take, get_or, slice_get, Option, Some, None, option_map, refl, sym, ap, ◌∙◌, arith}
+use Rattle.std.proofs.Common.{◌≡◌, ℕ, zero, suc, ◌+◌, ◌<◌, ◌≤◌, List, [], ◌∷◌, ◌++◌, length, take, get_or, slice_get, Option, Some, None, option_map, refl, sym, ap, ap₂, ◌∙◌, arith}
 use Rattle.std.proofs.lemmas.Grind.{common_steps}
 use Rattle.std.proofs.lemmas.List.{length-take, take_more}
 use Rattle.std.proofs.lemmas.Option.{slice_get_read}
@@ -25,6 +25,12 @@ module _ {X : Type 0} (given : ℕ → Edge → X) where
       ∙ ap (λ (e : Edge). each_by_index given 0 (take at edges ++ e ∷ [])) (sym here)
       ∙ each_push 0 (take at edges) edge
       ∙ ap (λ i. each_by_index given 0 (take at edges) ++ given i edge ∷ []) long
+
+  -- what is given for it behind what is given for those
+  pub each_grown : (edges : List Edge) (at : ℕ) (edge : Edge) (items : List X) (x : X) → at < length edges → edge ≡ get_or edges at edge
+      → items ≡ each_by_index given 0 (take at edges) → x ≡ given at edge → items ++ x ∷ [] ≡ each_by_index given 0 (take (at + 1) edges)
+  each_grown edges at edge items x below here so_far is =
+      ap₂ (λ (ys : List X) (y : X). ys ++ y ∷ []) so_far is ∙ sym (each_more edges at edge below here)
 
   -- as many as edges
   pub each_length : (first : ℕ) (edges : List Edge) → length (each_by_index given first edges) ≡ length edges

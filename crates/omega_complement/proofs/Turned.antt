@@ -5,7 +5,8 @@ use Rattle.std.specs.Prelude.{IsTrue}
 use Rattle.std.proofs.lemmas.Bool.{cases_lt}
 use Rattle.omega_automaton.specs.Automaton.{Description}
 use Rattle.omega_raw.specs.declared.raw_state.RawState.{RawState}
-use Rattle.omega_complement.specs.Labels.{labels_at, state_at}
+use Rattle.omega_complement.specs.Judged.{AreFitting}
+use Rattle.omega_complement.specs.Labels.{is_full, labels_at, state_at}
 use Rattle.omega_complement.specs.Letters.{AreApart, LacksLetter}
 use Rattle.omega_complement.specs.Written.{IsTurned}
 use Rattle.omega_complement.specs.private.Turned.{AreTurned}
@@ -40,16 +41,19 @@ module _ (a : Description) where
   turned_none = record {
     turned = tt;
     apart = λ number below. absurd (omega arith);
+    fitting = λ number below. absurd (omega arith);
     lacking = (λ e. absurd (true≢false (sym e)), λ some. absurd (omega (arith, some.1)));
   }
 
   pub turned_more : (count : ℕ) (states : List RawState) (lacks : Bool) (raw : RawState) (more : Bool) → AreTurned a count states lacks
-      → IsTurned (length a.propositions) a.states (state_at a count) raw → AreApart (labels_at a count) → IsTrue more ↔ LacksLetter (labels_at a count)
+      → IsTurned (length a.propositions) a.states (state_at a count) raw → AreApart (labels_at a count)
+      → AreFitting (is_full (length a.propositions) (state_at a count)) (labels_at a count) → IsTrue more ↔ LacksLetter (labels_at a count)
       → AreTurned a (count + 1) (states ++ raw ∷ []) (lacks || more)
-  turned_more count states lacks raw more are turned apart lacking = record {
+  turned_more count states lacks raw more are turned apart fitting lacking = record {
     turned = subst (λ (numbers : List ℕ). AllZip (λ number. IsTurned (length a.propositions) a.states (state_at a number)) numbers (states ++ raw ∷ [])) (sym (ap (range_with_len 0) more_is ∙ range_push 0 count ∙ ap (λ n. range_with_len 0 count ++ n ∷ []) plain))
         (zip_push (λ number. IsTurned (length a.propositions) a.states (state_at a number)) (range_with_len 0 count) states count raw are.turned turned);
     apart = λ number below. at number (cases_lt number count) below;
+    fitting = λ number below. fit number (cases_lt number count) below;
     lacking = (λ e. found (or_cases lacks more e), λ some. told some.0 some.1 some.2 (cases_lt some.0 count));
   }
     where
@@ -65,6 +69,13 @@ module _ (a : Description) where
       at : (number : ℕ) → (number < count) ⊎ (count ≤ number) → number < count + 1 → AreApart (labels_at a number)
       at number (inl before) below = are.apart number before
       at number (inr past) below = let last : number ≡ count = omega arith in subst (λ n. AreApart (labels_at a n)) (sym last) apart
+
+      Fitting : ℕ → Type 0
+      Fitting n = AreFitting (is_full (length a.propositions) (state_at a n)) (labels_at a n)
+
+      fit : (number : ℕ) → (number < count) ⊎ (count ≤ number) → number < count + 1 → Fitting number
+      fit number (inl before) below = are.fitting number before
+      fit number (inr past) below = let last : number ≡ count = omega arith in subst Fitting (sym last) fitting
 
       found : (lacks ≡ true) ⊎ (more ≡ true) → (number : ℕ) × (number < count + 1) × LacksLetter (labels_at a number)
       found (inl e) = let earlier = are.lacking.0 e in (earlier.0, omega (arith, earlier.1), earlier.2)

@@ -2,26 +2,30 @@
 -- states and edges, an edge more for the letters that a state lacks, and the dual acceptance.
 use Rattle.std.specs.Prelude.{◌≡◌, ℕ, ◌+◌, ◌<◌, ◌≤◌, Bool, false, ◌||◌, nat_le, length}
 use Rattle.omega_text.specs.Limits.{most_number}
-use Rattle.omega_acc.specs.formula.Acceptance.{acc_depth}
 use Rattle.omega_acc.specs.Limits.{most_depth}
+use Rattle.omega_acc.specs.WritingLaws.{acc_written}
+use Rattle.omega_acc.specs.formula.Raw.{raw_acc_depth}
 use Rattle.omega_automaton.specs.Automaton.{Description, edge_count}
 use Rattle.omega_automaton.specs.Branching.{has_branch}
 use Rattle.omega_automaton.specs.Meaning.{Means}
 use Rattle.omega_raw.specs.declared.raw_automaton.RawAutomaton.{RawAutomaton}
-use Rattle.omega_complement.specs.Labels.{labels_at}
+use Rattle.omega_complement.specs.Dual.{dual}
+use Rattle.omega_complement.specs.Judged.{AreFitting}
+use Rattle.omega_complement.specs.Labels.{is_full, labels_at, state_at}
 use Rattle.omega_complement.specs.Letters.{AreApart}
-use Rattle.omega_complement.specs.Limits.{most_edges, most_states}
 use Rattle.omega_complement.specs.Written.{IsWrittenComplement}
+use Rattle.omega_written.specs.Limits.{most_edges, most_states}
 
 -- an automaton is the complement of one: it is what is written
 abbrev pub IsComplement : Description → Description → Type 0
 IsComplement a complement = (raw : RawAutomaton) × IsWrittenComplement a raw × Means raw complement
 
--- whether a further state, an edge more for each state, a further set or a formula one deeper would pass a limit
+-- whether a further state, an edge more for each state, a further set or, as it is written, a formula one deeper would
+-- pass a limit
 abbrev pub has_no_room : Description → Bool
 has_no_room a =
     nat_le most_states a.states || nat_le most_edges (edge_count a + a.states) || nat_le most_number a.sets
-    || nat_le most_depth (acc_depth a.acceptance)
+    || nat_le most_depth (raw_acc_depth (acc_written (dual a.acceptance)))
 
 -- at each letter one edge at most of each state with a number below this one can be taken
 abbrev pub AreApartBelow : Description → ℕ → Type 0
@@ -33,7 +37,13 @@ pub record IsDeterministic (a : Description) : Type 0 where
   pub one_start : length a.starts ≤ 1
   pub apart : AreApartBelow a a.states
 
+-- of each state with a number below this one the labels that are judged fit, and those that are written do
+abbrev pub AreFittingBelow : Description → ℕ → Type 0
+AreFittingBelow a count =
+    (number : ℕ) → number < count → AreFitting (is_full (length a.propositions) (state_at a number)) (labels_at a number)
+
 -- no refusal is due
 pub record IsGiven (a : Description) : Type 0 where
   pub deterministic : IsDeterministic a
   pub room : has_no_room a ≡ false
+  pub fitting : AreFittingBelow a a.states

@@ -3,46 +3,23 @@
 use Rattle.std.specs.Prelude.{◌≡◌, ◌⊎◌, ℕ, ◌<◌, ◌≤◌, Bool, true, false, List, length, slice_get, slice_index_or, Some}
 use Rattle.omega_text.specs.Cases.{never, or_memory, or_task}
 use Rattle.omega_text.specs.declared.refusal.Refusal.{Refusal}
-use Rattle.omega_text.specs.declared.refusal.automaton.AutomatonFault.TheVariants.{Expansion, TooDeep}
+use Rattle.omega_text.specs.declared.refusal.automaton.AutomatonFault.{AutomatonFault}
 use Rattle.omega_text.specs.declared.refusal.task.TaskFault.{TaskFault}
 use Rattle.omega_text.specs.declared.refusal.task.TaskFault.TheVariants.{BadSolution, Budget, NotDeterministic, NotParity, TooLarge, TooManyPropositions, TooWide, UniversalBranch, UnknownNode}
-use Rattle.omega_acc.specs.label.Label.{LabelTree, conjunction}
-use Rattle.omega_acc.specs.label.Satisfiable.{mentioned}
-use Rattle.omega_acc.specs.label.Shape.{FitsALabel}
-use Rattle.omega_acc.specs.Limits.{most_mentioned}
+use Rattle.omega_acc.specs.label.Label.{LabelTree}
 use Rattle.omega_automaton.specs.Automaton.{Description}
 use Rattle.omega_automaton.specs.Branching.{has_branch}
 use Rattle.omega_automaton.specs.Faults.{automaton_fault_of}
 use Rattle.omega_raw.specs.declared.raw_automaton.RawAutomaton.{RawAutomaton}
-use Rattle.omega_complement.specs.Complement.{AreApartBelow, has_no_room}
+use Rattle.omega_complement.specs.Complement.{AreApartBelow, AreFittingBelow, has_no_room}
+use Rattle.omega_complement.specs.Judged.{HasLarge, HasWide}
 use Rattle.omega_complement.specs.Labels.{is_full, labels_at, state_at}
-use Rattle.omega_complement.specs.Letters.{HasClash, IsPair, IsRest}
+use Rattle.omega_complement.specs.Letters.{HasClash}
 use Rattle.omega_complement.specs.Written.{IsWrittenComplement}
 
 -- the state of the second start
 abbrev pub IsSecondStart : Description → ℕ → Type 0
 IsSecondStart a state = (start : List ℕ) × (slice_get a.starts 1 ≡ Some start) × (state ≡ slice_index_or start 0 0)
-
--- the label of an edge
-abbrev pub IsOne : List LabelTree → LabelTree → Type 0
-IsOne labels label = (index : ℕ) × (slice_get labels index ≡ Some label)
-
--- both of two labels
-abbrev pub IsBoth : List LabelTree → LabelTree → Type 0
-IsBoth labels label = (one : LabelTree) × ((other : LabelTree) × IsPair labels one other × (label ≡ conjunction one other))
-
--- a label that is judged of a state: that of an edge, and where there is not an edge for each valuation, that of two
--- edges together and that of the rest of the letters
-abbrev pub IsJudged : Bool → List LabelTree → LabelTree → Type 0
-IsJudged full labels label = IsOne labels label ⊎ ((full ≡ false) × (IsBoth labels label ⊎ IsRest labels label))
-
--- a label that is judged mentions more propositions than the limit
-abbrev pub HasWide : Bool → List LabelTree → Type 0
-HasWide full labels = (label : LabelTree) × IsJudged full labels label × (most_mentioned < length (mentioned label))
-
--- a label that is judged is too deep or too large
-abbrev pub HasLarge : Bool → List LabelTree → Type 0
-HasLarge full labels = (label : LabelTree) × IsJudged full labels label × (FitsALabel label → ⊥)
 
 -- the fault of a state, which has an edge for each valuation or not, by the labels of its edges and its number
 abbrev pub IsStateFault : Bool → List LabelTree → ℕ → TaskFault → Type 0
@@ -56,17 +33,17 @@ IsStateFault full labels number UnknownNode = ⊥
 IsStateFault full labels number TooLarge = HasLarge full labels
 IsStateFault full labels number (NotDeterministic state) = (state ≡ number) × HasClash labels
 
--- a fault of a state, before which by number each state is deterministic
+-- a fault of a state, before which by number each state is deterministic and its labels fit
 abbrev pub IsFirstFault : Description → TaskFault → Type 0
 IsFirstFault a fault =
-    (number : ℕ) × (number < a.states) × AreApartBelow a number
+    (number : ℕ) × (number < a.states) × AreApartBelow a number × AreFittingBelow a number
     × IsStateFault (is_full (length a.propositions) (state_at a number)) (labels_at a number) number fault
 
--- what is written would be refused 32 or 33
+-- what is written breaks a limit of automata
 abbrev pub IsUnwritable : Description → Type 0
-IsUnwritable a = AreApartBelow a a.states
-    × ((raw : RawAutomaton) × IsWrittenComplement a raw
-    × ((automaton_fault_of raw ≡ Some TooDeep) ⊎ (automaton_fault_of raw ≡ Some Expansion)))
+IsUnwritable a =
+    AreApartBelow a a.states × AreFittingBelow a a.states
+    × ((raw : RawAutomaton) × IsWrittenComplement a raw × ((fault : AutomatonFault) × (automaton_fault_of raw ≡ Some fault)))
 
 -- neither 41 nor 55 by the counts applies
 pub record HasRoom (a : Description) : Type 0 where

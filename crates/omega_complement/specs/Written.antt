@@ -1,12 +1,11 @@
--- The complement of a deterministic automaton as it is written: header, states and edges (HOA v1, header and body).
+-- The complement of a deterministic automaton as a text writes it: header, states and edges (HOA v1, header and body),
+-- labels and the acceptance with parentheses only where they are needed.
 use Rattle.std.specs.Prelude.{◌≡◌, ◌⊎◌, ◌↔◌, ℕ, ◌+◌, ◌<◌, Bool, true, false, IsTrue, if◌then◌else◌, List, [], ◌∷◌, ◌++◌, length, slice_index_or, Option, None, Some, codes}
 use Rattle.std.specs.List.{AllZip, range_with_len}
+use Rattle.omega_acc.specs.WritingLaws.{acc_written, label_written}
 use Rattle.omega_acc.specs.formula.Acceptance.{AccTree}
 use Rattle.omega_acc.specs.formula.Acceptance as acc
-use Rattle.omega_acc.specs.formula.Raw.{RawAccTree}
-use Rattle.omega_acc.specs.formula.Raw as raw_acc
 use Rattle.omega_acc.specs.label.Label.{LabelTree}
-use Rattle.omega_acc.specs.label.Label as label
 use Rattle.omega_acc.specs.label.Raw.{RawLabelTree}
 use Rattle.omega_acc.specs.label.Raw as raw_label
 use Rattle.omega_automaton.specs.Automaton.{Description}
@@ -18,29 +17,14 @@ use Rattle.omega_raw.specs.declared.raw_item.RawItem.{RawItem}
 use Rattle.omega_raw.specs.declared.raw_item.RawItem.TheVariants as item
 use Rattle.omega_raw.specs.declared.raw_state.RawState.{RawState}
 use Rattle.omega_complement.specs.Dual.{dual}
-use Rattle.omega_complement.specs.Labels.{each_by_index, label_at, labels_at, labels_of, state_at}
+use Rattle.omega_complement.specs.Labels.{each_by_index, labels_at, labels_of, state_at}
 use Rattle.omega_complement.specs.Letters.{IsRest, LacksLetter}
-
--- a label as it is written
-abbrev pub raw_tree : LabelTree → RawLabelTree
-raw_tree (label.constant value) = raw_label.constant value
-raw_tree (label.proposition number) = raw_label.proposition number
-raw_tree (label.negation part) = raw_label.negation (raw_tree part)
-raw_tree (label.conjunction left right) = raw_label.conjunction (raw_tree left) (raw_tree right)
-raw_tree (label.disjunction left right) = raw_label.disjunction (raw_tree left) (raw_tree right)
-
--- an acceptance formula as it is written
-abbrev pub raw_acc_tree : AccTree → RawAccTree
-raw_acc_tree (acc.constant value) = raw_acc.constant value
-raw_acc_tree (acc.inf negated set) = raw_acc.atom (codes "Inf") negated set
-raw_acc_tree (acc.fin negated set) = raw_acc.atom (codes "Fin") negated set
-raw_acc_tree (acc.conjunction left right) = raw_acc.conjunction (raw_acc_tree left) (raw_acc_tree right)
-raw_acc_tree (acc.disjunction left right) = raw_acc.disjunction (raw_acc_tree left) (raw_acc_tree right)
+use Rattle.omega_written.specs.Labels.{label_at}
 
 -- an edge of a state by its index, to which label and marks of the state have moved
 abbrev pub turned_edge : ℕ → State → ℕ → Edge → RawEdge
 turned_edge count state index edge = record {
-  label = Some (raw_tree (label_at count state index edge));
+  label = Some (label_written (label_at count state index edge));
   targets = edge.targets;
   marks = Some (state.marks ++ edge.marks);
 }
@@ -52,7 +36,7 @@ turned_edges count state = each_by_index (turned_edge count state) 0 state.edges
 -- the letters at which no edge can be taken, as they are written; none where there is an edge for each letter
 abbrev pub IsMissing : List LabelTree → Option RawLabelTree → Type 0
 IsMissing labels None = LacksLetter labels → ⊥
-IsMissing labels (Some written) = LacksLetter labels × ((rest : LabelTree) × IsRest labels rest × (written ≡ raw_tree rest))
+IsMissing labels (Some written) = LacksLetter labels × ((rest : LabelTree) × IsRest labels rest × (written ≡ label_written rest))
 
 -- the further edge to the sink for the letters that are missing
 abbrev pub further_edges : ℕ → Option RawLabelTree → List RawEdge
@@ -93,17 +77,15 @@ abbrev pub sinks : Description → Bool → List RawState
 sinks a sink = if sink then sink_state a ∷ [] else []
 
 -- the acceptance: the dual, or else for ever in the sink
-abbrev pub complement_acceptance : Description → Bool → RawAccTree
-complement_acceptance a sink =
-    if sink then raw_acc.disjunction (raw_acc_tree (dual a.acceptance)) (raw_acc.atom (codes "Inf") false a.sets)
-    else raw_acc_tree (dual a.acceptance)
+abbrev pub complement_acceptance : Description → Bool → AccTree
+complement_acceptance a sink = if sink then acc.disjunction (dual a.acceptance) (acc.inf false a.sets) else dual a.acceptance
 
 -- the header; without a start the sink is one
 abbrev pub header : Description → Bool → List RawItem
 header a sink =
     item.States (a.states + one_if sink) ∷ item.Start (slice_index_or a.starts 0 (a.states ∷ []))
     ∷ item.Propositions (length a.propositions) a.propositions
-    ∷ item.Acceptance (a.sets + one_if sink) (complement_acceptance a sink) ∷ []
+    ∷ item.Acceptance (a.sets + one_if sink) (acc_written (complement_acceptance a sink)) ∷ []
 
 -- what is written is the complement: the states by their numbers, the sink last
 pub record IsWrittenComplement (a : Description) (raw : RawAutomaton) : Type 0 where

@@ -1,44 +1,48 @@
 //! The acceptance of a complement, as it is written.
 
-ghost use Rattle.std.specs.Prelude.{◌≡◌, ◌≤◌, IfErr, IfOk};
+ghost use Rattle.std.specs.Prelude.{◌≡◌, ◌<◌, IfErr, IfOk};
 ghost use Rattle.omega_text.specs.Cases.{IsMemory};
 ghost use Rattle.omega_acc.specs.Limits.{most_depth};
-ghost use Rattle.omega_acc.specs.formula.Acceptance.{acc_depth};
+ghost use Rattle.omega_acc.specs.WritingLaws.{acc_written};
+ghost use Rattle.omega_acc.specs.formula.Raw.{raw_acc_depth};
 ghost use Rattle.omega_acc.specs.formula.Shape.{acc_tree_of_shape};
 ghost use Rattle.omega_complement.specs.Dual.{dual};
-ghost use Rattle.omega_complement.specs.Written.{raw_acc_tree};
+ghost use Rattle.omega_written.specs.Fitting.{IsLarge};
 
 use omega_acc::{AccShape, RawAcc};
 use omega_automaton::Automaton;
 use omega_text::Refusal;
+use omega_written::written_formula;
 use std::alloc::Global;
 
-/// The dual of the acceptance of an automaton. 60 alone.
+/// The dual of the acceptance of an automaton. 55 where it is over 256 deep as it is written, or 60.
 pub(crate) fn dual_acceptance(alloc: Global, automaton: &Automaton) -> Result<RawAcc, Refusal>
-    ensures dual { IfOk result (λ raw. raw ≡ raw_acc_tree (dual automaton.now.acceptance)) }
-    ensures err { IfErr result IsMemory }
+    ensures dual { IfOk result (λ raw. raw ≡ acc_written (dual automaton.now.acceptance)) }
+    ensures err { IfErr result (IsLarge (most_depth < raw_acc_depth (acc_written (dual automaton.now.acceptance)))) }
 {
     let shape = automaton.acceptance().shape(alloc)?;
-    dual_of(alloc, &shape)
+    let dual = dual_of(alloc, &shape)?;
+    written_formula(alloc, &dual)
 }
 
 /// The dual of a formula. 60 alone.
-fn dual_of(alloc: Global, shape: &AccShape) -> Result<RawAcc, Refusal>
-    requires { acc_depth (acc_tree_of_shape shape.now) ≤ most_depth }
-    ensures dual { IfOk result (λ raw. raw ≡ raw_acc_tree (dual (acc_tree_of_shape shape.now))) }
+fn dual_of(alloc: Global, shape: &AccShape) -> Result<AccShape, Refusal>
+    ensures dual { IfOk result (λ turned. acc_tree_of_shape turned ≡ dual (acc_tree_of_shape shape.now)) }
     ensures err { IfErr result IsMemory }
 {
     match shape {
-        AccShape::Constant(value) => RawAcc::constant(alloc, !*value),
-        AccShape::Inf(negated, set) => RawAcc::atom(alloc, b"Fin", *negated, *set),
-        AccShape::Fin(negated, set) => RawAcc::atom(alloc, b"Inf", *negated, *set),
+        AccShape::Constant(value) => Ok(AccShape::Constant(!*value)),
+        AccShape::Inf(negated, set) => Ok(AccShape::Fin(*negated, *set)),
+        AccShape::Fin(negated, set) => Ok(AccShape::Inf(*negated, *set)),
         AccShape::And(left, right) => {
-            let left = dual_of(alloc, left)?;
-            left.or(dual_of(alloc, right)?)
+            let left = Box::new(alloc, dual_of(alloc, left)?)?;
+            let right = Box::new(alloc, dual_of(alloc, right)?)?;
+            Ok(AccShape::Or(left, right))
         }
         AccShape::Or(left, right) => {
-            let left = dual_of(alloc, left)?;
-            left.and(dual_of(alloc, right)?)
+            let left = Box::new(alloc, dual_of(alloc, left)?)?;
+            let right = Box::new(alloc, dual_of(alloc, right)?)?;
+            Ok(AccShape::And(left, right))
         }
     }
 }

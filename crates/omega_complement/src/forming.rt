@@ -2,19 +2,20 @@
 
 ghost use Rattle.std.specs.Prelude.{◌≡◌, ◌↔◌, ◌<◌, ◌++◌, ◌∷◌, [], ℕ, IsTrue, false, length, slice_index_or, IfErr, IfOk};
 ghost use Rattle.omega_text.specs.Cases.{IsMemory};
+ghost use Rattle.omega_acc.specs.WritingLaws.{acc_written};
 ghost use Rattle.omega_automaton.specs.Meaning.{Means};
 ghost use Rattle.omega_complement.specs.Complement.{has_no_room};
 ghost use Rattle.omega_complement.specs.Dual.{dual};
 ghost use Rattle.omega_complement.specs.Labels.{labels_at};
 ghost use Rattle.omega_complement.specs.Letters.{LacksLetter};
-ghost use Rattle.omega_complement.specs.Written.{IsWrittenComplement, NeedsSink, complement_acceptance, header, raw_acc_tree, sink_state, sinks};
+ghost use Rattle.omega_complement.specs.Written.{IsWrittenComplement, NeedsSink, complement_acceptance, header, sink_state, sinks};
 ghost use Rattle.omega_complement.specs.private.Turned.{AreTurned, IsUnformed};
 
 use crate::states::Body;
 use omega_acc::{RawAcc, RawLabel};
 use omega_automaton::{Automaton, RawAutomaton, StateName, automaton_of};
 use omega_raw::{RawEdge, RawEdges, RawItem, RawState};
-use omega_text::{AutomatonFault, ByteString, Marks, Numbers, Refusal, Seq, TaskFault};
+use omega_text::{ByteString, Marks, Numbers, Refusal, Seq, TaskFault};
 use std::alloc::Global;
 
 /// The complement as it is written, of the dual acceptance and the states. 60 alone.
@@ -25,7 +26,7 @@ pub(crate) fn written_complement(
     body: Body,
 ) -> Result<RawAutomaton, Refusal>
     requires room { has_no_room automaton.now ≡ false }
-    requires dual { formula ≡ raw_acc_tree (dual automaton.now.acceptance) }
+    requires dual { formula ≡ acc_written (dual automaton.now.acceptance) }
     requires turned { AreTurned automaton.now automaton.now.states body.states.items body.lacks }
     ensures written { IfOk result (IsWrittenComplement automaton.now) }
     ensures err { IfErr result IsMemory }
@@ -78,7 +79,7 @@ fn header(
     sink: bool,
 ) -> Result<Vec<RawItem>, Refusal>
     requires room { has_no_room automaton.now ≡ false }
-    requires dual { formula ≡ raw_acc_tree (dual automaton.now.acceptance) }
+    requires dual { formula ≡ acc_written (dual automaton.now.acceptance) }
     ensures items { IfOk result (λ items. items.items ≡ header automaton.now sink) }
     ensures err { IfErr result IsMemory }
 {
@@ -103,8 +104,8 @@ fn acceptance_of(
     sink: bool,
 ) -> Result<RawAcc, Refusal>
     requires room { has_no_room automaton.now ≡ false }
-    requires dual { formula ≡ raw_acc_tree (dual automaton.now.acceptance) }
-    ensures acceptance { IfOk result (λ written. written ≡ complement_acceptance automaton.now sink) }
+    requires dual { formula ≡ acc_written (dual automaton.now.acceptance) }
+    ensures acceptance { IfOk result (λ written. written ≡ acc_written (complement_acceptance automaton.now sink)) }
     ensures err { IfErr result IsMemory }
 {
     if !sink {
@@ -171,17 +172,15 @@ fn sink_state(alloc: Global, automaton: &Automaton) -> Result<RawState, Refusal>
     })
 }
 
-/// The automaton that is written so. 55 where a limit of expressions is broken, or 60. No other fault can be of a
-/// complement, as `complements_are_writable` of `omega_complement_laws` says.
+/// The automaton that is written so. 55 where what is written breaks a limit of automata, which
+/// `complements_are_writable` of `omega_complement_laws` says, or 60.
 pub(crate) fn formed(alloc: Global, raw: RawAutomaton) -> Result<Automaton, Refusal>
     ensures means { IfOk result (Means raw) }
     ensures err { IfErr result (IsUnformed raw) }
 {
     match automaton_of(alloc, raw) {
         Ok(automaton) => Ok(automaton),
-        Err(Refusal::Automaton(AutomatonFault::TooDeep | AutomatonFault::Expansion)) => {
-            Err(Refusal::Task(TaskFault::TooLarge))
-        }
-        Err(_) => Err(Refusal::Memory),
+        Err(Refusal::Automaton(_fault)) => Err(Refusal::Task(TaskFault::TooLarge)),
+        Err(refusal) => Err(refusal),
     }
 }

@@ -1,16 +1,18 @@
 //! Whether the labels of a state are apart: at each letter one edge at most can be taken.
 
-ghost use Rattle.std.specs.Prelude.{◌≡◌, ◌↔◌, ◌<◌, ℕ, false, IsTrue, IfErr, IfOk, OnOk, length, slice_get, Some};
+ghost use Rattle.std.specs.Prelude.{◌↔◌, ◌<◌, false, IsTrue, IfErr, IfOk, OnOk, length};
 ghost use Rattle.omega_acc.specs.label.Label.{LabelTree, conjunction};
 ghost use Rattle.omega_acc.specs.label.Satisfiable.{IsSatisfiable};
 ghost use Rattle.omega_acc.specs.label.Shape.{FitsALabel, label_tree_of_shape};
+ghost use Rattle.omega_complement.specs.Judged.{IsBoth};
 ghost use Rattle.omega_complement.specs.Letters.{AreApart};
+ghost use Rattle.omega_complement.specs.private.Apart.{IsApartFrom};
 ghost use Rattle.omega_complement.specs.private.Turned.{IsStateRefusal, IsUnjudged};
 
-use crate::labels::fitting;
 use omega_acc::{Label, LabelShape};
 use omega_satisfying::can_be_true;
 use omega_text::{Refusal, TaskFault};
+use omega_written::fitting_label;
 use std::alloc::Global;
 
 /// Whether a label can be true. 55 where it is over 256 deep or has over 65,536 atoms and operators, 42 where it
@@ -20,7 +22,7 @@ pub(crate) fn can_hold(alloc: Global, shape: &LabelShape) -> Result<bool, Refusa
     ensures fits { OnOk result (FitsALabel (label_tree_of_shape shape.now)) }
     ensures err { IfErr result (IsUnjudged (label_tree_of_shape shape.now)) }
 {
-    let label = fitting(alloc, shape)?;
+    let label = fitting_label(alloc, shape)?;
     can_be_true(alloc, &label)
 }
 
@@ -28,6 +30,7 @@ pub(crate) fn can_hold(alloc: Global, shape: &LabelShape) -> Result<bool, Refusa
 /// the state, or else 42, 55 or 60. Judges each two labels together.
 pub(crate) fn judge_apart(alloc: Global, labels: &[Label], number: u32) -> Result<(), Refusal>
     ensures apart { OnOk result (AreApart labels.now) }
+    ensures fits { OnOk result ((label : LabelTree) → IsBoth labels.now label → FitsALabel label) }
     ensures err { IfErr result (IsStateRefusal false labels.now number) }
 {
     for second in 0..labels.len() {
@@ -39,8 +42,7 @@ pub(crate) fn judge_apart(alloc: Global, labels: &[Label], number: u32) -> Resul
 /// Judges a label together with each one before it.
 fn judge_before(alloc: Global, labels: &[Label], second: usize, number: u32) -> Result<(), Refusal>
     requires { second < length labels.now }
-    ensures apart { OnOk result ((first : ℕ) (one other : LabelTree) → first < second → slice_get labels.now first ≡ Some one → slice_get labels.now second ≡ Some other
-        → IsSatisfiable (conjunction one other) → ⊥) }
+    ensures apart { OnOk result (IsApartFrom labels.now second second) }
     ensures err { IfErr result (IsStateRefusal false labels.now number) }
 {
     for first in 0..second {
@@ -54,6 +56,7 @@ fn judge_before(alloc: Global, labels: &[Label], second: usize, number: u32) -> 
 /// Whether two labels can be true together. 42, 55 or 60.
 fn can_meet(alloc: Global, one: &Label, other: &Label) -> Result<bool, Refusal>
     ensures judged { IfOk result (λ possible. IsTrue possible ↔ IsSatisfiable (conjunction one.now other.now)) }
+    ensures fits { OnOk result (FitsALabel (conjunction one.now other.now)) }
     ensures err { IfErr result (IsUnjudged (conjunction one.now other.now)) }
 {
     let left = Box::new(alloc, one.shape(alloc)?)?;

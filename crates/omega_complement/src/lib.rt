@@ -6,14 +6,12 @@ mod complementing;
 mod forming;
 mod judging;
 mod labels;
-mod limits;
 mod places;
 mod rest;
 mod room;
 mod states;
 mod turning;
-mod writing;
 
 pub use complementing::complement;
-pub use limits::{MOST_EDGES, MOST_STATES, complement_limits_are_stated};
 pub use omega_automaton::{Automaton, Refusal};
+pub use omega_written::{MOST_EDGES, MOST_STATES, written_limits_are_stated};

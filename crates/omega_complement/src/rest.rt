@@ -1,16 +1,18 @@
 //! The letters at which no edge of a state can be taken.
 
-ghost use Rattle.std.specs.Prelude.{◌≡◌, ◌<◌, false, length, IfErr, IfOk};
+ghost use Rattle.std.specs.Prelude.{◌<◌, false, length, IfErr, IfOk, OnOk};
 ghost use Rattle.omega_text.specs.Cases.{IsMemory};
-ghost use Rattle.omega_acc.specs.label.Shape.{label_tree_of_shape};
-ghost use Rattle.omega_complement.specs.Letters.{IsAnyOf, IsRest};
+ghost use Rattle.omega_acc.specs.label.Label.{LabelTree};
+ghost use Rattle.omega_acc.specs.label.Shape.{FitsALabel, label_tree_of_shape};
+ghost use Rattle.omega_complement.specs.Letters.{IsAnyOf, IsRest, LacksLetter};
 ghost use Rattle.omega_complement.specs.Written.{IsMissing};
 ghost use Rattle.omega_complement.specs.private.Turned.{IsStateRefusal};
+ghost use Rattle.omega_written.specs.Fitting.{FitsAText};
 
 use crate::judging::can_hold;
-use crate::writing::written;
 use omega_acc::{Label, LabelShape, RawLabel};
 use omega_text::Refusal;
+use omega_written::written_label;
 use std::alloc::Global;
 
 /// The letters at which no edge can be taken, none where there is an edge for each letter. 42, 55 or 60.
@@ -20,11 +22,13 @@ pub(crate) fn missing(
     _number: u32,
 ) -> Result<Option<RawLabel>, Refusal>
     ensures missing { IfOk result (IsMissing labels.now) }
+    ensures judged { OnOk result ((label : LabelTree) → IsRest labels.now label → FitsALabel label) }
+    ensures written { OnOk result (LacksLetter labels.now → (label : LabelTree) → IsRest labels.now label → FitsAText label) }
     ensures err { IfErr result (IsStateRefusal false labels.now _number) }
 {
     let rest = rest_of(alloc, labels)?;
     if can_hold(alloc, &rest)? {
-        Ok(Some(written(alloc, &rest)?))
+        Ok(Some(written_label(alloc, &rest)?))
     } else {
         Ok(None)
     }

@@ -2,24 +2,25 @@
 
 ghost use Rattle.std.specs.Prelude.{◌≡◌, nat_le};
 ghost use Rattle.omega_acc.specs.Limits.{most_depth};
+ghost use Rattle.omega_acc.specs.WritingLaws.{acc_written};
 ghost use Rattle.omega_acc.specs.formula.Raw.{raw_acc_depth};
 ghost use Rattle.omega_complement.specs.Complement.{has_no_room};
 ghost use Rattle.omega_complement.specs.Dual.{dual};
-ghost use Rattle.omega_complement.specs.Written.{raw_acc_tree};
 
-use crate::limits::{MOST_EDGES, MOST_STATES};
 use omega_acc::{MOST_DEPTH, RawAcc};
 use omega_automaton::Automaton;
 use omega_text::MOST_NUMBER;
+use omega_written::{MOST_EDGES, MOST_STATES};
 
-/// Whether one state more, an edge more for each state, one set more or a formula one deeper would pass a limit, by the
-/// dual acceptance.
+/// Whether one state more, an edge more for each state, one set more or, as it is written, a formula one deeper would
+/// pass a limit, by the dual acceptance as it is written.
 pub(crate) fn has_no_room(automaton: &Automaton, formula: &RawAcc) -> bool
-    requires { formula.now ≡ raw_acc_tree (dual automaton.now.acceptance) }
+    requires { formula.now ≡ acc_written (dual automaton.now.acceptance) }
     ensures { result ≡ has_no_room automaton.now }
 {
-    let edges = u64::from(automaton.edge_count()) + u64::from(automaton.state_count());
-    if MOST_STATES <= automaton.state_count() {
+    let states = automaton.state_count() as usize;
+    let edges = automaton.edge_count() as usize + states;
+    if MOST_STATES <= states {
         return true;
     }
     if MOST_EDGES <= edges {

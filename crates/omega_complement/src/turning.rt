@@ -1,21 +1,26 @@
 //! A state of a complement.
 
 ghost use Rattle.std.specs.Prelude.{◌≡◌, ◌↔◌, ◌++◌, ◌==◌, length, IsTrue, is_none, IfErr, IfOk, OnOk, Some};
-ghost use Rattle.std.specs.List.{list_all};
+ghost use Rattle.std.specs.List.{All, list_all};
 ghost use Rattle.omega_text.specs.Cases.{IsMemory};
-ghost use Rattle.omega_complement.specs.Labels.{is_full as has_all_edges, label_at, labels_of as labels_of_state};
-ghost use Rattle.omega_complement.specs.Letters.{AreApart, LacksLetter};
+ghost use Rattle.omega_acc.specs.label.Label.{LabelTree};
+ghost use Rattle.omega_acc.specs.label.Shape.{FitsALabel};
+ghost use Rattle.omega_complement.specs.Judged.{AreFitting, IsJudged};
+ghost use Rattle.omega_complement.specs.Labels.{is_full as has_all_edges, labels_of as labels_of_state};
+ghost use Rattle.omega_complement.specs.Letters.{AreApart, IsRest, LacksLetter};
 ghost use Rattle.omega_complement.specs.Written.{IsMissing, IsTurned, further_edges, turned_edge as edge_turned, turned_edges as edges_turned};
 ghost use Rattle.omega_complement.specs.private.Turned.{IsStateRefusal};
+ghost use Rattle.omega_written.specs.Fitting.{FitsAText, IsLarge};
+ghost use Rattle.omega_written.specs.Labels.{label_at};
 
 use crate::judging::judge_apart;
 use crate::labels::labels_of;
 use crate::rest::missing;
-use crate::writing::written_label;
 use omega_acc::{Label, RawLabel};
 use omega_automaton::{EdgeRef, State, StateName};
 use omega_raw::{RawEdge, RawEdges, RawState};
 use omega_text::{ByteString, Marks, Numbers, Refusal};
+use omega_written::written_label;
 use std::alloc::Global;
 
 /// A state of a complement, and whether it has an edge to the sink.
@@ -35,6 +40,7 @@ pub(crate) fn turned_state(
     ensures turned { IfOk result (λ turned. IsTurned count sink state.now turned.state) }
     ensures lacks { IfOk result (λ turned. IsTrue turned.lacks ↔ LacksLetter (labels_of_state count state.now)) }
     ensures apart { OnOk result (AreApart (labels_of_state count state.now)) }
+    ensures fitting { OnOk result (AreFitting (has_all_edges count state.now) (labels_of_state count state.now)) }
     ensures err { IfErr result (IsStateRefusal (has_all_edges count state.now) (labels_of_state count state.now) state.now.number) }
 {
     let labels = labels_of(alloc, count, state)?;
@@ -66,6 +72,8 @@ fn judged(
     requires { labels.now ≡ labels_of_state count state.now }
     ensures missing { IfOk result (IsMissing labels.now) }
     ensures apart { OnOk result (AreApart labels.now) }
+    ensures judged { OnOk result ((label : LabelTree) → IsJudged (has_all_edges count state.now) labels.now label → FitsALabel label) }
+    ensures written { OnOk result (LacksLetter labels.now → (label : LabelTree) → IsRest labels.now label → FitsAText label) }
     ensures err { IfErr result (IsStateRefusal (has_all_edges count state.now) labels.now state.now.number) }
 {
     if is_full(count, state) {
@@ -104,16 +112,18 @@ fn has_no_labels(state: &State) -> bool
     true
 }
 
-/// The edges of a state, to which its label and its marks have moved. 60 alone.
+/// The edges of a state, to which its label and its marks have moved. 55 or 60.
 fn turned_edges(
     alloc: Global,
     count: usize,
     state: &State,
     labels: &[Label],
 ) -> Result<RawEdges, Refusal>
-    requires { labels.now ≡ labels_of_state count state.now }
+    requires labels { labels.now ≡ labels_of_state count state.now }
+    requires fits { All FitsALabel labels.now }
     ensures edges { IfOk result (λ edges. edges ≡ edges_turned count state.now) }
-    ensures err { IfErr result IsMemory }
+    ensures written { OnOk result (All FitsAText labels.now) }
+    ensures err { IfErr result (IsStateRefusal (has_all_edges count state.now) labels.now state.now.number) }
 {
     let mut edges = RawEdges::new(alloc);
     for (at, label) in labels.iter().enumerate() {
@@ -124,7 +134,8 @@ fn turned_edges(
     Ok(edges)
 }
 
-/// The edge of a state at an index, of its label. The count and the index are named for the contract alone. 60 alone.
+/// The edge of a state at an index, of its label. The count and the index are named for the contract alone. 55 where
+/// the label is over 256 deep as it is written, or 60.
 fn turned_edge(
     alloc: Global,
     _count: usize,
@@ -133,11 +144,14 @@ fn turned_edge(
     edge: &EdgeRef<'_>,
     _at: usize,
 ) -> Result<RawEdge, Refusal>
-    requires { label.now ≡ label_at _count state.now _at edge.now }
+    requires label { label.now ≡ label_at _count state.now _at edge.now }
+    requires fits { FitsALabel label.now }
     ensures edge { IfOk result (λ turned. turned ≡ edge_turned _count state.now _at edge.now) }
-    ensures err { IfErr result IsMemory }
+    ensures written { OnOk result (FitsAText label.now) }
+    ensures err { IfErr result (IsLarge (FitsAText label.now → ⊥)) }
 {
-    let label = written_label(alloc, label)?;
+    let shape = label.shape(alloc)?;
+    let label = written_label(alloc, &shape)?;
     let targets = Numbers::from_slice(alloc, edge.targets())?;
     let mut marks = Numbers::from_slice(alloc, state.marks.as_slice())?;
     add_all(alloc, &mut marks, edge.marks())?;

@@ -17,7 +17,8 @@ use Rattle.omega_empty.specs.Words.{IsAccepted}
 use Rattle.omega_raw.specs.declared.raw_automaton.RawAutomaton.{RawAutomaton}
 use Rattle.omega_complement.specs.Complement.{IsDeterministic}
 use Rattle.omega_complement.specs.Dual.{dual}
-use Rattle.omega_complement.specs.Labels.{label_at, labels_at, state_at}
+use Rattle.omega_complement.specs.Labels.{labels_at, state_at}
+use Rattle.omega_written.specs.Labels.{label_at}
 use Rattle.omega_complement.specs.Letters.{AreApart}
 use Rattle.omega_complement.specs.Written.{IsWrittenComplement}
 use Rattle.omega_complement.proofs.Bits.{both_true}

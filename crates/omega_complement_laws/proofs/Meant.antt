@@ -1,15 +1,16 @@
 -- What the complement means, part by part, and its moves by those of the automaton.
-use Rattle.std.proofs.Common.{◌≡◌, ◌==◌, ℕ, zero, suc, ◌+◌, ◌-◌, ◌<◌, ◌≤◌, ◌⊎◌, inl, inr, Bool, true, false, not, ◌||◌, List, [], ◌∷◌, ◌++◌, length, slice_get, Option, Some, None, option_map, unwrap_or, Contains, max, refl, sym, ap, ap₂, subst, ◌∙◌, arith, eqb-true, eq-eqb, true≢false}
+use Rattle.std.proofs.Common.{◌≡◌, ◌==◌, ℕ, zero, suc, ◌+◌, ◌-◌, ◌<◌, ◌≤◌, ◌⊎◌, inl, inr, Bool, true, false, not, ◌||◌, List, [], ◌∷◌, ◌++◌, length, slice_get, Option, Some, None, option_map, unwrap_or, Contains, refl, sym, ap, ap₂, subst, ◌∙◌, arith, eqb-true, eq-eqb, true≢false}
 use Rattle.std.specs.Prelude.{option_and_then, slice_index_or}
 use Rattle.std.specs.List.{AllZip, filter_map, list_any, range_with_len}
 use Rattle.std.specs.Option.{option_or}
 use Rattle.std.proofs.lemmas.Bool.{cases_lt}
 use Rattle.std.proofs.lemmas.List.FromFn.{length-range_with_len}
 use Rattle.std.proofs.lemmas.Option.{slice_get-get_or, slice_get_within}
-use Rattle.omega_acc.specs.formula.Acceptance.{AccTree, holds}
+use Rattle.omega_acc.specs.formula.Acceptance.{holds}
 use Rattle.omega_acc.specs.formula.Acceptance as acc
-use Rattle.omega_acc.specs.formula.Meaning.{acc_meant, both_meant}
-use Rattle.omega_acc.specs.label.Expanding.{Defined, IsExpansion, Meaning, both, negated, replaced}
+use Rattle.omega_acc.specs.formula.Meaning.{acc_meant}
+use Rattle.omega_acc.specs.WritingLaws.{acc_written, label_written}
+use Rattle.omega_acc.specs.label.Expanding.{Defined, IsExpansion, Meaning}
 use Rattle.omega_acc.specs.label.Label.{LabelTree, truth}
 use Rattle.omega_acc.specs.label.Label as label
 use Rattle.omega_acc.specs.label.Raw.{RawLabelTree}
@@ -24,43 +25,26 @@ use Rattle.omega_raw.specs.declared.raw_edge.RawEdge.{RawEdge}
 use Rattle.omega_raw.specs.declared.raw_item.RawItem.{RawItem}
 use Rattle.omega_raw.specs.declared.raw_state.RawState.{RawState}
 use Rattle.omega_complement.specs.Dual.{dual}
-use Rattle.omega_complement.specs.Labels.{label_at, labels_at, state_among, state_at, valuation_label}
-use Rattle.omega_complement.specs.Written.{IsMissing, IsTurned, IsWrittenComplement, complement_acceptance, further_edges, raw_acc_tree, raw_tree, sink_state, sinks, turned_edge, turned_edges}
+use Rattle.omega_complement.specs.Labels.{labels_at, state_among, state_at}
+use Rattle.omega_complement.specs.Written.{IsMissing, IsTurned, IsWrittenComplement, complement_acceptance, further_edges, sink_state, sinks, turned_edge, turned_edges}
 use Rattle.omega_complement.proofs.Full.{any_at}
 use Rattle.omega_complement.proofs.Rests.{rest_true}
 use Rattle.omega_complement.proofs.Rows.{each_at, each_there}
 use Rattle.omega_complement.proofs.StateNumbers.{state_number}
+use Rattle.omega_acc.proofs.written.Formulas.{acc-means-itself}
+use Rattle.omega_acc.proofs.written.Labels.{means-itself}
+use Rattle.omega_written.specs.Labels.{label_at, valuation_label}
 use Rattle.omega_complement_laws.proofs.Moves.{IsMove}
 use Rattle.omega_complement_laws.proofs.Numbered.{get_left, get_right, never_some, same_some, state_is, state_there, zip_left, zip_right}
 
--- a label as it is written means itself
-pub replaced_raw : (tree : LabelTree) → (depth : ℕ) × (replaced [] (raw_tree tree) ≡ Some (record { tree = tree; depth = depth }))
-replaced_raw (label.constant value) = (1, refl)
-replaced_raw (label.proposition number) = (1, refl)
-replaced_raw (label.negation part) = let p = replaced_raw part in (p.0 + 1, ap (option_map negated) p.1)
-replaced_raw (label.conjunction left right) =
-    let l = replaced_raw left in let r = replaced_raw right in (max l.0 r.0 + 1, ap₂ (both label.conjunction) l.1 r.1)
-replaced_raw (label.disjunction left right) =
-    let l = replaced_raw left in let r = replaced_raw right in (max l.0 r.0 + 1, ap₂ (both label.disjunction) l.1 r.1)
-
-pub meant_is : (tree meant : LabelTree) → IsExpansion [] (raw_tree tree) meant → meant ≡ tree
-meant_is tree meant is =
-    let r = replaced_raw tree in
-    same_some meant tree (sym is.tree_is ∙ ap (option_map (λ (m : Meaning). m.tree)) r.1)
-
--- so does a formula
-pub acc_meant_raw : (tree : AccTree) → acc_meant (raw_acc_tree tree) ≡ Some tree
-acc_meant_raw (acc.constant value) = refl
-acc_meant_raw (acc.inf negated set) = refl
-acc_meant_raw (acc.fin negated set) = refl
-acc_meant_raw (acc.conjunction left right) = ap₂ (both_meant acc.conjunction) (acc_meant_raw left) (acc_meant_raw right)
-acc_meant_raw (acc.disjunction left right) = ap₂ (both_meant acc.disjunction) (acc_meant_raw left) (acc_meant_raw right)
+pub meant_is : (tree meant : LabelTree) → IsExpansion [] (label_written tree) meant → meant ≡ tree
+meant_is tree meant is = same_some meant tree (sym is.tree_is ∙ ap (option_map (λ (m : Meaning). m.tree)) (means-itself [] tree).means)
 
 no_label : (l : Option LabelTree) → IsLabelOf [] None l → l ≡ None
 no_label None is = refl
 no_label (Some tree) is = absurd is
 
-a_label : (tree : LabelTree) (l : Option LabelTree) → IsLabelOf [] (Some (raw_tree tree)) l → l ≡ Some tree
+a_label : (tree : LabelTree) (l : Option LabelTree) → IsLabelOf [] (Some (label_written tree)) l → l ≡ Some tree
 a_label tree None is = absurd is
 a_label tree (Some meant) is = ap Some (meant_is tree meant is)
 
@@ -128,20 +112,20 @@ module _ (a c : Description) (raw : RawAutomaton) (written : IsWrittenComplement
   pub starts_are : c.starts ≡ slice_index_or a.starts 0 (a.states ∷ []) ∷ []
   starts_are = means.starts ∙ ap (λ (items : List RawItem). filter_map start_in items) written.items
 
-  meant_acceptance : acc_meant (complement_acceptance a written.sink) ≡ Some c.acceptance
+  meant_acceptance : acc_meant (acc_written (complement_acceptance a written.sink)) ≡ Some c.acceptance
   meant_acceptance =
       sym (ap (λ (items : List RawItem). option_and_then (λ accepted. acc_meant accepted.formula) (first_said acceptance_in items)) written.items) ∙ means.acceptance
 
   pub acceptance_plain : written.sink ≡ false → c.acceptance ≡ dual a.acceptance
   acceptance_plain e =
       same_some c.acceptance (dual a.acceptance)
-      (sym meant_acceptance ∙ ap (λ b. acc_meant (complement_acceptance a b)) e ∙ acc_meant_raw (dual a.acceptance))
+      (sym meant_acceptance ∙ ap (λ b. acc_meant (acc_written (complement_acceptance a b))) e ∙ (acc-means-itself (dual a.acceptance)).means)
 
   pub acceptance_sink : written.sink ≡ true → c.acceptance ≡ acc.disjunction (dual a.acceptance) (acc.inf false a.sets)
   acceptance_sink e =
       same_some c.acceptance (acc.disjunction (dual a.acceptance) (acc.inf false a.sets))
-      (sym meant_acceptance ∙ ap (λ b. acc_meant (complement_acceptance a b)) e
-      ∙ acc_meant_raw (acc.disjunction (dual a.acceptance) (acc.inf false a.sets)))
+      (sym meant_acceptance ∙ ap (λ b. acc_meant (acc_written (complement_acceptance a b))) e
+      ∙ (acc-means-itself (acc.disjunction (dual a.acceptance) (acc.inf false a.sets))).means)
 
   states_meant : AllZip (IsStateOf []) raw.states c.defined
   states_meant = subst (λ (ds : List Defined). AllZip (IsStateOf ds) raw.states c.defined) none means.defined
@@ -393,7 +377,7 @@ module _ (a c : Description) (raw : RawAutomaton) (written : IsWrittenComplement
       s = sink_meant e
 
       sink_edge : RawEdge
-      sink_edge = record { label = Some (raw_tree (label.constant true)); targets = a.states ∷ []; marks = Some (a.sets ∷ []) }
+      sink_edge = record { label = Some (label_written (label.constant true)); targets = a.states ∷ []; marks = Some (a.sets ∷ []) }
 
       found : (y : Edge) × ((slice_get (state_at c a.states).edges 0 ≡ Some y) × IsEdgeOf [] sink_edge y)
       found = zip_left (IsEdgeOf []) (sink_state a).edges (state_at c a.states).edges 0 sink_edge s.edges refl

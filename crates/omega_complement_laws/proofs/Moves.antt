@@ -8,9 +8,10 @@ use Rattle.omega_automaton.specs.declared.edge.Edge.{Edge}
 use Rattle.omega_automaton.specs.declared.state.State.{State}
 use Rattle.omega_empty.specs.Lasso.{IsStep, label_of, marks_at, marks_of}
 use Rattle.omega_empty.specs.Words.{Allows, CanBeTaken, index_in}
-use Rattle.omega_complement.specs.Labels.{label_at, state_among, state_at, valuation_label}
+use Rattle.omega_complement.specs.Labels.{state_among, state_at}
 use Rattle.omega_complement.proofs.Bits.{valuation_held, valuation_true}
 use Rattle.omega_complement.proofs.StateNumbers.{state_number}
+use Rattle.omega_written.specs.Labels.{label_at, valuation_label}
 use Rattle.omega_complement_laws.proofs.Numbered.{IsFound, IsNumbered, edge_found, edge_numbered, same_some, state_is, state_there}
 
 -- at a letter an edge of a state is taken, to a state, with marks

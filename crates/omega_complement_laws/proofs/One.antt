@@ -1,9 +1,8 @@
 -- An automaton has one complement, since what is written of it is one.
-use Rattle.std.proofs.Common.{◌≡◌, ℕ, suc, ◌+◌, ◌<◌, ◌⊎◌, inl, inr, Bool, true, false, List, [], ◌∷◌, ◌++◌, length, take, drop, Option, Some, None, refl, sym, ap, ap₂, subst, ◌∙◌, arith, true≢false}
+use Rattle.std.proofs.Common.{◌≡◌, ℕ, Bool, true, false, List, [], ◌∷◌, ◌++◌, length, Option, Some, None, refl, sym, ap, ap₂, subst, ◌∙◌, true≢false}
 use Rattle.std.specs.List.{AllZip, range_with_len}
-use Rattle.std.proofs.lemmas.List.{length-append}
-use Rattle.std.proofs.Math.Seq.{drop-append_seam, take-append_seam}
-use Rattle.omega_acc.specs.label.Label.{LabelTree, disjunction, negation}
+use Rattle.omega_acc.specs.WritingLaws.{label_written}
+use Rattle.omega_acc.specs.label.Label.{LabelTree}
 use Rattle.omega_acc.specs.label.Raw.{RawLabelTree}
 use Rattle.omega_automaton.specs.Automaton.{Description}
 use Rattle.omega_automaton.specs.Meaning.{Means}
@@ -14,52 +13,16 @@ use Rattle.omega_raw.specs.declared.raw_edge.RawEdge.{RawEdge}
 use Rattle.omega_raw.specs.declared.raw_item.RawItem.{RawItem}
 use Rattle.omega_raw.specs.declared.raw_state.RawState.{RawState}
 use Rattle.omega_complement.specs.Labels.{labels_of, state_at}
-use Rattle.omega_complement.specs.Letters.{IsAnyOf, IsRest, alone, halves}
-use Rattle.omega_complement.specs.Written.{IsMissing, IsTurned, IsWrittenComplement, further_edges, header, raw_tree, sinks, turned_edges}
+use Rattle.omega_complement.specs.Written.{IsMissing, IsTurned, IsWrittenComplement, further_edges, header, sinks, turned_edges}
+use Rattle.omega_complement.proofs.Rests.{rest_one}
 use Rattle.omega_complement_laws.specs.Laws.{ComplementsAreOne}
-
-any_some : (labels : List LabelTree) (any : LabelTree) → IsAnyOf labels any → 0 < length labels
-any_some labels any (alone l) = omega arith
-any_some labels any (halves left right x y even first second) = omega (arith, length-append left right, any_some left x first)
-
-even_half : (m n p q : ℕ) → (n ≡ m) ⊎ (n ≡ suc m) → (q ≡ p) ⊎ (q ≡ suc p) → m + n ≡ p + q → m ≡ p
-even_half m n p q (inl e) (inl f) same = omega (arith, e, f, same)
-even_half m n p q (inl e) (inr f) same = omega (arith, e, f, same)
-even_half m n p q (inr e) (inl f) same = omega (arith, e, f, same)
-even_half m n p q (inr e) (inr f) same = omega (arith, e, f, same)
-
-one_item : (x y : LabelTree) → x ∷ [] ≡ y ∷ [] → x ≡ y
-one_item x y e = cc
-
-any_one : (labels others : List LabelTree) (x y : LabelTree) → labels ≡ others → IsAnyOf labels x → IsAnyOf others y → x ≡ y
-any_one labels others x y same (alone l) (alone m) = one_item l m same
-any_one labels others x y same (alone l) (halves left right u v even first second) =
-    absurd (omega (arith, ap length same, length-append left right, any_some left u first, any_some right v second))
-any_one labels others x y same (halves left right u v even first second) (alone m) =
-    absurd (omega (arith, ap length same, length-append left right, any_some left u first, any_some right v second))
-any_one labels others x y same (halves left right u v even first second) (halves front back s t half third fourth) =
-    ap₂ disjunction (any_one left front u s fronts first third) (any_one right back v t backs second fourth)
-  where
-    middle : length left ≡ length front
-    middle =
-        even_half (length left) (length right) (length front) (length back) even half (sym (length-append left right) ∙ ap length same ∙ length-append front back)
-
-    fronts : left ≡ front
-    fronts = sym (take-append_seam left right) ∙ ap₂ (λ (n : ℕ) (ls : List LabelTree). take n ls) middle same ∙ take-append_seam front back
-
-    backs : right ≡ back
-    backs = sym (drop-append_seam left right) ∙ ap₂ (λ (n : ℕ) (ls : List LabelTree). drop n ls) middle same ∙ drop-append_seam front back
-
-rest_one : (labels : List LabelTree) (x y : LabelTree) → IsRest labels x → IsRest labels y → x ≡ y
-rest_one [] x y one other = one ∙ sym other
-rest_one (l ∷ labels) x y one other = one.2 ∙ ap negation (any_one (l ∷ labels) (l ∷ labels) one.0 other.0 refl one.1 other.1) ∙ sym other.2
 
 missing_one : (labels : List LabelTree) (x y : Option RawLabelTree) → IsMissing labels x → IsMissing labels y → x ≡ y
 missing_one labels None None one other = refl
 missing_one labels None (Some v) one other = absurd (one other.0)
 missing_one labels (Some w) None one other = absurd (other one.0)
 missing_one labels (Some w) (Some v) one other =
-    ap Some (one.1.2 ∙ ap raw_tree (rest_one labels one.1.0 other.1.0 one.1.1 other.1.1) ∙ sym other.1.2)
+    ap Some (one.1.2 ∙ ap label_written (rest_one labels one.1.0 other.1.0 one.1.1 other.1.1) ∙ sym other.1.2)
 
 state_one : (r s : RawState) → r.label ≡ s.label → r.number ≡ s.number → r.name ≡ s.name → r.marks ≡ s.marks → r.edges ≡ s.edges → r ≡ s
 state_one r s label number name marks edges =

@@ -8,6 +8,7 @@ use Rattle.std.proofs.lemmas.Bool.{cases_lt}
 use Rattle.std.proofs.lemmas.List.Elements.{All-contains, Contains-append_cases}
 use Rattle.std.proofs.lemmas.List.Folds.{list_all-append}
 use Rattle.std.proofs.lemmas.Option.{slice_get_within}
+use Rattle.omega_acc.specs.WritingLaws.{label_written}
 use Rattle.omega_acc.specs.label.Label.{LabelTree, propositions}
 use Rattle.omega_acc.specs.label.Label as label
 use Rattle.omega_acc.specs.label.Raw.{RawLabelTree}
@@ -18,12 +19,13 @@ use Rattle.omega_raw.specs.declared.raw_automaton.RawAutomaton.{RawAutomaton}
 use Rattle.omega_raw.specs.declared.raw_edge.RawEdge.{RawEdge}
 use Rattle.omega_raw.specs.declared.raw_state.RawState.{RawState}
 use Rattle.omega_complement.specs.Complement.{IsDeterministic}
-use Rattle.omega_complement.specs.Labels.{label_at, labels_at, literal, state_at, valuation_label}
+use Rattle.omega_complement.specs.Labels.{labels_at, state_at}
 use Rattle.omega_complement.specs.Letters.{IsAnyOf, IsRest, alone, halves}
-use Rattle.omega_complement.specs.Written.{IsMissing, IsTurned, IsWrittenComplement, further_edges, one_if, raw_tree, sink_state, sinks, turned_edge, turned_edges}
+use Rattle.omega_complement.specs.Written.{IsMissing, IsTurned, IsWrittenComplement, further_edges, one_if, sink_state, sinks, turned_edge, turned_edges}
 use Rattle.omega_complement.proofs.Bits.{both_true}
 use Rattle.omega_complement.proofs.Rows.{each_at}
 use Rattle.omega_complement.proofs.StateNumbers.{state_number}
+use Rattle.omega_written.specs.Labels.{label_at, literal, valuation_label}
 use Rattle.omega_complement_laws.proofs.Apart.{edge_of, get_Contains}
 use Rattle.omega_complement_laws.proofs.Meant.{range_at}
 use Rattle.omega_complement_laws.proofs.Numbered.{get_left, get_right, never_some, same_some, zip_right}
@@ -101,7 +103,7 @@ rest_over count (l ∷ labels) rest is all = ap (is_over count) is.2 ∙ any_ove
 -- an edge as it is written: a label over the propositions, one target, and marks below the count of sets
 pub record IsPart (count states sets : ℕ) (edge : RawEdge) : Type 0 where
   pub tree : LabelTree
-  pub label : edge.label ≡ Some (raw_tree tree)
+  pub label : edge.label ≡ Some (label_written tree)
   pub over : is_over count tree ≡ true
   pub target : ℕ
   pub targets : edge.targets ≡ target ∷ []
@@ -218,11 +220,11 @@ module _ (a : Description) (is_a : IsAutomaton a) (deterministic : IsDeterminist
             })
           where
             sink_edge : RawEdge
-            sink_edge = record { label = Some (raw_tree (label.constant true)); targets = a.states ∷ []; marks = Some (a.sets ∷ []) }
+            sink_edge = record { label = Some (label_written (label.constant true)); targets = a.states ∷ []; marks = Some (a.sets ∷ []) }
 
             sink_part : (j : ℕ) (edge : RawEdge) → slice_get (sink_state a).edges j ≡ Some edge → IsPart (length a.propositions) (a.states + 1) (a.sets + 1) edge
             sink_part zero edge f =
-                subst (IsPart (length a.propositions) (a.states + 1) (a.sets + 1)) (same_some (record { label = Some (raw_tree (label.constant true)); targets = a.states ∷ []; marks = Some (a.sets ∷ []) }) edge f)
+                subst (IsPart (length a.propositions) (a.states + 1) (a.sets + 1)) (same_some (record { label = Some (label_written (label.constant true)); targets = a.states ∷ []; marks = Some (a.sets ∷ []) }) edge f)
                 (record {
                   tree = label.constant true;
                   label = refl;

@@ -8,7 +8,10 @@ use Rattle.omega_text.specs.declared.refusal.automaton.AutomatonFault.{Automaton
 use Rattle.omega_text.specs.declared.refusal.automaton.AutomatonFault.TheVariants.{AcceptanceAtom, Alias, Expansion, ImplicitCount, MissingAcceptance, MixedLabels, Proposition, RepeatedHeader, SetRange, StateRange, StateTwice, TooDeep, UnknownHeader, Version}
 use Rattle.omega_acc.specs.formula.Acceptance.{AccTree}
 use Rattle.omega_acc.specs.formula.Acceptance as acc
+use Rattle.omega_acc.specs.Writing.{acc_text, label_text}
+use Rattle.omega_acc.specs.WritingLaws.{acc_grouped, acc_written, grouped, label_written}
 use Rattle.omega_acc.specs.formula.Meaning.{acc_meant, acc_sets}
+use Rattle.omega_acc.specs.formula.Raw.{RawAccTree}
 use Rattle.omega_acc.specs.label.Expanding.{Defined, Entry, entries_of, expansion}
 use Rattle.omega_acc.specs.label.Label.{LabelTree, propositions}
 use Rattle.omega_acc.specs.label.Label as label
@@ -25,10 +28,12 @@ use Rattle.omega_raw.specs.declared.raw_state.RawState.{RawState}
 use Rattle.omega_complement.specs.Complement.{IsDeterministic}
 use Rattle.omega_complement.specs.Dual.{dual}
 use Rattle.omega_complement.specs.Labels.{state_at}
-use Rattle.omega_complement.specs.Written.{IsTurned, IsWrittenComplement, complement_acceptance, header, one_if, raw_acc_tree, raw_tree, sinks}
+use Rattle.omega_complement.specs.Written.{IsTurned, IsWrittenComplement, complement_acceptance, header, one_if, sinks}
 use Rattle.omega_complement.proofs.StateNumbers.{state_number}
 use Rattle.omega_complement.proofs.Turned.{range_push}
-use Rattle.omega_complement_laws.proofs.Meant.{acc_meant_raw, range_at, replaced_raw}
+use Rattle.omega_acc.proofs.written.Formulas.{acc-means-itself}
+use Rattle.omega_acc.proofs.written.Labels.{means-itself}
+use Rattle.omega_complement_laws.proofs.Meant.{range_at}
 use Rattle.omega_complement_laws.proofs.Parts.{IsWhole, any_none, are_below, below_pass, joined_below, le_false, lt_true, states_whole}
 use Rattle.omega_complement_laws.proofs.Plain.{Beginning, IsGood, beginning}
 use Rattle.omega_complement_laws.specs.Laws.{ComplementsAreWritable}
@@ -44,14 +49,38 @@ and_left : (b c : Bool) → b ≡ false → (b && c) ≡ false
 and_left true c e = absurd (true≢false e)
 and_left false c e = refl
 
-raw_over : (tree : LabelTree) → raw_propositions (raw_tree tree) ≡ propositions tree
-raw_over (label.constant value) = refl
-raw_over (label.proposition number) = refl
-raw_over (label.negation part) = raw_over part
-raw_over (label.conjunction left right) = ap₂ (λ (x y : List ℕ). x ++ y) (raw_over left) (raw_over right)
-raw_over (label.disjunction left right) = ap₂ (λ (x y : List ℕ). x ++ y) (raw_over left) (raw_over right)
+-- parentheses hide nothing
+grouped_over : (within : Bool) (raw : RawLabelTree) → raw_propositions (grouped within raw) ≡ raw_propositions raw
+grouped_over true raw = refl
+grouped_over false raw = refl
 
-dual_sets : (tree : AccTree) → acc_sets (raw_acc_tree (dual tree)) ≡ sets_of tree
+written_over : (tree : LabelTree) → raw_propositions (label_written tree) ≡ propositions tree
+written_over (label.constant value) = refl
+written_over (label.proposition number) = refl
+written_over (label.negation part) = grouped_over (nat_lt (label_text part).rank 3) (label_written part) ∙ written_over part
+written_over (label.conjunction left right) =
+    ap₂ (λ (x y : List ℕ). x ++ y) (grouped_over (nat_lt (label_text left).rank 2) (label_written left) ∙ written_over left)
+    (grouped_over (nat_le (label_text right).rank 2) (label_written right) ∙ written_over right)
+written_over (label.disjunction left right) =
+    ap₂ (λ (x y : List ℕ). x ++ y) (grouped_over (nat_lt (label_text left).rank 1) (label_written left) ∙ written_over left)
+    (grouped_over (nat_le (label_text right).rank 1) (label_written right) ∙ written_over right)
+
+grouped_sets : (within : Bool) (raw : RawAccTree) → acc_sets (acc_grouped within raw) ≡ acc_sets raw
+grouped_sets true raw = refl
+grouped_sets false raw = refl
+
+written_sets : (tree : AccTree) → acc_sets (acc_written tree) ≡ sets_of tree
+written_sets (acc.constant value) = refl
+written_sets (acc.inf negated set) = refl
+written_sets (acc.fin negated set) = refl
+written_sets (acc.conjunction left right) =
+    ap₂ (λ (x y : List ℕ). x ++ y) (grouped_sets (nat_lt (acc_text left).rank 2) (acc_written left) ∙ written_sets left)
+    (grouped_sets (nat_le (acc_text right).rank 2) (acc_written right) ∙ written_sets right)
+written_sets (acc.disjunction left right) =
+    ap₂ (λ (x y : List ℕ). x ++ y) (grouped_sets (nat_lt (acc_text left).rank 1) (acc_written left) ∙ written_sets left)
+    (grouped_sets (nat_le (acc_text right).rank 1) (acc_written right) ∙ written_sets right)
+
+dual_sets : (tree : AccTree) → sets_of (dual tree) ≡ sets_of tree
 dual_sets (acc.constant value) = refl
 dual_sets (acc.inf negated set) = refl
 dual_sets (acc.fin negated set) = refl
@@ -161,7 +190,7 @@ module _ (a : Description) (is_a : IsAutomaton a) (deterministic : IsDeterminist
   start = beginning a is_a deterministic written.sink written.needed
 
   -- a test of labels that none over the propositions passes
-  labels_right : (test : RawLabelTree → Bool) → ((tree : LabelTree) → are_below (length a.propositions) (propositions tree) ≡ true → test (raw_tree tree) ≡ false)
+  labels_right : (test : RawLabelTree → Bool) → ((tree : LabelTree) → are_below (length a.propositions) (propositions tree) ≡ true → test (label_written tree) ≡ false)
       → list_any (is_labelled test) raw.states ≡ false
   labels_right test none =
       any_none (is_labelled test) raw.states
@@ -194,23 +223,25 @@ module _ (a : Description) (is_a : IsAutomaton a) (deterministic : IsDeterminist
   unfolding has_state_out_of_range
   states_in_range = in_range (state_count raw) states_counted
 
-  sets_within : (b : Bool) → are_below (a.sets + one_if b) (acc_sets (complement_acceptance a b)) ≡ true
-  sets_within false =
-      let plain : a.sets ≡ a.sets + 0 = omega arith in
-      subst (λ n. are_below n (acc_sets (raw_acc_tree (dual a.acceptance))) ≡ true) plain
-      (ap (are_below a.sets) (dual_sets a.acceptance) ∙ below_pass a.sets (sets_of a.acceptance) is_a.sets)
-  sets_within true =
-      joined_below (a.sets + 1) (acc_sets (raw_acc_tree (dual a.acceptance))) (a.sets ∷ [])
-      (below_more a.sets (acc_sets (raw_acc_tree (dual a.acceptance))) (ap (are_below a.sets) (dual_sets a.acceptance) ∙ below_pass a.sets (sets_of a.acceptance) is_a.sets))
+  dual_within : are_below a.sets (sets_of (dual a.acceptance)) ≡ true
+  dual_within = ap (are_below a.sets) (dual_sets a.acceptance) ∙ below_pass a.sets (sets_of a.acceptance) is_a.sets
+
+  formula_within : (b : Bool) → are_below (a.sets + one_if b) (sets_of (complement_acceptance a b)) ≡ true
+  formula_within false = let plain : a.sets ≡ a.sets + 0 = omega arith in subst (λ n. are_below n (sets_of (dual a.acceptance)) ≡ true) plain dual_within
+  formula_within true =
+      joined_below (a.sets + 1) (sets_of (dual a.acceptance)) (a.sets ∷ []) (below_more a.sets (sets_of (dual a.acceptance)) dual_within)
       (ap (λ v. v && true) (lt_true a.sets (a.sets + 1) (omega arith)))
+
+  sets_within : (b : Bool) → are_below (a.sets + one_if b) (acc_sets (acc_written (complement_acceptance a b))) ≡ true
+  sets_within b = ap (are_below (a.sets + one_if b)) (written_sets (complement_acceptance a b)) ∙ formula_within b
 
   sets_right : (sets : ℕ) → sets ≡ a.sets + one_if written.sink
       → (list_any (λ item. passes (has_set_beyond sets) (acceptance_in item)) raw.items || list_any (is_marked (nat_le sets)) raw.states) ≡ false
   sets_right sets is =
       neither (list_any (λ item. passes (has_set_beyond sets) (acceptance_in item)) raw.items) (list_any (is_marked (nat_le sets)) raw.states)
       (items_are (λ items. list_any (λ item. passes (has_set_beyond sets) (acceptance_in item)) items)
-      ∙ neither (not (are_below sets (acc_sets (complement_acceptance a written.sink)))) false
-      (ap not (ap (λ n. are_below n (acc_sets (complement_acceptance a written.sink))) is ∙ sets_within written.sink)) refl)
+      ∙ neither (not (are_below sets (acc_sets (acc_written (complement_acceptance a written.sink))))) false
+      (ap not (ap (λ n. are_below n (acc_sets (acc_written (complement_acceptance a written.sink)))) is ∙ sets_within written.sink)) refl)
       (any_none (is_marked (nat_le sets)) raw.states
       (λ k r e.
       neither (passes (list_any (nat_le sets)) r.marks) (list_any (λ edge. passes (list_any (nat_le sets)) edge.marks) r.edges)
@@ -241,7 +272,7 @@ module _ (a : Description) (is_a : IsAutomaton a) (deterministic : IsDeterminist
       ∙ neither (is_misnamed (record { count = length a.propositions; names = a.propositions })) false named_right refl)
       (items_are (λ items. list_any (λ item. passes (λ (defined : Defined). is_beyond count defined.body) (alias_in item)) items)))
       (labels_right (is_beyond count)
-      (λ tree over. ap not (ap (λ n. are_below n (raw_propositions (raw_tree tree))) is ∙ ap (are_below (length a.propositions)) (raw_over tree) ∙ over)))
+      (λ tree over. ap not (ap (λ n. are_below n (raw_propositions (label_written tree))) is ∙ ap (are_below (length a.propositions)) (written_over tree) ∙ over)))
 
   propositions_named : has_wrong_proposition raw ≡ false
   unfolding has_wrong_proposition
@@ -253,7 +284,7 @@ module _ (a : Description) (is_a : IsAutomaton a) (deterministic : IsDeterminist
   aliases_right ds none =
       subst (λ (ds : List Defined). (has_repeat bytes_eq (map (λ (defined : Defined). defined.name) ds)
       || (list_any (λ (entry : Entry). is_none entry.meaning) (entries_of [] ds) || list_any (is_labelled (λ label. is_none (expansion ds label))) raw.states)) ≡ false) (sym none)
-      (labels_right (λ label. is_none (expansion [] label)) (λ tree over. ap is_none (replaced_raw tree).1))
+      (labels_right (λ label. is_none (expansion [] label)) (λ tree over. ap is_none (means-itself [] tree).means))
 
   no_alias : has_wrong_alias raw ≡ false
   unfolding has_wrong_alias
@@ -299,15 +330,11 @@ module _ (a : Description) (is_a : IsAutomaton a) (deterministic : IsDeterminist
   unfolding has_wrong_edge_count
   edges_counted = counted_right (proposition_count raw)
 
-  acceptance_meant : (b : Bool) → is_none (acc_meant (complement_acceptance a b)) ≡ false
-  acceptance_meant false = ap is_none (acc_meant_raw (dual a.acceptance))
-  acceptance_meant true = ap is_none (acc_meant_raw (acc.disjunction (dual a.acceptance) (acc.inf false a.sets)))
-
   atoms_right : has_wrong_atom raw ≡ false
   unfolding has_wrong_atom
   atoms_right =
       items_are (λ items. list_any (λ item. passes (λ (accepted : Accepted). is_none (acc_meant accepted.formula)) (acceptance_in item)) items)
-      ∙ neither (is_none (acc_meant (complement_acceptance a written.sink))) false (acceptance_meant written.sink) refl
+      ∙ neither (is_none (acc_meant (acc_written (complement_acceptance a written.sink)))) false (ap is_none (acc-means-itself (complement_acceptance a written.sink)).means) refl
 
   fault_is : (fault : AutomatonFault) → applies raw fault ≡ true → (fault ≡ TooDeep) ⊎ (fault ≡ Expansion)
   fault_is Version e = absurd (true≢false (sym e ∙ version_right))

@@ -4,3 +4,5 @@
 
 #[cfg(test)]
 mod complements;
+#[cfg(test)]
+mod depths;

@@ -11,4 +11,4 @@ mod Classes
 mod Numbered
 mod Judged
 mod Keeping
-mod Rooted
+mod Spanning

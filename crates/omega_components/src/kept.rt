@@ -1,4 +1,4 @@
-ghost use Rattle.std.specs.Prelude.{◌≡◌, [], ◌∷◌, ◌++◌, OnOk};
+ghost use Rattle.std.specs.Prelude.{◌≡◌, [], ◌∷◌, ◌++◌, IfOk, OnOk};
 
 use std::alloc::{AllocError, Global};
 
@@ -13,19 +13,19 @@ pub(crate) struct Kept {
 }
 
 impl Kept {
-    /// None.
-    pub(crate) fn new(alloc: Global) -> Kept
-        ensures edges { result.edges.items ≡ [] }
-        ensures leaves { result.leaves.items ≡ [] }
-        ensures enters { result.enters.items ≡ [] }
-        ensures keys { result.keys.items ≡ [] }
+    /// None, with room for so many.
+    pub(crate) fn with_capacity(alloc: Global, count: usize) -> Result<Kept, AllocError>
+        ensures edges { IfOk result (λ kept. kept.edges.items ≡ []) }
+        ensures leaves { IfOk result (λ kept. kept.leaves.items ≡ []) }
+        ensures enters { IfOk result (λ kept. kept.enters.items ≡ []) }
+        ensures keys { IfOk result (λ kept. kept.keys.items ≡ []) }
     {
-        Kept {
-            edges: Vec::new(alloc),
-            leaves: Vec::new(alloc),
-            enters: Vec::new(alloc),
-            keys: Vec::new(alloc),
-        }
+        Ok(Kept {
+            edges: Vec::with_capacity(alloc, count)?,
+            leaves: Vec::with_capacity(alloc, count)?,
+            enters: Vec::with_capacity(alloc, count)?,
+            keys: Vec::with_capacity(alloc, count)?,
+        })
     }
 
     /// Keeps an edge.

@@ -3,6 +3,7 @@
 
 mod edge;
 mod ends;
+mod entering;
 mod graph;
 mod grouping;
 mod groups;
@@ -17,6 +18,7 @@ mod reaching;
 mod room;
 mod searching;
 mod suggesting;
+mod suggestion;
 mod walking;
 
 pub use edge::Edge;

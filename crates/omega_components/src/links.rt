@@ -10,8 +10,8 @@ pub(crate) struct Links<'a> {
     states: &'a [u32],
     // By state one more than its last index, and by index one more than the one before it of the same state: 0 where
     // there is none.
-    last: Vec<usize>,
-    before: Vec<usize>,
+    last: Vec<u32>,
+    before: Vec<u32>,
 }
 
 impl<'a> Model for Links<'a> {
@@ -26,7 +26,7 @@ impl<'a> Model for Links<'a> {
 }
 
 impl<'a> Links<'a> {
-    /// The links of a list. Linear in its states and the count.
+    /// The links of a list of at most 2^32 - 1 states. Linear in its states and the count.
     pub(crate) fn new(
         alloc: Global,
         count: usize,
@@ -36,11 +36,14 @@ impl<'a> Links<'a> {
         ensures count { IfOk result (λ links. links.count ≡ count) }
         ensures states { IfOk result (λ links. links.states ≡ states.now) }
     {
-        let mut last = vec![in alloc; 0usize; count]?;
+        if states.len() > u32::MAX as usize {
+            return Err(AllocError);
+        }
+        let mut last = vec![in alloc; 0u32; count]?;
         let mut before = Vec::with_capacity(alloc, states.len())?;
         for (index, state) in states.iter().enumerate() {
             before.push(last[*state as usize])?;
-            last[*state as usize] = index + 1;
+            last[*state as usize] = index as u32 + 1;
         }
         Ok(Links {
             states,
@@ -50,7 +53,7 @@ impl<'a> Links<'a> {
     }
 
     /// One more than the last index of a state, 0 where there is none.
-    pub(crate) fn last(&self, state: usize) -> usize
+    pub(crate) fn last(&self, state: usize) -> u32
         requires { state < self.now.count }
         ensures { result ≡ last_before self.now.states state (length self.now.states) }
     {
@@ -58,7 +61,7 @@ impl<'a> Links<'a> {
     }
 
     /// One more than the index before this one of the same state, 0 where there is none.
-    pub(crate) fn before(&self, index: usize) -> usize
+    pub(crate) fn before(&self, index: usize) -> u32
         requires { index < length self.now.states }
         ensures { result ≡ last_before self.now.states (slice_index self.now.states index) index }
     {

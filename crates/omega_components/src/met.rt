@@ -3,7 +3,7 @@
 pub(crate) struct Met {
     pub state: u32,
     /// One more than the index of the edge along which it was met, 0 where the search began.
-    pub edge: usize,
+    pub edge: u32,
     /// The index of the state from which it was met, in the order in which they were.
-    pub origin: usize,
+    pub origin: u32,
 }

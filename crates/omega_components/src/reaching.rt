@@ -30,7 +30,7 @@ pub fn reached(
 }
 
 /// Meets the states that are reached from some states by edges of a list.
-pub(crate) fn search_edges(
+fn search_edges(
     alloc: Global,
     graph: &Graph,
     edges: &[u32],

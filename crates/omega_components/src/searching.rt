@@ -4,7 +4,7 @@ ghost use Rattle.omega_walk.specs.Walks.{MarkedGraph};
 ghost use Rattle.omega_components.specs.Graph.{listed};
 ghost use Rattle.omega_components.specs.Reaching.{IsWalkFrom};
 ghost use Rattle.omega_components.specs.private.Ends.{AreEnds};
-ghost use Rattle.omega_components.specs.private.Searching.{AreFollowed, Grows, IsMet, IsSearched, IsStart, IsStep, LeadBack, mark_at, meeting, met_at};
+ghost use Rattle.omega_components.specs.private.Searching.{AreFollowed, Grows, IsMet, IsSearched, IsSearchedTo, IsStart, IsStep, LeadBack, mark_at, meeting, met_at};
 
 use crate::links::Links;
 use crate::met::Met;
@@ -72,7 +72,7 @@ impl Search {
 
     /// Meets the states to which edges lead from one that was met. The links are those of the states that the edges
     /// leave.
-    fn follow(&mut self, links: &Links<'_>, enters: &[u32], origin: usize) -> Result<(), AllocError>
+    fn follow(&mut self, links: &Links<'_>, enters: &[u32], origin: u32) -> Result<(), AllocError>
         requires origin { origin < length self.old.met }
         requires state { (met_at self.old.met origin).state < links.now.count }
         requires even { length enters.now ≡ length links.now.states }
@@ -80,9 +80,9 @@ impl Search {
         ensures grows { OnOk result (Grows (IsStep links.now.states enters.now (met_at self.old.met origin).state origin) self.old self.new) }
         ensures followed { OnOk result (AreFollowed links.now.states enters.now (met_at self.old.met origin).state self.new.marks) }
     {
-        let mut left = links.last(self.met[origin].state as usize);
+        let mut left = links.last(self.met[origin as usize].state as usize);
         while left > 0 {
-            let edge = left - 1;
+            let edge = left as usize - 1;
             self.meet(Met {
                 state: enters[edge],
                 edge: left,
@@ -138,8 +138,8 @@ impl Search {
         let mut at = index;
         while self.met[at].edge > 0 {
             let met = self.met[at];
-            walk.push(edges[met.edge - 1])?;
-            at = met.origin;
+            walk.push(edges[met.edge as usize - 1])?;
+            at = met.origin as usize;
         }
         walk.reverse();
         Ok(walk)
@@ -166,7 +166,44 @@ pub(crate) fn search_from(
     search.begin(sources)?;
     let mut index = 0;
     while index < search.met.len() {
-        search.follow(&links, enters, index)?;
+        if index > u32::MAX as usize {
+            return Err(AllocError);
+        }
+        search.follow(&links, enters, index as u32)?;
+        index += 1;
+    }
+    Ok(search)
+}
+
+/// Meets states that are reached from some states by edges, given by the states that they leave and those that they
+/// enter, all below a count, until it met a target. Linear.
+pub(crate) fn search_to(
+    alloc: Global,
+    count: usize,
+    leaves: &[u32],
+    enters: &[u32],
+    sources: &[u32],
+    target: u32,
+) -> Result<Search, AllocError>
+    requires even { length enters.now ≡ length leaves.now }
+    requires leaves { All (λ state. state < count) leaves.now }
+    requires enters { All (λ state. state < count) enters.now }
+    requires sources { All (λ state. state < count) sources.now }
+    requires target { target < count }
+    ensures { IfOk result (IsSearchedTo leaves.now enters.now sources.now count target) }
+{
+    let links = Links::new(alloc, count, leaves)?;
+    let mut search = Search::new(alloc, count)?;
+    search.begin(sources)?;
+    let mut index = 0;
+    while index < search.met.len() {
+        if search.has_met(target) {
+            return Ok(search);
+        }
+        if index > u32::MAX as usize {
+            return Err(AllocError);
+        }
+        search.follow(&links, enters, index as u32)?;
         index += 1;
     }
     Ok(search)

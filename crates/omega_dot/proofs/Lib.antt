@@ -1,2 +1,3 @@
--- Lemmas of texts of items.
+-- Lemmas of labels and of rows.
+pub mod Chunks
 pub mod Rows

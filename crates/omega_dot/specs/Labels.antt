@@ -2,6 +2,7 @@
 -- graphviz.org/doc/info/lang.html; escString).
 use Rattle.std.specs.Prelude.{ℕ, ◌==◌, nat_lt, if◌then◌else◌, Option, Some, None, List, [], ◌∷◌, ◌++◌, codes}
 use Rattle.std.specs.List.{flat_map}
+use Rattle.std.specs.Str.Lossy.{utf8_lossy}
 
 -- a byte of a name: a quote, a backslash, an ampersand and a line feed are escaped, and another control byte is a space
 abbrev pub escaped_byte : ℕ → List ℕ
@@ -13,9 +14,15 @@ escaped_byte byte =
     else if nat_lt byte 32 then codes " "
     else byte ∷ []
 
--- a name, so that DOT draws it, with spaces for other control bytes
+-- bytes, each escaped
+abbrev pub escaped_bytes : List ℕ → List ℕ
+escaped_bytes bytes = flat_map escaped_byte bytes
+
+-- a name, so that DOT draws it: in UTF-8 (RFC 3629), with U+FFFD for each longest sequence of bytes that begins a
+-- character and does not end it, and for each other byte of no character (the Unicode Standard, section 3.9,
+-- substitution of maximal subparts); and with spaces for control bytes
 abbrev pub escaped : List ℕ → List ℕ
-escaped name = flat_map escaped_byte name
+escaped name = escaped_bytes (utf8_lossy name)
 
 -- the end of a line of a label
 abbrev pub line_end : List ℕ

@@ -1,17 +1,31 @@
 //! Lines of labels, and names in them.
 
 ghost use Rattle.std.specs.Prelude.{◌≡◌, ◌++◌, IsOkUnless, OnOk, option_map};
-ghost use Rattle.omega_dot.specs.Labels.{escaped, escaped_byte, name_label_line};
+ghost use Rattle.omega_dot.specs.Labels.{escaped, escaped_byte, escaped_bytes, name_label_line};
 
 use omega_text::Refusal;
 
-/// Appends a name so that DOT draws it, with a space for each control byte but a line feed. Refusal 60, where part of
-/// it may be appended.
+/// Appends a name so that DOT draws it: in UTF-8, with U+FFFD for what is not, as `String::from_utf8_lossy` reads it, and
+/// with a space for each control byte but a line feed. Refusal 60, where part of it may be appended.
 pub fn write_escaped(name: &[u8], out: &mut Vec<u8>) -> Result<(), Refusal>
     ensures ok { OnOk result (out.new.items ≡ out.old.items ++ escaped name.now) }
     ensures memory { IsOkUnless result Refusal.Memory }
 {
-    for byte in name {
+    for chunk in name.utf8_chunks() {
+        write_escaped_bytes(chunk.valid().as_bytes(), out)?;
+        if !chunk.invalid().is_empty() {
+            out.extend_from_slice(b"\xef\xbf\xbd")?;
+        }
+    }
+    Ok(())
+}
+
+/// Appends bytes, each escaped.
+fn write_escaped_bytes(bytes: &[u8], out: &mut Vec<u8>) -> Result<(), Refusal>
+    ensures ok { OnOk result (out.new.items ≡ out.old.items ++ escaped_bytes bytes.now) }
+    ensures memory { IsOkUnless result Refusal.Memory }
+{
+    for byte in bytes {
         write_escaped_byte(*byte, out)?;
     }
     Ok(())

@@ -177,13 +177,13 @@ fn all_that_is_reached_is_drawn(rt: HostRuntime) {
     assert!(rt; is_text(part_drawn(rt.alloc(), STEPS, 1, Some(2)), wanted));
 }
 
-// Names with quotes and backslashes, starts of one state and of two, a state's own label, a branch, states that are
-// entered and not defined, and one that is only counted.
+// Names with quotes and backslashes, starts of one state and of two, a state's own label, a branch, edges that share an
+// arrow, states that are entered and not defined, and one that is only counted.
 #[test]
 fn an_automaton_is_drawn(rt: HostRuntime) {
     let text =
         r#"HOA: v1 name: "a\"b" States: 5 Start: 0 Start: 1&2 AP: 2 "p\\q" "r" Acceptance: 2 Inf(0)&Fin(!1)
---BODY-- State: [0&!1|t] 0 "zero" {1} 1 0&3 {0} State: 1 [!(0|1)&0] 3 {0 1} [1] 1 --END--"#;
+--BODY-- State: [0&!1|t] 0 "zero" {1} 1 0&3 {0} State: 1 [!(0|1)&0] 3 {0 1} [1] 1 [0] 3 --END--"#;
     let wanted = r#"digraph automaton {
   rankdir=LR;
   labelloc=t;
@@ -193,14 +193,14 @@ fn an_automaton_is_drawn(rt: HostRuntime) {
   start1 [shape=point];
   start1 -> 1;
   start1 -> 2;
-  0 [label="0\nzero\n[p\\\\q & !r | t]\n{1}\n"];
+  0 [label="0\nzero\n[\"p\\\\q\" & !r | t]\n{1}\n"];
   1 [label="1\n"];
   0 -> 1 [label=""];
   0 -> branch1 [label="{0}\n", arrowhead=none];
   branch1 [shape=point];
   branch1 -> 0 [label=""];
   branch1 -> 3 [label=""];
-  1 -> 3 [label="!(p\\\\q | r) & p\\\\q\n{0 1}\n"];
+  1 -> 3 [label="!(\"p\\\\q\" | r) & \"p\\\\q\"\n{0 1}\n\"p\\\\q\"\n"];
   1 -> 1 [label="r\n"];
 }
 "#;
@@ -208,11 +208,12 @@ fn an_automaton_is_drawn(rt: HostRuntime) {
     assert!(rt; is_text(drawn, wanted));
 }
 
-// An edge of both parts is the cycle's, one of neither is plain, and 9 is no edge's number.
+// An edge of both parts is the cycle's, one of neither is plain, one beside an edge of the lasso has an arrow of its own,
+// and 9 is no edge's number.
 #[test]
 fn a_lasso_is_drawn(rt: HostRuntime) {
     let text = r#"HOA: v1 States: 2 Start: 0 AP: 1 "a" Acceptance: 1 Inf(0)
---BODY-- State: 0 [0] 1 [!0] 0 State: 1 [t] 1 {0} [0] 0 [!0] 0&1 --END--"#;
+--BODY-- State: 0 [0] 1 [!0] 0 State: 1 [t] 1 {0} [0] 0 [!0] 0&1 [f] 1 --END--"#;
     let wanted = r#"digraph automaton {
   rankdir=LR;
   labelloc=t;
@@ -221,14 +222,15 @@ fn a_lasso_is_drawn(rt: HostRuntime) {
   start0 -> 0;
   0 [label="0\n"];
   1 [label="1\n"];
-  0 -> 1 [label="a\n", style=bold, color=blue];
+  0 -> 1 [label="edge 0\na\n", style=bold, color=blue];
   0 -> 0 [label="!a\n"];
-  1 -> 1 [label="t\n{0}\n", style=bold, color=red];
+  1 -> 1 [label="edge 2\nt\n{0}\n", style=bold, color=red];
   1 -> 0 [label="a\n"];
-  1 -> branch4 [label="!a\n", style=bold, color=red, arrowhead=none];
+  1 -> branch4 [label="edge 4\n!a\n", style=bold, color=red, arrowhead=none];
   branch4 [shape=point];
   branch4 -> 0 [label="", style=bold, color=red];
   branch4 -> 1 [label="", style=bold, color=red];
+  1 -> 1 [label="f\n"];
 }
 "#;
     let drawn = lasso_drawn(rt.alloc(), text, &[0, 2, 9], &[2, 4]);

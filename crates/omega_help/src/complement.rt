@@ -31,13 +31,13 @@ The first automaton accepts the word in which a always holds, and the complement
 finds the words of a system that a complement accepts.
 
 The complement has the states and the edges of the automaton, and the dual acceptance formula: & for |
-and | for &, Fin for Inf and Inf for Fin, f for t and t for f. Where a state has no edge for some letters,
-the sets of propositions, a further edge takes these to a further state. It stands behind the last, and
-keeps each word for ever in a set of its own, with which the formula holds. Without a start it is the
-start. If no letter is missing and there is a start, there is neither that state nor that set. Edges
-without labels get those of their valuations, and labels and marks of states are moved to the edges that
-leave them. The complement has no `acc-name:`, and `omega empty --search` decides it. What `tool:`,
-`name:` and `properties:` say is left out.
+and | for &, Fin for Inf and Inf for Fin, f for t and t for f. A letter is a set of propositions. If a
+state has no edge for some letters, a further edge leads for these to a further state, which comes after
+the last. The only edge of that state leads back to it, and is in a set of its own, with which the
+formula holds. If there is no start, that state is the start. If no letter is missing and there is a
+start, there is neither that state nor that set. Edges without labels get those of their valuations, and
+labels and marks of states are moved to the edges that leave them. The complement has no `acc-name:`, and
+`omega empty --search` decides it. What `tool:`, `name:` and `properties:` say is left out.
 
 An automaton that has two starts, or two edges of one state whose labels can hold together, is not
 deterministic, and is refused as 56 NotDeterministic with the number of that state, or of the second

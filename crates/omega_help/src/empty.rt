@@ -10,10 +10,10 @@ use std::alloc::{AllocError, Global};
 const DETAILS: &str = "\
 Use it to find out whether an automaton accepts anything. It reads one automaton in the Hanoi format from
 FILE, or from standard input if there is no FILE or it is -. It writes `empty` if the automaton accepts
-nothing, and else an accepting lasso. Its stem is edges that lead from a start to a state, and its cycle
-edges that lead from there back to it. The run that takes the stem once and the cycle for ever is
-accepted: the acceptance formula holds of the marks of the cycle. Each edge of a lasso has a label that
-some set of propositions makes true, or no label.
+nothing, and else an accepting lasso. The stem of a lasso is edges that lead from a start to a state, and
+its cycle is edges that lead from there back to it. The run that takes the stem once and the cycle for
+ever is accepted, since the acceptance formula holds of the marks of the cycle. Each edge of a lasso has
+a label that some set of propositions makes true, or no label.
 
   $ echo 'HOA: v1 States: 2 Start: 0 acc-name: co-Buchi Acceptance: 1 Fin(0)
     --BODY-- State: 0 [t] 0 {0} [t] 1 State: 1 [t] 1 --END--' > automaton.hoa
@@ -26,10 +26,11 @@ through all states. Here edge 0 leads from state 0 to itself, edge 1 from state 
 from state 1 to itself. A stem without edges is written as `stem` alone. `omega verify --automaton` checks
 such a text, whoever made it.
 
---word writes a third line after a lasso: the word that it accepts, as Spot writes words. The letters of the
-stem come first, each with a semicolon behind it, and then in braces those of the cycle, which come again
-and again. The letter of an edge is its label, with names in place of numbers, 1 for t and 0 for f. A name
-that is no identifier stands in double quotes. An edge without label has the letter of its valuation.
+--word writes a third line after a lasso: the word that it accepts, as Spot writes words. The letters of
+the stem come first, each with a semicolon after it. Then come those of the cycle in braces; they come
+again and again. The letter of an edge is its label, with names in place of numbers, 1 for t and 0 for f.
+A name that is no identifier stands in double quotes. An edge without label has the letter of its
+valuation.
 
   $ echo 'HOA: v1 States: 2 Start: 0 AP: 2 \"a\" \"b\" acc-name: Buchi Acceptance: 1 Inf(0)
     --BODY-- State: 0 [0&!1] 1 State: 1 [1] 1 {0} --END--' | omega empty --word
@@ -37,35 +38,36 @@ that is no identifier stands in double quotes. An edge without label has the let
   cycle 1
   word a & !b; cycle{b}
 
-A letter stands for each set of propositions that makes it true. Here a holds at first and b does not, and
-from then on b holds, with or without a. Every word that fits the letters is accepted.
+A letter stands for every set of propositions that makes it true. Here a holds at first and b does not.
+From then on b holds, with or without a. Every word that fits the letters is accepted.
 
-Without --search it is decided for these names in `acc-name:`, with the formula of the Hanoi format:
-all, none, Buchi, co-Buchi, parity max even K, parity max odd K, parity min even K, parity min odd K,
-and generalized-Buchi K with K from 1 to 16. Every other name, no name, or another formula beside the
-name is refused as 40 NotParity. A start or an edge that lists several states joined by & is refused as
-41 UniversalBranch, and a label that mentions over 12 propositions as 42 TooManyPropositions. An
-automaton is refused as 13 TooManyNodes if the nodes of the game that `omega game` writes would need
-more than 1048576 numbers.
+Without --search, emptiness is decided if `acc-name:` has one of these names, and the formula is the one
+that the Hanoi format gives to it: all, none, Buchi, co-Buchi, parity max even K, parity max odd K,
+parity min even K, parity min odd K, and generalized-Buchi K with K from 1 to 16. Every other name, no
+name, or another formula beside the name is refused as 40 NotParity. A start or an edge that lists
+several states joined by & is refused as 41 UniversalBranch, and a label that mentions over 12
+propositions as 42 TooManyPropositions. An automaton is refused as 13 TooManyNodes if the nodes of the
+game that `omega game` writes would need more than 1048576 numbers.
 
-It is then decided by lifting, for player 0, in that game. Where several priorities lose, that can
-take as many lifts as the bound of the game says, far more than there is time for:
-`omega game | omega show --format pg` writes the bound. --budget N stops after N lifts, writes nothing
-but `omega: 51 Budget` on standard error, and exits with status 3. If the nodes of the game times its
-losing priorities are over 67108864, the refusal is 50 TooWide.
+Without --search, emptiness is decided by lifting in that game, for player 0. If several priorities lose,
+that can take as many lifts as the bound of the game says, far more than there is time for.
+`omega game | omega show --format pg` writes the bound. --budget N stops after N lifts. Then nothing is
+written but `omega: 51 Budget` on standard error, and the exit status is 3. If the nodes of the game
+times its losing priorities are over 67108864, the refusal is 50 TooWide.
 
 --progress writes a line on standard error each time that 67108864 more lifts were made and the game is
-not yet solved, as `player 0: 67108864 lifts of at most 1099511627776`: how many were made, and the bound
-or, if it is less, the budget. Standard output and the exit status are the same without it, even if
-standard error cannot be written.
+not yet solved, such as `player 0: 67108864 lifts of at most 1099511627776`. The line has the number of
+lifts so far, and the bound or, if it is less, the budget. Standard output and the exit status are the
+same without it, even if standard error cannot be written.
 
 --search decides every acceptance formula, whatever `acc-name:` says, without lifting: it looks in the
 automaton for a cycle whose marks satisfy the formula. For the names above, and for Rabin, Streett and
-generalized Rabin, its time is polynomial in automaton and formula; where Fin stands below & and | both,
-it may grow with two to the number of different Fin. Its answers are proved as those of lifting are,
-though the lasso may be another. Then 13 and 40 do not come, and 42 only where a label mentions over 12
-propositions and 4194304 steps do not decide it. It makes no lifts, so neither --budget nor --progress
-is given beside it, and 50 and 51 do not come. Take it for large automata, and where lifting takes long.
+generalized Rabin, its time is polynomial in automaton and formula. Where Fin stands below both & and |,
+it may grow with two to the number of different Fin. Its answers are proved as those of lifting are, but
+the lasso may be another one. With --search, 13 and 40 do not come, and 42 comes only where a label
+mentions over 12 propositions and 4194304 steps do not decide it. The search makes no lifts. So it goes
+neither with --budget nor with --progress, and 50 and 51 do not come. Use it for large automata, and
+where lifting takes long.
 
 Faults of the text come first; `omega check --help` lists them. A text with --ABORT--, with no automaton
 or with several is not one automaton, and is refused as 3 Syntax. Then 13, 40, 41 and 42 come in this

@@ -9,11 +9,11 @@ use std::alloc::{AllocError, Global};
 
 const DETAILS: &str = "\
 Use it to let any solver of parity games decide whether an automaton accepts anything. It reads one
-automaton in the Hanoi format from FILE, or from standard input if there is no FILE or it is -, and writes
-its emptiness game. In this game player 0 wins from the node of some start exactly if the automaton has
-an accepting lasso: edges that lead from a start to a state, the stem, and then edges that lead from
-there back to it, the cycle, where the acceptance formula holds of the marks of the cycle. So the
-automaton accepts nothing exactly if player 0 wins from no start's node.
+automaton in the Hanoi format from FILE, or from standard input if there is no FILE or it is -, and
+writes its emptiness game. In this game player 0 wins from the node of some start exactly if the
+automaton has an accepting lasso. The stem of a lasso is edges that lead from a start to a state, and its
+cycle is edges that lead from there back to it. It is accepting if the acceptance formula holds of the
+marks of the cycle. So the automaton accepts nothing exactly if player 0 wins from no start's node.
 
   $ echo 'HOA: v1 States: 2 Start: 0 acc-name: co-Buchi Acceptance: 1 Fin(0)
     --BODY-- State: 0 [t] 0 {0} [t] 1 State: 1 [t] 1 --END--' > automaton.hoa
@@ -33,21 +33,21 @@ propositions makes true have nodes. All nodes belong to player 0. States have pr
 1, and an edge the priority of its marks, so that a cycle is accepted where the greatest priority on it
 is even.
 
-For generalized-Buchi K there are K such rows of nodes, one for each set that is waited for, and node n
-of row i, counted from 0, is node i * (S + E) + n. An edge with mark i leads from row i into the next
-row, and from the last row into the first, with priority 2 there; every other edge has priority 1. The
-sink, K * (S + E), comes after all rows. Starts are those of row 0.
+For generalized-Buchi K there are K such rows of nodes, one for each set that is waited for. Rows are
+counted from 0, and node n of row i is node i * (S + E) + n. An edge with mark i leads from row i into
+the next row, and from the last row into the first, with priority 2 there; every other edge has priority
+1. The sink, K * (S + E), comes after all rows. Starts are those of row 0.
 
 `omega game | omega solve` solves the game, and `omega game | omega show --format pg` writes the bounds
 on lifts. If several priorities lose, solving can take as many lifts as the bound says. `omega empty`
 writes a lasso itself.
 
 There is a game for these names in `acc-name:`, with the formula that the Hanoi format gives to each:
-all, none, Buchi, co-Buchi, parity max even K, parity max odd K, parity min even K, parity min odd K,
-and generalized-Buchi K with K from 1 to 16. Every other name, no name, or another formula beside the
-name is refused as 40 NotParity. 13 TooManyNodes is the refusal if the nodes would need more than 1048576
-numbers, 41 UniversalBranch that of a start or an edge that lists several states joined by &, and
-42 TooManyPropositions that of a label that mentions over 12 propositions. The least that applies comes,
+all, none, Buchi, co-Buchi, parity max even K, parity max odd K, parity min even K, parity min odd K, and
+generalized-Buchi K with K from 1 to 16. Every other name, no name, or another formula beside the name is
+refused as 40 NotParity. The refusal is 13 TooManyNodes if the nodes would need more than 1048576
+numbers. It is 41 UniversalBranch if a start or an edge lists several states joined by &, and
+42 TooManyPropositions if a label mentions over 12 propositions. The least of these that applies comes,
 after the faults of the text, which `omega check --help` lists. A text with --ABORT--, with no automaton
 or with several is not one automaton, and is refused as 3 Syntax.
 

@@ -40,12 +40,12 @@ as `omega complement` writes it, to --with: if the product accepts nothing, the 
 
 Propositions are joined by name: those of the automaton in FILE come first, then those that only the
 other has. The states are the pairs of states that are reached, numbered breadth first from the starts in
-their order, each named by its two numbers. There is an edge for each two edges whose labels can hold
-together, and its label is that of both. Edges without labels get those of their valuations, and labels
-and marks of states are moved to the edges that leave them. The acceptance formula is that of both, with
-the sets of the other automaton behind those of the one in FILE. Where both are Buchi or
-generalized-Buchi, the product is named generalized-Buchi with all sets; else it has no name, and
-`omega empty --search` decides it. What `tool:`, `name:` and `properties:` say is left out.
+their order. Each is named by its two numbers. There is an edge for each two edges whose labels can hold
+together, and its label joins both by &. Edges without labels get those of their valuations, and labels
+and marks of states are moved to the edges that leave them. The acceptance formula joins both by &, with
+the sets of the other automaton after those of the one in FILE. If both are Buchi or generalized-Buchi,
+the product is named generalized-Buchi with all sets. Else it has no name, and `omega empty --search`
+decides it. What `tool:`, `name:` and `properties:` say is left out.
 
 Faults of the other automaton's text come first, then those of the text in FILE; `omega check --help`
 lists them. A text with --ABORT--, with no automaton or with several is not one automaton, and is refused

@@ -24,9 +24,9 @@ A game text, in the format of PGSolver, has for each node an identifier, a prior
 
   0 1 0 1; 1 2 1 0 \"goal\";
 
-Here node 0 has priority 1, belongs to player 0 and leads to node 1; node 1 has priority 2,
-belongs to player 1, leads to node 0 and is named goal. A header such as `parity 1;` with a number
-that no identifier exceeds may come first. At each node its owner chooses a successor, for ever.
+Here node 0 has priority 1, belongs to player 0 and leads to node 1; node 1 has priority 2, belongs to
+player 1, leads to node 0 and is named goal. A header such as `parity 1;` may come first. No identifier
+may exceed its number. The play goes on for ever, and at each node its owner chooses the successor.
 Player 0 wins if the greatest priority that comes again and again is even, player 1 if it is odd.
 
 A text of the Hanoi format, version 1, holds omega-automata, one after the other:
@@ -34,16 +34,16 @@ A text of the Hanoi format, version 1, holds omega-automata, one after the other
   HOA: v1 States: 1 Start: 0 AP: 1 \"a\" acc-name: Buchi Acceptance: 1 Inf(0)
   --BODY-- State: 0 [0] 0 {0} [!0] 0 --END--
 
-Here one state has two edges to itself: one where a holds, which is in set 0, and one where it does
-not. A word that takes the first again and again is accepted. `omega show`, `check` and `canon` read both
-formats, and --format says which. `omega empty`, `omega game` and `omega complement` read one automaton,
-`omega meet` reads two, and `omega draw` draws one automaton or a game.
+Here one state has two edges to itself: one where a holds, which is in set 0, and one where it does not.
+A word is accepted if its run takes the first edge again and again. `omega show`, `check` and `canon`
+read both formats, and --format says which. `omega empty`, `omega game` and `omega complement` read one
+automaton, `omega meet` reads two, and `omega draw` draws one automaton or a game.
 
-A command reads the file that it is given as its last word, as in `omega solve game.pg`. Without one, or
-with -, it reads standard input. It writes standard output. If a text or the task is refused, a line on
-standard error says why, such as `omega: 3 Syntax at 0` for a text that is no game from its first byte
-on. Bytes are counted from 0. Commands that read two texts add a line that says which is refused, and a
-file that can't be read is named in a line of its own.
+A command reads the file that its last word names, as in `omega solve game.pg`. Without a name, or with
+-, it reads standard input. It writes its answer to standard output. If a text or the task is refused, a
+line on standard error says why, such as `omega: 3 Syntax at 0` for a text that is no game from its first
+byte on. Bytes are counted from 0. If a command reads two texts, a second line says which of them is
+refused. If a file can't be read, a second line has its name.
 
 Exit status:
   0  done
@@ -133,28 +133,18 @@ fn command_named<'a>(alloc: Global, name: &str) -> Result<Command<'a>, AllocErro
 }
 
 fn subcommand_named(name: &str) -> Option<Subcommand> {
-    if name == "show" {
-        Some(Subcommand::Show)
-    } else if name == "check" {
-        Some(Subcommand::Check)
-    } else if name == "canon" {
-        Some(Subcommand::Canon)
-    } else if name == "solve" {
-        Some(Subcommand::Solve)
-    } else if name == "verify" {
-        Some(Subcommand::Verify)
-    } else if name == "empty" {
-        Some(Subcommand::Empty)
-    } else if name == "game" {
-        Some(Subcommand::Game)
-    } else if name == "meet" {
-        Some(Subcommand::Meet)
-    } else if name == "complement" {
-        Some(Subcommand::Complement)
-    } else if name == "draw" {
-        Some(Subcommand::Draw)
-    } else {
-        None
+    match name {
+        "show" => Some(Subcommand::Show),
+        "check" => Some(Subcommand::Check),
+        "canon" => Some(Subcommand::Canon),
+        "solve" => Some(Subcommand::Solve),
+        "verify" => Some(Subcommand::Verify),
+        "empty" => Some(Subcommand::Empty),
+        "game" => Some(Subcommand::Game),
+        "meet" => Some(Subcommand::Meet),
+        "complement" => Some(Subcommand::Complement),
+        "draw" => Some(Subcommand::Draw),
+        _ => None,
     }
 }
 
@@ -189,7 +179,7 @@ fn without_subcommands<'a>(alloc: Global) -> Result<Command<'a>, AllocError>
 {
     Command::new(alloc, "omega")
         .about(
-            "Reads, checks, writes and draws parity games and omega-automata, solves games, says whether an automaton accepts nothing, verifies such answers, and makes automata of others.",
+            "Reads, checks, writes and draws parity games and omega-automata, solves games, says whether an automaton accepts anything, verifies such answers, and forms products and complements of automata.",
         )
         .version(VERSION)
         .after_help("`omega <COMMAND> --help` says more about a command.")

@@ -13,9 +13,9 @@ standard input if there is no FILE or it is -.
 
 --format pg reads a game. It writes one line with the game's size, and for each player one line with the
 bound: no run of `omega solve` for that player on this game makes more lifts. So a --budget of the bound
-is enough, and the bound is known before anything is solved. It is the number of nodes times the product,
-over the priorities in use that lose for the player, of one more than the number of nodes of that
-priority.
+is enough, and the bound is known before anything is solved. For each priority in use that loses for the
+player, take one more than the number of nodes of that priority. The bound is the product of all these
+and of the number of nodes.
 
   $ echo '0 1 0 1; 1 2 1 0;' > game.pg
   $ omega show --format pg game.pg
@@ -26,9 +26,9 @@ priority.
 Here `greatest` is the greatest identifier. A bound of 2^128 or more is written as
 `bound over 128 bits`.
 
---format hoa reads automata, one after the other, and writes a line for each, numbered from 0: how
-many states, edges, propositions and sets it has, and its acceptance formula. An automaton that is
-stopped by --ABORT-- has a line too. If there is nothing to read, nothing is written.
+--format hoa reads automata, one after the other, and writes a line for each, numbered from 0: how many
+states, edges, propositions and sets it has, and its acceptance formula. An automaton that is stopped by
+--ABORT-- has a line too. If there is no automaton, nothing is written.
 
   $ echo 'HOA: v1 --ABORT-- HOA: v1 Acceptance: 1 Inf(0)
     --BODY-- State: 0 [t] 0 {0} --END--' | omega show --format hoa

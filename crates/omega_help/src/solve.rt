@@ -36,30 +36,30 @@ follows. The other player wins from all other nodes.
 Here player 0 wins from both nodes, moving from node 0 to node 1.
 
 A lift is one step of the solver. For each player it makes at most as many lifts as the bound that
-`omega show --format pg` writes, which is known before anything is solved. A bound may be far above
-what is needed, and a game may need more time than there is: --budget N stops after N lifts for a
-player, writes nothing but `omega: 51 Budget` on standard error, and exits with status 3.
+`omega show --format pg` writes, which is known before anything is solved. A bound may be far above what
+is needed, and a game may need more time than there is. --budget N stops after N lifts for a player. Then
+nothing is written but `omega: 51 Budget` on standard error, and the exit status is 3.
 
---progress writes a line on standard error each time that 67108864 more lifts were made for a player
-and the game is not yet solved for that player, as `player 0: 67108864 lifts of at most 1099511627776`:
-how many were made, and the bound or, if it is less, the budget. Standard output and the exit
-status are the same without it, even if standard error cannot be written.
+--progress writes a line on standard error each time that 67108864 more lifts were made for a player and
+the game is not yet solved for that player, such as `player 0: 67108864 lifts of at most 1099511627776`.
+The line has the number of lifts so far, and the bound or, if it is less, the budget. Standard output and
+the exit status are the same without it, even if standard error cannot be written.
 
---search finds winners and choices by Zielonka's recursive algorithm, which is not proved to find the
-right ones. What it finds is written only after the proved check that `omega verify` makes: for each
-player the choices win from all the nodes given to that player. No node is won by both players, so the
-winners that pass the check are right. Take --search for large games, and lifting for a bound that is
-known before the run. The choices may differ from those of lifting. Where the search finds nothing, the
-game is solved by lifting, within the budget; --progress reports on that lifting alone. --search solves
-for both players, so --player is not given beside it.
+--search finds winners and choices with Zielonka's recursive algorithm. It is not proved that this finds
+the right ones. So what it finds is written only after it has passed the proved check of `omega verify`:
+for each player the choices win from all the nodes given to that player. No node is won by both players,
+so the winners that pass the check are right. Take --search for large games, and lifting for a bound that
+is known before the run. The choices may differ from those of lifting. Where the search finds nothing,
+the game is solved by lifting, within the budget; --progress reports on that lifting alone. --search
+solves for both players, so it does not go with --player.
 
 --from ID solves the part of the game that is reached from the node with that identifier, and writes
 lines for those nodes alone. Who wins them depends on nothing else in the game. If no node has the
 identifier, the refusal is 54 UnknownNode. `omega canon --format pg --from ID` writes the part as a game
 of its own, and `omega verify --from ID` checks a solution of it.
 
-Lifting refuses a game as 50 TooWide if its nodes times the priorities that lose for a player are over
-67108864.
+Lifting refuses a game as 50 TooWide if the number of its nodes times the number of its priorities in use
+that lose for a player is over 67108864.
 
 Exit status: 0 done, 1 the text or the task is refused, 2 the command line is wrong, 3 the budget is
 used up, 4 out of memory, 5 a read or a write failed.";

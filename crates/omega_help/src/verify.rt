@@ -8,13 +8,14 @@ use clap::Command;
 use std::alloc::{AllocError, Global};
 
 const DETAILS: &str = "\
-Use it to check an answer, whoever made it: a solution of a game, or a lasso of an automaton. It reads the
-solution or the lasso from FILE, or from standard input if there is no FILE or it is -, and the game or the
-automaton from the file that --game or --automaton names. It writes `yes` if the answer is right, and `no`
-if not. One of --game and --automaton has to be given.
+Use it to check an answer, whoever made it: a solution of a game, or a lasso of an automaton. It reads
+the solution or the lasso from FILE, or from standard input if there is no FILE or it is -, and the game
+or the automaton from the file that --game or --automaton names. It writes `yes` if the answer is right,
+and `no` if not. Either --game or --automaton has to be given, but not both.
 
---game FILE checks a solution of the game in FILE. It is right if for each player the choices win from all
-the nodes that it gives to that player. The game is not solved: only the choices are followed.
+--game FILE checks a solution of the game in FILE. The solution is right if for each player the choices
+win from all the nodes that it gives to that player. The game is not solved: only the choices are
+followed.
 
   $ echo '0 0 0 1,2; 1 1 1 0; 2 2 1 0;' > game.pg
   $ echo 'paritysol 2; 0 0 2; 1 0; 2 0;' > solution.txt
@@ -30,9 +31,9 @@ In the second solution player 0 moves from node 0 to node 1, back to it, and so 
 on the way is 1, which is odd.
 
 With --explain three lines follow `no`. The first names the first player whose choices do not win. The
-others have the nodes of a walk from a node given to that player, which these choices leave possible.
-From the last node of the cycle the walk goes back to the first; the greatest priority on the cycle
-loses for the player.
+other two have the nodes of a walk that these choices leave possible, from a node given to that player.
+From the last node of the cycle the walk goes back to the first. The greatest priority on the cycle loses
+for the player.
 
 --from ID judges a solution of the part of the game that is reached from the node with that identifier,
 as `omega solve --from ID` writes it; the file has the whole game. If no node has the identifier,
@@ -47,10 +48,11 @@ the part, then a line for each node in rising order of identifiers, with the pla
 and, exactly where that player owns the node, one of its successors. Any other text of this kind is
 refused as 53 BadSolution.
 
---automaton FILE checks a lasso of the automaton in FILE. It is right if it is accepted: its stem leads
-from a start to a state, and its cycle from there back to it; each of its edges has a label that some set
-of propositions makes true, or no label; and the acceptance formula holds of the marks of the cycle. Every
-acceptance formula is judged. The lasso is only followed, and none is searched for.
+--automaton FILE checks a lasso of the automaton in FILE. The lasso is right if the automaton accepts it.
+Then its stem leads from a start to a state, and its cycle from there back to it; each of its edges has a
+label that some set of propositions makes true, or no label; and the acceptance formula holds of the
+marks of the cycle. The acceptance formula may be any. The lasso is only followed, and no lasso is
+searched for.
 
   $ echo 'HOA: v1 States: 2 Start: 0 acc-name: co-Buchi Acceptance: 1 Fin(0)
     --BODY-- State: 0 [t] 0 {0} [t] 1 State: 1 [t] 1 --END--' > automaton.hoa
@@ -63,12 +65,12 @@ acceptance formula is judged. The lasso is only followed, and none is searched f
 With --explain a line follows `no` that says what is wrong with the lasso: the first edge that is not
 there, or that can't be taken where it stands; or else that the cycle does not accept.
 
-A lasso text is what `omega empty` writes without --word: `stem` and numbers of edges, then `cycle` and at
-least one, with white space between them. The edges of the body are numbered from 0 in the order of the
-text, through all states. A number that no edge has is no fault of the text, and the answer is `no`. A
-start or an edge of the automaton that lists several states joined by & is refused as 41 UniversalBranch.
-42 TooManyPropositions comes only where a label of one of the lasso's edges mentions over 12
-propositions, and 4194304 steps do not decide whether it can hold.
+A lasso text is what `omega empty` writes without --word: `stem` and numbers of edges, then `cycle` and
+at least one, with white space between them. The edges of the body are numbered from 0 in the order of
+the text, through all states. If no edge has a number of the lasso, the text is not refused: the answer
+is `no`. A start or an edge of the automaton that lists several states joined by & is refused as
+41 UniversalBranch. 42 TooManyPropositions comes only where a label of one of the lasso's edges mentions
+over 12 propositions, and 4194304 steps do not decide whether it can hold.
 
 If both texts are at fault, the fault of the game or the automaton is reported. After the line of a
 fault another says which text has it: `omega: in the game` or `omega: in the solution`, and

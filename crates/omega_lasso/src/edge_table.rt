@@ -25,8 +25,9 @@ pub(crate) fn edge_table(alloc: Global, automaton: &Automaton) -> Result<EdgeTab
     ensures memory { IsOkUnless result Refusal.Memory }
 {
     automaton.keeps_limits();
-    let mut ends = Vec::new(alloc);
-    let mut marks = Vec::new(alloc);
+    let count = automaton.edge_count() as usize;
+    let mut ends = Vec::with_capacity(alloc, count)?;
+    let mut marks = Vec::with_capacity(alloc, count)?;
     for state in automaton.defined() {
         add_ends(&mut ends, state)?;
         add_marks(alloc, &mut marks, state)?;

@@ -105,7 +105,7 @@ fn leaving(
     ensures left { IfOk result (λ edges. edges.items ≡ filter (λ number. slice_index_or states.now (edge_at graph.now number).from false) numbers.now) }
     ensures memory { IsOkUnless result Refusal.Memory }
 {
-    let mut edges = Vec::new(alloc);
+    let mut edges = Vec::with_capacity(alloc, numbers.len())?;
     for number in numbers {
         if states[graph.from(*number) as usize] {
             edges.push(*number)?;

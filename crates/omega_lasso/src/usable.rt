@@ -32,7 +32,7 @@ fn judged(alloc: Global, automaton: &Automaton) -> Result<Vec<bool>, Refusal>
     ensures usable { IfOk result (λ usable. AreUsable automaton.now usable.items) }
     ensures refused { IfErr result (or_task (λ fault. (fault ≡ TooManyPropositions) × HasWideLabel automaton.now) (or_memory never)) }
 {
-    let mut usable = Vec::new(alloc);
+    let mut usable = Vec::with_capacity(alloc, automaton.edge_count() as usize)?;
     for state in automaton.defined() {
         judge_edges(alloc, state, &mut usable)?;
     }
@@ -90,7 +90,7 @@ fn chosen(alloc: Global, automaton: &Automaton, flags: &[bool]) -> Result<Vec<u3
     ensures usable { IfOk result (λ edges. AreUsableEdges automaton.now edges.items) }
     ensures memory { IsOkUnless result Refusal.Memory }
 {
-    let mut edges = Vec::new(alloc);
+    let mut edges = Vec::with_capacity(alloc, automaton.edge_count() as usize)?;
     for number in 0..automaton.edge_count() {
         add_chosen(&mut edges, flags[number as usize], number)?;
     }

@@ -1,8 +1,6 @@
 -- Formulas and judgements of the parts of a product.
-use Rattle.std.proofs.Common.{◌≡◌, ◌==◌, ℕ, zero, suc, ◌+◌, ◌<◌, ◌≤◌, ◌⊎◌, inl, inr, ◌/◌, ◌%◌, ◌^◌, Bool, true, false, not, cond, nat_lt, List, [], ◌∷◌, ◌++◌, length, map, take, get_or, Option, Some, None, position, refl, sym, ap, ap₂, ◌∙◌, arith, true≢false}
+use Rattle.std.proofs.Common.{◌≡◌, ℕ, zero, suc, ◌+◌, ◌<◌, ◌≤◌, ◌⊎◌, inl, inr, Bool, true, false, not, cond, nat_lt, List, [], ◌∷◌, ◌++◌, length, map, take, get_or, Option, Some, None, position, refl, sym, ap, ap₂, ◌∙◌, arith, true≢false}
 use Rattle.std.specs.List.{flat_map, position_or_len}
-use Rattle.std.proofs.Math.Nat.{div-eq_of_lt}
-use Rattle.std.proofs.Math.Pow.{pow_mono}
 use Rattle.std.proofs.lemmas.Bool.{cases_lt, lt-ltb}
 use Rattle.std.proofs.lemmas.List.{map-append}
 use Rattle.omega_acc.specs.formula.Acceptance.{AccTree, conjunction, constant, disjunction, fin, inf}
@@ -24,15 +22,6 @@ moved_nowhere (inf negated set) = let e : 0 + set ≡ set = omega arith in ap (i
 moved_nowhere (fin negated set) = let e : 0 + set ≡ set = omega arith in ap (fin negated) e
 moved_nowhere (conjunction left right) = ap (λ l. conjunction l (moved_behind 0 right)) (moved_nowhere left) ∙ ap (conjunction left) (moved_nowhere right)
 moved_nowhere (disjunction left right) = ap (λ l. disjunction l (moved_behind 0 right)) (moved_nowhere left) ∙ ap (disjunction left) (moved_nowhere right)
-
--- bits of numbers that are too small have none
-not_below : (k n : ℕ) → n ≤ k → nat_lt k n ≡ false
-not_below k n least = grind arith
-
-pub far_bit : (index p : ℕ) → 64 ≤ p → index < 2 ^ 64 → nat_lt p 64 ≡ ((index / 2 ^ p) % 2 == 1)
-far_bit index p far small =
-    let e : index / 2 ^ p ≡ 0 = div-eq_of_lt (omega (arith, small, pow_mono far)) in
-    not_below p 64 far ∙ ap (λ (n : ℕ). n % 2 == 1) (sym e)
 
 -- a place that is not found is behind the last
 pub place_within : {X : Type 0} (p : X → Bool) (xs : List X) → position_or_len p xs ≤ length xs

@@ -1,6 +1,5 @@
 pub mod Membership
 pub mod Refused
-pub mod Depths
 pub mod BuchiKinds
 pub mod Accepted
 pub mod Holding

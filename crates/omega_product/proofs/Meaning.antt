@@ -21,7 +21,8 @@ use Rattle.omega_raw.specs.declared.raw_item.RawItem.TheVariants as item
 use Rattle.omega_raw.specs.declared.raw_state.RawState.{RawState}
 use Rattle.omega_text.specs.Limits.{most_number}
 use Rattle.omega_product.specs.Acceptance.{IsJointAcceptance}
-use Rattle.omega_product.specs.Limits.{IsWithin, most_edges, most_states}
+use Rattle.omega_product.specs.Limits.{IsWithin}
+use Rattle.omega_written.specs.Limits.{most_edges, most_states}
 use Rattle.omega_product.specs.Pairs.{AreReached, Pair, first_leaving, number_of, second_leaving, start_pairs}
 use Rattle.omega_product.specs.Product.{IsJointEdge, IsPairState, IsProduct, joint_transitions}
 use Rattle.omega_product.specs.declared.transition.Transition.{Transition}

@@ -5,7 +5,7 @@ use Rattle.std.proofs.lemmas.Grind.{flat_map-append}
 use Rattle.std.proofs.lemmas.List.{length-append, take-append-le, take_all, take_more}
 use Rattle.indexmap.specs.IndexSet.{insert_all, insert_key}
 use Rattle.omega_automaton.specs.Automaton.{Description}
-use Rattle.omega_product.specs.Limits.{most_states}
+use Rattle.omega_written.specs.Limits.{most_states}
 use Rattle.omega_product.specs.Pairs.{AreFound, AreReached, Pair, found_behind, same_pair, start_pairs, targets_of}
 
 append_nil : {X : Type 0} (xs : List X) → xs ++ [] ≡ xs

@@ -3,18 +3,12 @@ use Rattle.std.proofs.Common.{◌≡◌, ◌==◌, ℕ, zero, suc, ◌+◌, ◌<
 use Rattle.std.specs.List.{position_or_len}
 use Rattle.std.proofs.lemmas.Bool.{cases_lt, lt-ltb}
 use Rattle.std.proofs.lemmas.List.{length-map, length-take, take_more}
-use Rattle.omega_acc.specs.label.Label.{conjunction}
 use Rattle.omega_automaton.specs.declared.edge.Edge.{Edge}
 use Rattle.omega_automaton.specs.declared.state.State.{State}
-use Rattle.omega_product.specs.Transitions.{Standing, literal, transition_of, transitions_at, transitions_from, valuation_label}
+use Rattle.omega_product.specs.Transitions.{Standing, transition_of, transitions_at, transitions_from}
 use Rattle.omega_product.specs.private.Tables.{AreRows, row_of}
 use Rattle.omega_product.specs.declared.transition.Transition.{Transition}
 use Rattle.omega_product.proofs.Membership.{Contains-here, Contains-there}
-
--- one proposition more
-pub valuation_more : (index p : ℕ) → 1 ≤ p → valuation_label index (p + 1) ≡ conjunction (valuation_label index p) (literal index p)
-valuation_more index zero some = absurd (omega arith)
-valuation_more index (suc p) some = let e : suc p + 1 ≡ suc (suc p) = omega arith in ap (valuation_label index) e
 
 -- one edge more
 from_more : (standing : Standing) (state : State) (first : ℕ) (edges : List Edge) (edge : Edge)

@@ -1,15 +1,8 @@
 -- The limits of a product.
-use Rattle.std.specs.Prelude.{◌≤◌, ℕ}
+use Rattle.std.specs.Prelude.{◌≤◌}
 use Rattle.omega_text.specs.Limits.{most_number}
 use Rattle.omega_automaton.specs.Automaton.{Description, edge_count}
-
--- the most states
-abbrev pub most_states : ℕ
-most_states = 1048576
-
--- the most edges
-abbrev pub most_edges : ℕ
-most_edges = 8388608
+use Rattle.omega_written.specs.Limits.{most_edges, most_states}
 
 -- an automaton is not larger than a product may be; its sets have numbers that a text can have
 pub record IsWithin (a : Description) : Type 0 where

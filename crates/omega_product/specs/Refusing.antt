@@ -21,12 +21,13 @@ use Rattle.omega_automaton.specs.Limits.{most_propositions}
 use Rattle.omega_automaton.specs.declared.state.State.{State}
 use Rattle.omega_product.specs.Acceptance.{moved_behind}
 use Rattle.omega_product.specs.Joining.{joined_names}
-use Rattle.omega_product.specs.Limits.{most_edges, most_states}
 use Rattle.omega_product.specs.Pairs.{AreFound, AreReached, Pair, first_leaving, first_standing, second_leaving, second_standing, targets_of}
-use Rattle.omega_product.specs.Transitions.{FitsAText, Standing, transitions_from}
+use Rattle.omega_product.specs.Transitions.{Standing, transitions_from}
 use Rattle.omega_product.specs.Written.{IsWrittenProduct}
 use Rattle.omega_product.specs.declared.transition.Transition.{Transition}
 use Rattle.omega_raw.specs.declared.raw_automaton.RawAutomaton.{RawAutomaton}
+use Rattle.omega_written.specs.Fitting.{FitsAText}
+use Rattle.omega_written.specs.Limits.{most_edges, most_states}
 
 -- 41 does not apply: each start and each edge of both lists one state
 abbrev pub IsPlain : Description → Description → Type 0

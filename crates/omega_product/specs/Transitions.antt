@@ -1,29 +1,12 @@
 -- The edges of an automaton as its product with another sees them: labels and marks of states moved to edges, labels
 -- for edges that have none, propositions joined by name, sets behind those of the other (HOA v1, semantics).
-use Rattle.std.specs.Prelude.{◌≤◌, ℕ, zero, suc, ◌+◌, ◌/◌, ◌%◌, ◌^◌, ◌==◌, Bool, true, false, ◌||◌, if◌then◌else◌, List, [], ◌∷◌, ◌++◌, map, slice_index_or}
-use Rattle.std.specs.Option.{option_or, unwrap_or}
-use Rattle.omega_acc.specs.Limits.{most_depth, most_size}
-use Rattle.omega_acc.specs.WritingLaws.{label_written}
-use Rattle.omega_acc.specs.label.Label.{LabelTree, conjunction, constant, label_size, negation, proposition, propositions, truth}
-use Rattle.omega_acc.specs.label.Raw.{raw_depth}
+use Rattle.std.specs.Prelude.{ℕ, ◌+◌, ◌==◌, Bool, true, false, ◌||◌, if◌then◌else◌, List, [], ◌∷◌, ◌++◌, map, slice_index_or}
+use Rattle.omega_acc.specs.label.Label.{LabelTree, propositions, truth}
 use Rattle.omega_automaton.specs.declared.edge.Edge.{Edge}
 use Rattle.omega_automaton.specs.declared.state.State.{State}
 use Rattle.omega_product.specs.Joining.{relabelled}
 use Rattle.omega_product.specs.declared.transition.Transition.{Transition}
-
--- a proposition that holds in the valuation of an index, or its negation
-abbrev pub literal : ℕ → ℕ → LabelTree
-literal index p = if (index / 2 ^ p) % 2 == 1 then proposition p else negation (proposition p)
-
--- the label of the valuation of an index over so many propositions
-abbrev pub valuation_label : ℕ → ℕ → LabelTree
-valuation_label index zero = constant true
-valuation_label index (suc zero) = literal index 0
-valuation_label index (suc (suc p)) = conjunction (valuation_label index (suc p)) (literal index (suc p))
-
--- the label of an edge by its index within its state: that of the state, or else its own, or else that of the valuation
-abbrev pub label_at : ℕ → State → ℕ → Edge → LabelTree
-label_at count state index edge = unwrap_or (option_or state.label edge.label) (valuation_label index count)
+use Rattle.omega_written.specs.Labels.{label_at}
 
 -- how an automaton stands within a product: its count of propositions, their places among the joined ones,
 -- and how many sets stand before its own
@@ -65,8 +48,3 @@ is_true_under_some (p ∷ ps) held label =
 -- whether a label can be true
 abbrev pub can_hold : LabelTree → Bool
 can_hold label = is_true_under_some (propositions label) (λ p. false) label
-
--- a label can be written in a text: it is not over 256 deep with the parentheses that it needs, and not too large
-pub record FitsAText (label : LabelTree) : Type 0 where
-  pub shallow : raw_depth (label_written label) ≤ most_depth
-  pub small : label_size label ≤ most_size

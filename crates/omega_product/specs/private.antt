@@ -1,4 +1,3 @@
 -- What private contracts alone cite.
-pub mod Unfit
 pub mod Meeting
 pub mod Tables

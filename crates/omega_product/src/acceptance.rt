@@ -9,15 +9,15 @@ ghost use Rattle.omega_acc.specs.formula.Kind.{buchi_formula};
 ghost use Rattle.omega_acc.specs.formula.Raw.{raw_acc_depth};
 ghost use Rattle.omega_acc.specs.formula.Shape.{acc_tree_of_shape};
 ghost use Rattle.omega_product.specs.Acceptance.{buchi_name as name_of_buchi, moved_behind};
-ghost use Rattle.omega_product.specs.private.Unfit.{IsLarge};
+ghost use Rattle.omega_written.specs.Fitting.{IsLarge};
 ghost use Rattle.omega_product.specs.Written.{IsAcceptanceWritten};
 
 use crate::buchi::buchi_sets;
-use crate::formula_writing::written_formula;
 use crate::numbers::behind;
 use omega_acc::{AccName, AccShape, Parameter, RawAcc};
 use omega_automaton::Automaton;
 use omega_text::{ByteString, Refusal, Seq};
+use omega_written::written_formula;
 use std::alloc::Global;
 
 /// An acceptance as it is written: its name, if it has one, and its formula.

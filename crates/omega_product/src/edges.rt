@@ -6,17 +6,17 @@ ghost use Rattle.omega_acc.specs.label.Label.{conjunction};
 ghost use Rattle.omega_acc.specs.label.Shape.{label_tree_of_shape};
 ghost use Rattle.omega_product.specs.Pairs.{number_of as number_in, partners};
 ghost use Rattle.omega_product.specs.Product.{joint_transitions, taken_together};
-ghost use Rattle.omega_product.specs.Limits.{most_states};
+ghost use Rattle.omega_written.specs.Limits.{most_states};
 ghost use Rattle.omega_product.specs.private.Meeting.{HasUnmet, HasUnmetPartner, IsUnmet};
 ghost use Rattle.omega_product.specs.Written.{raw_edge};
 
-use crate::label_writing::written_label;
 use crate::meeting::meeting;
 use crate::transition::Transition;
 use indexmap::IndexSet;
 use omega_acc::LabelShape;
 use omega_raw::{RawEdge, RawEdges};
 use omega_text::{Marks, Numbers, Refusal};
+use omega_written::written_label;
 use std::alloc::Global;
 
 /// The edges of two states taken together. 42 where it is not decided whether two of them can be, and 55 where their

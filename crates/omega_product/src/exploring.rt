@@ -4,19 +4,19 @@ ghost use Rattle.std.specs.Prelude.{◌≡◌, ◌<◌, ◌≤◌, get_or, lengt
 ghost use Rattle.omega_text.specs.Cases.{IsMemory, never, or_memory, or_task};
 ghost use Rattle.std.specs.List.{flat_map};
 ghost use Rattle.indexmap.specs.IndexSet.{insert_all};
-ghost use Rattle.omega_product.specs.Limits.{most_states};
+ghost use Rattle.omega_written.specs.Limits.{most_states};
 ghost use Rattle.omega_product.specs.Pairs.{AreReached, first_leaving, first_standing, partners, same_pair, second_leaving, second_standing, start_state as first_listed, targets_between, targets_of};
 ghost use Rattle.omega_product.specs.Refusing.{IsJoinFault};
 ghost use Rattle.omega_product.specs.private.Meeting.{HasUnmet, HasUnmetPartner};
 ghost use Rattle.omega_product.specs.private.Tables.{AreRows};
 
-use crate::limits::MOST_STATES;
 use crate::meeting::can_meet;
 use crate::table::Table;
 use crate::transition::Transition;
 use indexmap::IndexSet;
 use omega_automaton::Automaton;
 use omega_text::{Numbers, Refusal, TaskFault};
+use omega_written::MOST_STATES;
 use std::alloc::Global;
 
 /// The pairs that are reached, as they are found. 42 where it is not decided whether two edges can be taken together,

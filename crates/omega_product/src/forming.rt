@@ -3,12 +3,13 @@ ghost use Rattle.omega_text.specs.Cases.{IsMemory, never, or_memory, or_task};
 ghost use Rattle.omega_text.specs.Limits.{most_number};
 ghost use Rattle.omega_automaton.specs.Branching.{has_branch};
 ghost use Rattle.omega_product.specs.Joining.{joined_names as names_of_both};
-ghost use Rattle.omega_product.specs.Limits.{IsWithin, most_edges, most_states};
+ghost use Rattle.omega_product.specs.Limits.{IsWithin};
+ghost use Rattle.omega_written.specs.Limits.{most_edges, most_states};
 ghost use Rattle.omega_product.specs.Pairs.{first_standing, second_standing};
 ghost use Rattle.omega_product.specs.Product.{IsProduct};
 ghost use Rattle.omega_product.specs.Refusing.{HasUnfitLabel, IsJoinFault, IsPlain, IsProductRefusal};
 ghost use Rattle.omega_product.specs.private.Tables.{AreRows};
-ghost use Rattle.omega_product.specs.private.Unfit.{IsLarge};
+ghost use Rattle.omega_written.specs.Fitting.{IsLarge};
 ghost use Rattle.omega_product.specs.Written.{IsWritten, IsWrittenProduct, raw_of};
 
 use crate::acceptance::joint_acceptance;

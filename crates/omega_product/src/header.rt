@@ -3,7 +3,7 @@
 ghost use Rattle.std.specs.Prelude.{◌≡◌, ◌++◌, ◌<◌, ◌≤◌, ◌^◌, length, map, IfErr, IfOk, OnOk};
 ghost use Rattle.std.specs.List.{flat_map};
 ghost use Rattle.omega_text.specs.Cases.{IsMemory};
-ghost use Rattle.omega_product.specs.Limits.{most_states};
+ghost use Rattle.omega_written.specs.Limits.{most_states};
 ghost use Rattle.omega_product.specs.Pairs.{start_state as first_listed};
 ghost use Rattle.omega_product.specs.Written.{name_items, raw_items, raw_start};
 

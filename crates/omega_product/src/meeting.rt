@@ -7,11 +7,12 @@ ghost use Rattle.omega_acc.specs.label.Shape.{label_tree_of_shape};
 ghost use Rattle.omega_product.specs.Pairs.{can_meet};
 ghost use Rattle.omega_product.specs.private.Meeting.{IsMeeting, IsUnmet};
 
-use crate::labels::{both, label_of_shape};
+use crate::labels::both;
 use crate::transition::Transition;
 use omega_acc::LabelShape;
 use omega_satisfying::can_be_true;
 use omega_text::Refusal;
+use omega_written::fitting_label;
 use std::alloc::Global;
 
 /// The label of an edge of the first and one of the second taken together, none where they can't be. 42 where that is
@@ -25,7 +26,7 @@ pub(crate) fn meeting(
     ensures err { IfErr result (or_task (IsUnmet first.now second.now) (or_memory never)) }
 {
     let shape = joint_shape(alloc, first, second)?;
-    let label = label_of_shape(alloc, &shape)?;
+    let label = fitting_label(alloc, &shape)?;
     let possible = can_be_true(alloc, &label)?;
     if possible { Ok(Some(shape)) } else { Ok(None) }
 }

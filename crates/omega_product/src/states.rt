@@ -2,22 +2,22 @@
 
 ghost use Rattle.std.specs.Prelude.{◌≡◌, ◌+◌, ◌<◌, ◌≤◌, ◌∷◌, ◌++◌, [], Some, length, map, sum_by, IfErr, IfOk, OnOk};
 ghost use Rattle.omega_text.specs.Cases.{IsMemory, never, or_memory, or_task};
-ghost use Rattle.omega_product.specs.Limits.{most_edges, most_states};
+ghost use Rattle.omega_written.specs.Limits.{most_edges, most_states};
 ghost use Rattle.omega_product.specs.Pairs.{AreReached, first_leaving, first_standing, pair_name, second_leaving, second_standing};
 ghost use Rattle.omega_product.specs.Refusing.{IsJoinFault};
 ghost use Rattle.omega_product.specs.private.Meeting.{HasUnmet};
 ghost use Rattle.omega_product.specs.private.Tables.{AreRows};
-ghost use Rattle.omega_product.specs.private.Unfit.{IsLarge};
+ghost use Rattle.omega_written.specs.Fitting.{IsLarge};
 ghost use Rattle.omega_product.specs.Written.{raw_state_of};
 
 use crate::edges::{joint_edges, number_of};
 use crate::exploring::pair_at;
-use crate::limits::MOST_EDGES;
 use crate::table::Table;
 use indexmap::IndexSet;
 use omega_automaton::Automaton;
 use omega_raw::{RawState, StateName};
 use omega_text::{ByteString, Marks, Refusal, TaskFault, write_number};
+use omega_written::MOST_EDGES;
 use std::alloc::Global;
 
 /// The states of the pairs. 42 where it is not decided whether two edges can be taken together, 55 where there are too

@@ -4,7 +4,7 @@ ghost use Rattle.omega_automaton.specs.declared.state.State.{State};
 ghost use Rattle.omega_product.specs.Transitions.{Standing, transitions_at};
 ghost use Rattle.omega_product.specs.Refusing.{HasUnfitLabel};
 ghost use Rattle.omega_product.specs.private.Tables.{AreRows, standing_at};
-ghost use Rattle.omega_product.specs.private.Unfit.{IsLarge};
+ghost use Rattle.omega_written.specs.Fitting.{IsLarge};
 
 use crate::transition::Transition;
 use crate::transitions::transitions_of;

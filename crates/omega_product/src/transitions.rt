@@ -5,16 +5,18 @@ ghost use Rattle.omega_text.specs.Cases.{IsMemory};
 ghost use Rattle.omega_acc.specs.label.Shape.{label_tree_of_shape};
 ghost use Rattle.omega_product.specs.Joining.{relabelled};
 ghost use Rattle.omega_product.specs.Refusing.{HasUnfitEdge};
-ghost use Rattle.omega_product.specs.Transitions.{label_at as label_of_edge, transition_of as transition_of_edge};
+ghost use Rattle.omega_product.specs.Transitions.{transition_of as transition_of_edge};
 ghost use Rattle.omega_product.specs.private.Tables.{row_of, standing_at};
-ghost use Rattle.omega_product.specs.private.Unfit.{IsLarge, IsUnfit};
+ghost use Rattle.omega_written.specs.Fitting.{IsLarge, IsUnfit};
+ghost use Rattle.omega_written.specs.Labels.{label_at as label_of_edge};
 
-use crate::labels::{label_of_shape, renumbered, valuation};
+use crate::labels::renumbered;
 use crate::numbers::behind;
 use crate::transition::Transition;
-use omega_acc::{Label, LabelShape};
+use omega_acc::LabelShape;
 use omega_automaton::{EdgeRef, State};
 use omega_text::{Numbers, Refusal, Seq};
+use omega_written::{fitting_label, label_at};
 use std::alloc::Global;
 
 /// The edges of a state, by the places of the propositions and the count of sets before its own. 55 where a label is
@@ -50,7 +52,7 @@ fn transition_of(
     ensures err { IfErr result (IsUnfit (relabelled places.now (label_of_edge (length places.now) state.now at edge.now))) }
 {
     let shape = shape_of(alloc, state, edge, at, places)?;
-    let label = label_of_shape(alloc, &shape)?;
+    let label = fitting_label(alloc, &shape)?;
     let target = edge.targets().first().copied().unwrap_or(0);
     let marks = marks_behind(alloc, state.marks.as_slice(), edge.marks(), before)?;
     Ok(Transition {
@@ -60,7 +62,7 @@ fn transition_of(
     })
 }
 
-/// The label of an edge of a state by its index, over the joined propositions. 55 where it is too deep.
+/// The label of an edge of a state by its index, over the joined propositions. 60 alone.
 fn shape_of(
     alloc: Global,
     state: &State,
@@ -69,22 +71,10 @@ fn shape_of(
     places: &[u32],
 ) -> Result<LabelShape, Refusal>
     ensures ok { IfOk result (λ shape. label_tree_of_shape shape ≡ relabelled places.now (label_of_edge (length places.now) state.now at edge.now)) }
-    ensures err { IfErr result (IsUnfit (relabelled places.now (label_of_edge (length places.now) state.now at edge.now))) }
-{
-    match (&state.label, edge.label()) {
-        (Some(label), _) => renumbered_label(alloc, label, places),
-        (None, Some(label)) => renumbered_label(alloc, label, places),
-        (None, None) => valuation(alloc, at, places),
-    }
-}
-
-/// A label over the joined propositions.
-fn renumbered_label(alloc: Global, label: &Label, places: &[u32]) -> Result<LabelShape, Refusal>
-    ensures ok { IfOk result (λ shape. label_tree_of_shape shape ≡ relabelled places.now label.now) }
     ensures err { IfErr result IsMemory }
 {
-    let shape = label.shape(alloc)?;
-    renumbered(alloc, &shape, places)
+    let label = label_at(alloc, places.len(), state, edge, at)?;
+    renumbered(alloc, &label, places)
 }
 
 /// The marks of a state and of an edge behind so many sets. Refusal 60 also where a number would not fit, which no

@@ -6,7 +6,8 @@ use Rattle.omega_acc.specs.label.Satisfiable.{IsSatisfiable}
 use Rattle.omega_game.proofs.elements.Membership.{Contains-cases, Contains-here, Contains-nothing}
 use Rattle.omega_empty.specs.Words.{IsValuation, has_bit}
 use Rattle.omega_product.specs.Joining.{number_among, relabelled}
-use Rattle.omega_product.specs.Transitions.{can_hold, is_true_under_some, literal, valuation_label, with_value}
+use Rattle.omega_product.specs.Transitions.{can_hold, is_true_under_some, with_value}
+use Rattle.omega_written.specs.Labels.{literal, valuation_label}
 
 -- a label over joined propositions is true where that over its own is
 pub truth_relabelled : (places : List ℕ) (held : ℕ → Bool) (label : LabelTree)

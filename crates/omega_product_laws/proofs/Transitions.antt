@@ -17,7 +17,8 @@ use Rattle.omega_empty.specs.Words.{Allows, index_in}
 use Rattle.omega_empty.proofs.making.Flat.{IsListed, listed_flat}
 use Rattle.omega_empty.proofs.meaning.SingleTargets.{EntersOne, enters_one}
 use Rattle.omega_product.specs.Joining.{number_among, relabelled}
-use Rattle.omega_product.specs.Transitions.{Standing, transition_of, transitions_at, transitions_from, valuation_label}
+use Rattle.omega_product.specs.Transitions.{Standing, transition_of, transitions_at, transitions_from}
+use Rattle.omega_written.specs.Labels.{valuation_label}
 use Rattle.omega_product.specs.declared.transition.Transition.{Transition}
 use Rattle.omega_product_laws.proofs.Labels.{truth_relabelled, valuation_true}
 use Rattle.omega_product_laws.proofs.Lists.{at_left, at_right, contains_at, contains_map, same_some}

@@ -1,5 +1,5 @@
 -- A product as it is written has the form of what is read: so its canonical text is read back.
-use Rattle.std.proofs.Common.{◌≡◌, ℕ, ◌+◌, ◌≤◌, inl, inr, List, [], length, map, append-nil, codes, Option, Some, None, refl, sym, ap, subst, ◌∙◌, arith}
+use Rattle.std.proofs.Common.{◌≡◌, ℕ, ◌+◌, ◌≤◌, inl, inr, List, [], length, map, codes, Option, Some, None, refl, sym, ap, subst, ◌∙◌, arith}
 use Rattle.std.specs.Prelude.{IfSome}
 use Rattle.std.specs.List.{AllByRecursion}
 use Rattle.std.proofs.lemmas.List.Sums.{AllPass-from_list_all}
@@ -7,22 +7,21 @@ use Rattle.omega_text.specs.Bytes.{is_word_byte}
 use Rattle.omega_text.specs.Forms.{IsWord}
 use Rattle.omega_text.specs.Limits.{most_number, most_text}
 use Rattle.omega_text.specs.hoa.Forms.{IsQuotable}
-use Rattle.omega_text.specs.declared.hoa.kind.HoaKind.TheVariants.{End}
 use Rattle.omega_acc.specs.WritingLaws.{WrittenFormulasMean, WrittenLabelsMean, acc_written}
 use Rattle.omega_acc.specs.formula.Acceptance.{AccTree}
 use Rattle.omega_acc.specs.formula.Raw.{RawAccTree}
 use Rattle.omega_acc.specs.declared.formula.name.AccName.{AccName}
 use Rattle.omega_raw.specs.Grammar.{IsRawItem}
 use Rattle.omega_raw.specs.declared.raw_automaton.RawAutomaton.{RawAutomaton}
-use Rattle.omega_automaton.specs.Automaton.{Description, IsAutomaton}
+use Rattle.omega_automaton.specs.Automaton.{Description}
 use Rattle.omega_automaton.specs.Laws.{MeaningsAreAutomata}
 use Rattle.omega_canon.specs.Canonical.{canonical_automaton}
 use Rattle.omega_hoa.specs.Alone.{IsAutomatonText}
 use Rattle.omega_hoa.specs.Laws.{AutomataFillSegments}
-use Rattle.omega_hoa.specs.Stream.{IsSegment}
 use Rattle.omega_product.specs.Acceptance.{IsJointAcceptance, buchi_name}
 use Rattle.omega_product.specs.Joining.{joined_names}
-use Rattle.omega_product.specs.Limits.{IsWithin, most_states}
+use Rattle.omega_product.specs.Limits.{IsWithin}
+use Rattle.omega_written.specs.Limits.{most_states}
 use Rattle.omega_product.specs.Pairs.{Pair, first_leaving, number_of, same_pair, second_leaving, start_pairs}
 use Rattle.omega_product.specs.Product.{joint_transitions}
 use Rattle.omega_product.specs.Written.{IsWritten, name_items, raw_edge, raw_product, raw_start, raw_state_of}
@@ -32,12 +31,9 @@ use Rattle.omega_product.proofs.Formulas.{place_within}
 use Rattle.omega_product.proofs.Meaning.{sets_written, states_written}
 use Rattle.omega_read_back.specs.Laws.{ReadAutomataAreWritable, WasRead}
 use Rattle.omega_read_back.specs.Writable.{IsWritableName, IsWritableNumber}
-use Rattle.omega_read_back.specs.Written.{written_automaton}
-use Rattle.omega_read_back.proofs.meanings.Meant.{Meanings, written-means}
-use Rattle.omega_read_back.proofs.meanings.ReadBack.{cut-tokens}
+use Rattle.omega_read_back.proofs.meanings.Meant.{Meanings}
+use Rattle.omega_read_back.proofs.meanings.ReadBack.{meant-read}
 use Rattle.omega_read_back.proofs.texts.Spelled.{Known}
-use Rattle.omega_read_back.proofs.texts.Whole.{canonical-spelled}
-use Rattle.omega_read_back.proofs.values.Kept.{means-writable}
 use Rattle.omega_read_back.proofs.values.Rows.{IsReadAutomaton, IsReadEdge, IsReadItem, IsReadState}
 use Rattle.omega_product_read_back.proofs.Quotable.{all_both, all_filtered, all_made, name_quotable}
 
@@ -144,13 +140,4 @@ product-read known meanings automata fill writable one other a was was' is withi
     (joint_named one other product.name product.accepted.tree product.accepted.joint) small quotable) in
     let raw : AllByRecursion IsRawItem is.written.items =
     subst Q (sym raw_is) (items_raw known.label_means known.formula_means one other product.pairs few product.name product.accepted.tree) in
-    let automaton : IsAutomaton a = automata is.written a is.means in
-    let text = canonical-spelled known a (means-writable is.written a read raw is.means automaton) in
-    let filled = fill text.lexemes [] (written_automaton a) (cut-tokens (canonical_automaton a) 0 text.cut.end text.lexemes text.cut.cuts) text.written in
-    record {
-      short = short;
-      lexemes = text.lexemes;
-      cut = text.cut;
-      segment = subst (IsSegment End) (sym (filled.split ∙ append-nil filled.segment)) filled.whole;
-      value = record { raw = written_automaton a; written = text.written; means = written-means meanings is.written a read is.means automaton };
-    }
+    meant-read known meanings automata fill is.written a read raw is.means short

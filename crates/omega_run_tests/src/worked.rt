@@ -4,7 +4,7 @@ use std::alloc::Global;
 use std::test::Fail;
 
 /// A command line, a game and the whole output of a run that is done.
-static GAMES: [(&str, &str, &str); 18] = [
+static GAMES: [(&str, &str, &str); 20] = [
     ("omega solve", "0 0 0 0;", "paritysol 0;\n0 0 0;\n"),
     (
         "omega solve --player 0",
@@ -67,6 +67,17 @@ static GAMES: [(&str, &str, &str); 18] = [
         "omega check --format pg",
         "parity 9; 9 3 1 4; 4 2 0 9,4 \"a\";",
         "accepted\n",
+    ),
+    // Dense games: five listed successors a node.
+    (
+        "omega solve",
+        "0 0 0 0,0,0,0,0;",
+        "paritysol 0;\n0 0 0;\n",
+    ),
+    (
+        "omega solve",
+        "0 0 0 1,1,2,2,2; 1 1 1 0,0,0,0,0; 2 2 1 0,0,0,0,0;",
+        "paritysol 2;\n0 0 2;\n1 0;\n2 0;\n",
     ),
     (
         "omega solve --search",

@@ -4,7 +4,7 @@ use Rattle.std.specs.Prelude.{length, Some}
 use Rattle.std.specs.List.{AllZip, range_with_len}
 use Rattle.omega_text.specs.Cases.{never, or_memory, or_task}
 use Rattle.omega_text.specs.declared.refusal.Refusal.{Refusal}
-use Rattle.omega_text.specs.declared.refusal.automaton.AutomatonFault.TheVariants.{Expansion, TooDeep}
+use Rattle.omega_text.specs.declared.refusal.automaton.AutomatonFault.{AutomatonFault}
 use Rattle.omega_text.specs.declared.refusal.task.TaskFault.TheVariants.{TooLarge, TooManyPropositions}
 use Rattle.omega_acc.specs.label.Label.{LabelTree}
 use Rattle.omega_acc.specs.label.Satisfiable.{mentioned}
@@ -14,21 +14,18 @@ use Rattle.omega_automaton.specs.Automaton.{Description}
 use Rattle.omega_automaton.specs.Faults.{automaton_fault_of}
 use Rattle.omega_raw.specs.declared.raw_automaton.RawAutomaton.{RawAutomaton}
 use Rattle.omega_raw.specs.declared.raw_state.RawState.{RawState}
-use Rattle.omega_complement.specs.Complement.{AreApartBelow}
+use Rattle.omega_complement.specs.Complement.{AreApartBelow, AreFittingBelow}
 use Rattle.omega_complement.specs.Labels.{labels_at, state_at}
 use Rattle.omega_complement.specs.Letters.{LacksLetter}
 use Rattle.omega_complement.specs.Refusing.{IsFirstFault, IsStateFault}
 use Rattle.omega_complement.specs.Written.{IsTurned}
+use Rattle.omega_written.specs.Fitting.{IsLarge}
 
 -- why a label is not judged: it is no label, or it mentions too many propositions
 abbrev pub IsUnjudged : LabelTree → Refusal → Type 0
 IsUnjudged label =
     or_task (λ fault. ((fault ≡ TooLarge) × (FitsALabel label → ⊥)) ⊎ ((fault ≡ TooManyPropositions) × (most_mentioned < length (mentioned label))))
     (or_memory never)
-
--- a label is no label
-abbrev pub IsUnfit : LabelTree → Refusal → Type 0
-IsUnfit label = or_task (λ fault. (fault ≡ TooLarge) × (FitsALabel label → ⊥)) (or_memory never)
 
 -- the refusal of a state, which has an edge for each valuation or not
 abbrev pub IsStateRefusal : Bool → List LabelTree → ℕ → Refusal → Type 0
@@ -38,12 +35,13 @@ IsStateRefusal full labels number = or_task (IsStateFault full labels number) (o
 pub record AreTurned (a : Description) (count : ℕ) (states : List RawState) (lacks : Bool) : Type 0 where
   pub turned : AllZip (λ number. IsTurned (length a.propositions) a.states (state_at a number)) (range_with_len 0 count) states
   pub apart : AreApartBelow a count
+  pub fitting : AreFittingBelow a count
   pub lacking : IsTrue lacks ↔ ((number : ℕ) × (number < count) × LacksLetter (labels_at a number))
 
 -- the refusal of the states
 abbrev pub AreRefused : Description → Refusal → Type 0
 AreRefused a = or_task (IsFirstFault a) (or_memory never)
 
--- what is written is refused 32 or 33
+-- what is written breaks a limit of automata
 abbrev pub IsUnformed : RawAutomaton → Refusal → Type 0
-IsUnformed raw = or_task (λ fault. (fault ≡ TooLarge) × ((automaton_fault_of raw ≡ Some TooDeep) ⊎ (automaton_fault_of raw ≡ Some Expansion))) (or_memory never)
+IsUnformed raw = IsLarge ((fault : AutomatonFault) × (automaton_fault_of raw ≡ Some fault))

@@ -66,6 +66,12 @@ pub record IsSearched (leaves enters sources : List ℕ) (count : ℕ) (trace : 
   pub begun : (v : ℕ) → Contains sources v → IsTrue (mark_at trace.marks v)
   pub closed : (i : ℕ) → i < length leaves → IsTrue (mark_at trace.marks (slice_index leaves i)) → IsTrue (mark_at trace.marks (slice_index enters i))
 
+-- a search that met only what is reached, and all of it unless it met a target
+pub record IsSearchedTo (leaves enters sources : List ℕ) (count target : ℕ) (trace : Trace) : Type 0 where
+  pub tree : (i : ℕ) → i < length trace.met → IsMet leaves enters sources trace.met i
+  pub found : (v : ℕ) → IsTrue (mark_at trace.marks v) → (i : ℕ) × (i < length trace.met) × ((met_at trace.met i).state ≡ v)
+  pub whole : (IsTrue (mark_at trace.marks target) → ⊥) → IsSearched leaves enters sources count trace
+
 -- what is met at each index is where the search began, or was met along an edge of the list from what was met before
 abbrev pub LeadBack : ℕ → List Met → Type 0
 LeadBack edges met =
@@ -77,3 +83,10 @@ pub record IsSearchOf (shape : Shape) (edges sources : List ℕ) (trace : Trace)
   pub enters : List ℕ
   pub ends : (marks : ℕ → List ℕ) → AreEnds (marked shape marks) edges leaves enters
   pub searched : IsSearched leaves enters sources shape.states trace
+
+-- a search for a target that met only what edges of a list reach in a graph, and all of it unless it met the target
+pub record IsSearchFor (shape : Shape) (edges sources : List ℕ) (target : ℕ) (trace : Trace) : Type 0 where
+  pub leaves : List ℕ
+  pub enters : List ℕ
+  pub ends : (marks : ℕ → List ℕ) → AreEnds (marked shape marks) edges leaves enters
+  pub searched : IsSearchedTo leaves enters sources shape.states target trace

@@ -1,4 +1,4 @@
--- The graph of an automaton, whose states are numbered anew.
+-- The graph of an automaton, whose states keep their numbers or are numbered anew.
 use Rattle.std.specs.Prelude.{◌≡◌, ℕ, ◌<◌, ◌≤◌, List, [], ◌∷◌, ◌++◌, length, map, All, slice_index_or}
 use Rattle.omega_automaton.specs.Automaton.{BodyEdge, Description, edges_of}
 use Rattle.omega_components.specs.Graph.{Shape}
@@ -35,11 +35,15 @@ pub record Grows (count : ℕ) (before after : List ℕ) : Type 0 where
 abbrev pub AreApart : List ℕ → Type 0
 AreApart names = (p q : ℕ) → p < length names → q < length names → name_in names p ≡ name_in names q → p ≡ q
 
--- the edges stand for those of an automaton, and the sources for its starts
-pub record AreNumbered (a : Description) (names sources : List ℕ) (graph : Shape) : Type 0 where
+-- the edges of a graph stand for some edges, and the sources for the first states of lists
+pub record AreNamed (lists : List (List ℕ)) (edges : List Edge) (names sources : List ℕ) (graph : Shape) : Type 0 where
   pub apart : AreApart names
   pub inside : All (IsNamed names) graph.edges
-  pub ends : map (ends_in names) graph.edges ≡ map ends_of (edges_of a)
+  pub ends : map (ends_in names) graph.edges ≡ edges
   pub within : All (λ source. source < length names) sources
   pub states : All (λ source. source < graph.states) sources
-  pub starts : map (name_in names) sources ≡ map first_of a.starts
+  pub starts : map (name_in names) sources ≡ map first_of lists
+
+-- the edges stand for those of an automaton, and the sources for its starts
+abbrev pub AreNumbered : Description → List ℕ → List ℕ → Shape → Type 0
+AreNumbered a names sources graph = AreNamed a.starts (map ends_of (edges_of a)) names sources graph

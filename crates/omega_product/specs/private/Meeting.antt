@@ -8,8 +8,8 @@ use Rattle.omega_acc.specs.label.Satisfiable.{mentioned}
 use Rattle.omega_acc.specs.label.Shape.{label_tree_of_shape}
 use Rattle.omega_acc.specs.declared.label.shape.LabelShape.{LabelShape}
 use Rattle.omega_product.specs.Pairs.{can_meet}
-use Rattle.omega_product.specs.Transitions.{FitsAText}
 use Rattle.omega_product.specs.declared.transition.Transition.{Transition}
+use Rattle.omega_written.specs.Fitting.{FitsAText}
 
 -- the label of an edge of the first and one of the second taken together, or none where they can't be
 abbrev pub IsMeeting : Transition → Transition → Option LabelShape → Type 0

@@ -6,9 +6,10 @@ use Rattle.omega_text.specs.Limits.{most_text}
 use Rattle.omega_text.specs.Reading.{IsTokenOf}
 use Rattle.omega_text.specs.declared.hoa.kind.HoaKind.TheVariants.{End}
 use Rattle.omega_text.specs.hoa.Format.{hoa_format}
-use Rattle.omega_raw.specs.Grammar.{automaton_symbols}
+use Rattle.omega_raw.specs.Grammar.{IsRawItem, automaton_symbols}
 use Rattle.omega_raw.specs.Symbols.{Tokens}
-use Rattle.omega_automaton.specs.Automaton.{Description}
+use Rattle.omega_raw.specs.declared.raw_automaton.RawAutomaton.{RawAutomaton}
+use Rattle.omega_automaton.specs.Automaton.{Description, IsAutomaton}
 use Rattle.omega_automaton.specs.Laws.{MeaningsAreAutomata}
 use Rattle.omega_automaton.specs.Meaning.{Means}
 use Rattle.omega_hoa.specs.Alone.{IsAutomatonText}
@@ -53,16 +54,22 @@ pub cut-tokens : (source : List ℕ) (from end : ℕ) (tokens : Tokens) → Cuts
 cut-tokens source from end [] cuts = tt
 cut-tokens source from end (lexeme ∷ tokens) cuts = ((source, from, cuts.0), cut-tokens source lexeme.span.end end tokens cuts.1)
 
--- the canonical text of an automaton that was read is a text of that automaton
-pub canonical-read : Known → Meanings → MeaningsAreAutomata → AutomataFillSegments → (a : Description) → IsOfTokens a → length (canonical_automaton a) ≤ most_text
-    → IsAutomatonText (canonical_automaton a) a
-canonical-read known meanings automata fill a of short =
-    let text = canonical-spelled known a (read-writable automata a of) in
+-- the canonical text of what is meant by what has the form of what is read is a text of that automaton
+pub meant-read : Known → Meanings → MeaningsAreAutomata → AutomataFillSegments → (raw : RawAutomaton) (a : Description)
+    → IsReadAutomaton raw → AllByRecursion IsRawItem raw.items → Means raw a → length (canonical_automaton a) ≤ most_text → IsAutomatonText (canonical_automaton a) a
+meant-read known meanings automata fill raw a read items means short =
+    let automaton : IsAutomaton a = automata raw a means in
+    let text = canonical-spelled known a (means-writable raw a read items means automaton) in
     let filled = fill text.lexemes [] (written_automaton a) (cut-tokens (canonical_automaton a) 0 text.cut.end text.lexemes text.cut.cuts) text.written in
     record {
       short = short;
       lexemes = text.lexemes;
       cut = text.cut;
       segment = subst (IsSegment End) (sym (filled.split ∙ append-nil filled.segment)) filled.whole;
-      value = record { raw = written_automaton a; written = text.written; means = read-means meanings automata a of };
+      value = record { raw = written_automaton a; written = text.written; means = written-means meanings raw a read means automaton };
     }
+
+-- the canonical text of an automaton that was read is a text of that automaton
+pub canonical-read : Known → Meanings → MeaningsAreAutomata → AutomataFillSegments → (a : Description) → IsOfTokens a → length (canonical_automaton a) ≤ most_text
+    → IsAutomatonText (canonical_automaton a) a
+canonical-read known meanings automata fill a of short = meant-read known meanings automata fill of.is.raw a (kept a of) of.is.written.items of.is.means short

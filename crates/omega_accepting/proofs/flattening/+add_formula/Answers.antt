@@ -1,5 +1,5 @@
 -- an operator on the formulas of its parts
-use Rattle.std.proofs.Common.{◌≡◌, rules, sym, ◌∙◌}
+use Rattle.std.proofs.Common.{◌≡◌, rules, ◌∙◌}
 use Rattle.omega_acc.specs.formula.Acceptance.{conjunction, disjunction}
 use Rattle.omega_acc.specs.formula.Shape.{acc_tree_of_shape}
 use Rattle.omega_accepting.specs.private.Formulas.{tree_at}

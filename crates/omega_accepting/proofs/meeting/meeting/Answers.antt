@@ -1,5 +1,5 @@
 -- no edge meets the marks
-use Rattle.std.proofs.Common.{◌≡◌, ◌<◌, false, length, get_or, subst, ◌∙◌, sym, arith}
+use Rattle.std.proofs.Common.{◌≡◌, ◌<◌, false, length, subst, ◌∙◌, arith}
 use Rattle.std.proofs.lemmas.List.{get_or_default}
 use Rattle.omega_walk.specs.Marks.{meets}
 use Rattle.omega_walk.proofs.Passing.{unmet}

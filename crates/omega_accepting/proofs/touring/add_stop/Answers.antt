@@ -1,5 +1,5 @@
 -- one edge more
-use Rattle.std.proofs.Common.{ℕ, ◌<◌, length, Contains, All, sym, subst}
+use Rattle.std.proofs.Common.{◌<◌, length, Contains, All, sym, subst}
 use Rattle.std.proofs.lemmas.List.Elements.{All-push}
 use Rattle.omega_accepting.proofs.Tours.{among_below}
 use Rattle.omega_accepting.proofs.touring.add_stop.Goals as goal

@@ -1,5 +1,5 @@
 -- the way is there, and leads on
-use Rattle.std.proofs.Common.{◌≡◌, ℕ, List, [], ◌∷◌, ◌++◌, arith}
+use Rattle.std.proofs.Common.{[], arith}
 use Rattle.std.proofs.lemmas.Grind.{common_steps}
 use Rattle.omega_components.specs.Graph.{marked}
 use Rattle.omega_accepting.proofs.Tours.{reached_by, way_from}

@@ -1,5 +1,5 @@
 -- one stop more, and at the end a closed walk
-use Rattle.std.proofs.Common.{◌≡◌, ◌<◌, ◌+◌, length, get_or, Contains, sym, subst, arith}
+use Rattle.std.proofs.Common.{◌≡◌, ◌<◌, ◌+◌, length, Contains, sym, subst, arith}
 use Rattle.omega_components.specs.Graph.{marked}
 use Rattle.omega_accepting.specs.Rows.{row_at}
 use Rattle.omega_accepting.proofs.Tours.{IsTour, next_among, tour_closes, tour_more, tour_passes}

@@ -1,38 +1,40 @@
 -- `write_edges`: the edges of a state more.
-use Rattle.std.proofs.Common.{◌≡◌, ℕ, ◌+◌, ◌<◌, ◌++◌, List, length, get_or, ap, ◌∙◌, arith}
-use Rattle.omega_automaton.specs.Automaton.{edges_from}
+use Rattle.std.proofs.Common.{◌≡◌, ℕ, ◌+◌, ◌<◌, ◌++◌, List, length, drop, get_or, ap, ◌∙◌, arith}
+use Rattle.omega_automaton.specs.Automaton.{IsState}
 use Rattle.omega_automaton.specs.declared.state.State.{State}
-use Rattle.omega_automaton_drawing.specs.AutomatonDrawing.{body_edge}
-use Rattle.omega_dot.specs.Numbered.{numbered}
+use Rattle.omega_automaton_drawing.specs.Arrows.{edges_text}
 use Rattle.omega_automaton_drawing.specs.private.layout.Marking.{role_at}
-use Rattle.omega_automaton_drawing.proofs.Bodies.{length_more, length_within, state_more}
+use Rattle.omega_automaton_drawing.proofs.Bodies.{at_place, edges_left, state_written}
 use Rattle.omega_automaton_drawing.proofs.edges.write_edges.Goals as goal
 
-pub write_edges_of-requires-clause-within : goal.write_edges_of-requires-clause-within
-write_edges_of-requires-clause-within c =
+pub write_edges_of-requires : goal.write_edges_of-requires
+write_edges_of-requires c =
     let states : List State = c.args.automaton.now.defined in
     let here : c.state-item.result ≡ get_or states c.loop-state.state-index c.state-item.result = cc in
     let below : c.loop-state.state-index < length states = omega (arith, ap length c.defined-state-items.ensures) in
-    omega (arith, c.requires.entries, length_more states c.loop-state.state-index c.state-item.result below here, length_within states (c.loop-state.state-index + 1), c.loop-state.invariant.number)
+    record {
+      state = at_place (IsState c.args.automaton.now) states c.loop-state.state-index c.state-item.result c.keeps_limits.ensures.states below here;
+      within = omega (arith, c.requires.entries, edges_left states c.loop-state.state-index c.state-item.result below here, c.loop-state.invariant.count);
+    }
 
-pub overflow_add-number : goal.overflow_add-number
-overflow_add-number c =
+pub overflow_add-first : goal.overflow_add-first
+overflow_add-first c =
     let states : List State = c.args.automaton.now.defined in
     let here : c.state-item.result ≡ get_or states c.loop-state.state-index c.state-item.result = cc in
     let below : c.loop-state.state-index < length states = omega (arith, ap length c.defined-state-items.ensures) in
-    omega (arith, c.requires.counted, c.len-number.ensures, length_more states c.loop-state.state-index c.state-item.result below here, length_within states (c.loop-state.state-index + 1), c.loop-state.invariant.number)
+    omega (arith, c.requires.counted, c.len-first.ensures, edges_left states c.loop-state.state-index c.state-item.result below here, c.loop-state.invariant.count)
 
 pub loop-state-preserved : goal.loop-state-preserved
 loop-state-preserved c =
     let states : List State = c.args.automaton.now.defined in
+    let names : List (List ℕ) = c.args.automaton.now.propositions in
     let index : ℕ = c.loop-state.state-index in
     let here : c.state-item.result ≡ get_or states index c.state-item.result = cc in
     let below : index < length states = omega (arith, ap length c.defined-state-items.ensures) in
     record {
-      number = omega (arith, c.len-number.ensures, length_more states index c.state-item.result below here, c.loop-state.invariant.number);
-      drawn =
-          state_more (body_edge c.args.automaton.now (role_at c.args.roles.now)) index states c.state-item.result c.args.out.now.items c.loop-state.out.items _
-          below here c.loop-state.invariant.drawn
-          (c.in_ok-write_edges_of.ensures.ok
-          ∙ ap (λ n. c.loop-state.out.items ++ numbered (body_edge c.args.automaton.now (role_at c.args.roles.now)) n (edges_from c.state-item.result)) c.loop-state.invariant.number);
+      count = omega (arith, c.len-first.ensures, edges_left states index c.state-item.result below here, c.loop-state.invariant.count);
+      whole =
+          ap (λ n. c.write_edges_of.new.out.items ++ edges_text names (role_at c.args.roles.now) (c.loop-state.first + n) (drop (index + 1) states)) c.len-first.ensures
+          ∙ state_written names (role_at c.args.roles.now) c.loop-state.first states index c.state-item.result c.loop-state.out.items _ _
+          below here c.in_ok-write_edges_of.ensures.ok c.loop-state.invariant.whole;
     }

@@ -1,14 +1,14 @@
--- `write_edges`: the edges of the states before this one are drawn.
-use Rattle.std.proofs.Common.{◌≡◌, ◌++◌, length, take}
+-- `write_edges`: what is written, and what is yet to be written of the states left, is the whole.
+use Rattle.std.proofs.Common.{◌≡◌, ◌+◌, ◌++◌, length, drop}
 use Rattle.std.specs.List.{flat_map}
-use Rattle.omega_automaton.specs.Automaton.{edges_from}
-use Rattle.omega_automaton_drawing.specs.AutomatonDrawing.{body_edge}
-use Rattle.omega_dot.specs.Numbered.{numbered}
+use Rattle.omega_automaton.specs.Automaton.{edge_count, edges_from}
+use Rattle.omega_automaton_drawing.specs.Arrows.{edges_text}
 use Rattle.omega_automaton_drawing.specs.private.layout.Marking.{role_at}
 use Rattle.omega_automaton_drawing.proofs.edges.write_edges.Given as goal
 
 abbrev pub invariant-loop-state : goal.invariant-loop-state
 invariant-loop-state l = record {
-  number : l.number ≡ length (flat_map edges_from (take l.state-index l.automaton.defined));
-  drawn : l.out.items ≡ l.fn.out.items ++ numbered (body_edge l.automaton (role_at l.roles)) 0 (flat_map edges_from (take l.state-index l.automaton.defined));
+  count : l.first + length (flat_map edges_from (drop l.state-index l.automaton.defined)) ≡ edge_count l.automaton;
+  whole : l.out.items ++ edges_text l.automaton.propositions (role_at l.roles) l.first (drop l.state-index l.automaton.defined)
+      ≡ l.fn.out.items ++ edges_text l.automaton.propositions (role_at l.roles) 0 l.automaton.defined;
 }

@@ -1,13 +1,11 @@
--- `write_edges_of`: the edges before this one are drawn.
-use Rattle.std.proofs.Common.{◌≡◌, ◌+◌, ◌++◌, take}
-use Rattle.omega_automaton.specs.Automaton.{edges_from}
-use Rattle.omega_automaton_drawing.specs.AutomatonDrawing.{body_edge}
+-- `write_edges_of`: what is written, and what is yet to be written of the edges left, is the whole.
+use Rattle.std.proofs.Common.{◌≡◌, ◌++◌, drop}
 use Rattle.omega_dot.specs.Numbered.{numbered}
-use Rattle.omega_automaton_drawing.specs.private.layout.Marking.{role_at}
+use Rattle.omega_automaton_drawing.specs.Arrows.{edge_text}
+use Rattle.omega_automaton_drawing.specs.private.layout.Drawing.{drawn_all}
 use Rattle.omega_automaton_drawing.proofs.edges.write_edges_of.Given as goal
 
-abbrev pub invariant-loop-at : goal.invariant-loop-at
-invariant-loop-at l = record {
-  number : l.next ≡ l.number + l.at;
-  drawn : l.out.items ≡ l.fn.out.items ++ numbered (body_edge l.automaton (role_at l.roles)) l.number (take l.at (edges_from l.state));
-}
+abbrev pub invariant-loop-index : goal.invariant-loop-index
+invariant-loop-index l =
+    l.out.items ++ numbered (edge_text l.edges.state.now.number (drawn_all l.edges)) l.index (drop l.index (drawn_all l.edges))
+    ≡ l.fn.out.items ++ numbered (edge_text l.edges.state.now.number (drawn_all l.edges)) 0 (drawn_all l.edges)

@@ -1,6 +1,6 @@
 -- `write_numbers_behind`: the numbers before this one are written.
 use Rattle.std.proofs.Common.{◌≡◌, ◌++◌, take}
-use Rattle.omega_automaton_drawing.specs.AutomatonDrawing.{spaced_numbers}
+use Rattle.omega_automaton_drawing.specs.States.{spaced_numbers}
 use Rattle.omega_automaton_drawing.proofs.states.write_numbers_behind.Given as goal
 
 abbrev pub invariant-loop-number : goal.invariant-loop-number

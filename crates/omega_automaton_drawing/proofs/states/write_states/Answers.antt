@@ -1,7 +1,7 @@
 -- `write_states`: a state more is drawn.
 use Rattle.std.proofs.Common.{◌≡◌, ℕ, ◌<◌, List, ◌++◌, length, get_or, ap, ◌∙◌, arith}
 use Rattle.omega_automaton.specs.declared.state.State.{State}
-use Rattle.omega_automaton_drawing.specs.AutomatonDrawing.{drawn_state}
+use Rattle.omega_automaton_drawing.specs.States.{drawn_state}
 use Rattle.omega_dot.proofs.Rows.{text_more}
 use Rattle.omega_automaton_drawing.proofs.states.write_states.Goals as goal
 

@@ -2,8 +2,7 @@
 use Rattle.std.specs.Prelude.{◌≡◌, ℕ, ◌+◌, ◌*◌, ◌-◌, ◌==◌, if◌then◌else◌, Option, Some, None, List, [], ◌∷◌, ◌++◌, codes, min, unwrap_or}
 use Rattle.omega_automaton.specs.Limits.{most_propositions}
 use Rattle.omega_text.specs.Bytes.{is_digit}
-use Rattle.omega_automaton_drawing.specs.Expressions.{name_at}
-use Rattle.omega_dot.specs.Labels.{escaped}
+use Rattle.omega_automaton_drawing.specs.Names.{drawn_name, name_at}
 
 -- the number whose digits have been passed, if there are any, with a digit more; it stops at the limit of propositions
 abbrev pub with_digit : Option ℕ → ℕ → ℕ
@@ -12,7 +11,7 @@ with_digit number byte = min (unwrap_or number 0 * 10 + (byte - 48)) most_propos
 -- the name of the proposition whose number has been passed, if there is one
 abbrev pub pending_name : List (List ℕ) → Option ℕ → List ℕ
 pending_name names None = []
-pending_name names (Some number) = escaped (name_at names number)
+pending_name names (Some number) = drawn_name (name_at names number)
 
 -- a sign of a label
 abbrev pub sign_text : ℕ → List ℕ

@@ -1,9 +1,15 @@
--- the refusals behind the starts
+-- the refusals of the parts
 use Rattle.std.proofs.Common.{sym, ◌∙◌}
 use Rattle.std.proofs.lemmas.Result.{err_from_is_err_and}
-use Rattle.omega_complement.proofs.Faults.{states_refused, writing_refused}
+use Rattle.omega_complement.proofs.Faults.{formula_refused, states_refused, writing_refused}
 use Rattle.omega_complement.specs.Refusing.{HasStart}
+use Rattle.omega_written.proofs.Refusals.{passed_on}
 use Rattle.omega_complement.proofs.complementing.complement.Goals as goal
+
+pub returns-in_err-dual-clause-refused : goal.returns-in_err-dual-clause-refused
+returns-in_err-dual-clause-refused c =
+    passed_on c.from_residual.result _ _ c.from_residual.ensures.1
+    (formula_refused c.args.automaton.now (sym c.has_branch.ensures ∙ c.if-has_branch.false) _ c.in_err-dual.ensures.err)
 
 pub returns-in_err-body-clause-refused : goal.returns-in_err-body-clause-refused
 returns-in_err-body-clause-refused c =
@@ -24,5 +30,5 @@ returns-in_err-complement-clause-refused c =
       one_start = c.in_ok-judge_starts.ensures.one;
     } in
     rw (p.1, p.2)
-    (writing_refused c.args.automaton.now start c.in_ok-body.ensures.turned.apart c.in_ok-raw.raw c.in_ok-raw.ensures.written c.in_err-complement.field-0.0
+    (writing_refused c.args.automaton.now start c.in_ok-body.ensures.turned.apart c.in_ok-body.ensures.turned.fitting c.in_ok-raw.raw c.in_ok-raw.ensures.written c.in_err-complement.field-0.0
     c.in_err-complement.ensures.err)

@@ -1,5 +1,5 @@
 -- a label and one before it: judged, or at a letter both true
-use Rattle.std.proofs.Common.{false, inl, inr, refl}
+use Rattle.std.proofs.Common.{arith, false, inl, refl, sym, ◌∙◌, true≢false}
 use Rattle.std.proofs.lemmas.Result.{err_from_is_err_and}
 use Rattle.omega_acc.specs.label.Label.{conjunction}
 use Rattle.omega_complement.proofs.Faults.{unjudged_refused}
@@ -13,7 +13,7 @@ returns-in_err-can_meet-clause-err c =
     c.index-labels-first.is c.index-labels-second.is in
     rw (p.1, p.2)
     (unjudged_refused false c.args.labels.now c.args.number (conjunction c.index-labels-first.result c.index-labels-second.result) c.in_err-can_meet.field-0.0
-    (inr (refl, inl (c.index-labels-first.result, (c.index-labels-second.result, pair, refl)))) c.in_err-can_meet.ensures.err)
+    (refl, inl (c.index-labels-first.result, (c.index-labels-second.result, pair, refl))) c.in_err-can_meet.ensures.err)
 
 pub returns-then-branch-clause-err : goal.returns-then-branch-clause-err
 returns-then-branch-clause-err c =
@@ -23,5 +23,9 @@ returns-then-branch-clause-err c =
 
 pub loop-first-preserved : goal.loop-first-preserved
 loop-first-preserved c =
-    apart_from_more c.args.labels.now c.args.second c.loop-first.first c.index-labels-first.result c.index-labels-second.result c.in_ok-can_meet.field-0 c.loop-first-test.true c.requires
-    c.index-labels-first.is c.index-labels-second.is c.in_ok-can_meet.ensures.judged c.if-branch.false c.loop-first.invariant
+    apart_from_more c.args.labels.now c.args.second c.loop-first.first c.index-labels-first.result c.index-labels-second.result c.loop-first-test.true c.requires
+    c.index-labels-first.is c.index-labels-second.is
+    (record { fits = c.in_ok-can_meet.ensures.fits; apart = λ sat. true≢false (sym (c.in_ok-can_meet.ensures.judged.1 sat) ∙ c.if-branch.false) }) c.loop-first.invariant
+
+pub returns-clause-apart : goal.returns-clause-apart
+returns-clause-apart c = λ first one other below. c.loop-first.invariant first one other (omega (arith, below, c.loop-first-test.false))

@@ -1,7 +1,13 @@
 -- the labels so far
 use Rattle.std.proofs.Common.{◌≡◌, take}
-use Rattle.omega_complement.specs.Labels.{each_by_index, label_at}
+use Rattle.std.specs.List.{All}
+use Rattle.omega_acc.specs.label.Shape.{FitsALabel}
+use Rattle.omega_complement.specs.Labels.{each_by_index}
+use Rattle.omega_written.specs.Labels.{label_at}
 use Rattle.omega_complement.proofs.labels.labels_of.Given as goal
 
 abbrev pub invariant-loop-at : goal.invariant-loop-at
-invariant-loop-at l = l.labels.items ≡ each_by_index (label_at l.count l.state) 0 (take l.at l.state.edges)
+invariant-loop-at l = record {
+  labels : l.labels.items ≡ each_by_index (label_at l.count l.state) 0 (take l.at l.state.edges);
+  fits : All FitsALabel l.labels.items;
+}

@@ -2,11 +2,10 @@
 use Rattle.std.proofs.Common.{nat_le, ap, ◌∙◌, arith}
 use Rattle.omega_acc.specs.Limits.{most_depth}
 use Rattle.omega_acc.specs.formula.Raw.{raw_acc_depth}
-use Rattle.omega_complement.proofs.Depths.{dual_depth}
 use Rattle.omega_complement.proofs.RoomTests.{by_depth}
 use Rattle.omega_complement.proofs.room.has_no_room.Goals as goal
 
 pub returns : goal.returns
 returns c =
-    c.is_deepest.ensures ∙ ap (nat_le most_depth) (ap raw_acc_depth c.requires ∙ dual_depth c.args.automaton.now.acceptance)
+    c.is_deepest.ensures ∙ ap (nat_le most_depth) (ap raw_acc_depth c.requires)
     ∙ by_depth c.args.automaton.now (omega arith) (omega arith) (omega arith)

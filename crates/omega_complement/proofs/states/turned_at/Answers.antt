@@ -2,6 +2,7 @@
 use Rattle.std.proofs.Common.{◌↔◌, ℕ, List, length, subst}
 use Rattle.std.specs.Prelude.{IfErr, IfOk, IsTrue, OnOk}
 use Rattle.omega_automaton.specs.declared.state.State.{State}
+use Rattle.omega_complement.specs.Judged.{AreFitting}
 use Rattle.omega_complement.specs.Labels.{is_full, labels_at, labels_of, state_at}
 use Rattle.omega_complement.specs.Letters.{AreApart, LacksLetter}
 use Rattle.omega_complement.specs.declared.turning.Turned.{Turned}
@@ -20,6 +21,12 @@ returns-clause-apart c =
     subst (λ (s : State). OnOk c.turned_state.result (AreApart (labels_of (length c.args.automaton.now.propositions) s))) c.state_of-state.ensures
     (subst (λ (ps : List (List ℕ)). OnOk c.turned_state.result (AreApart (labels_of (length ps) c.state_of-state.result.now))) c.propositions-count.ensures
     c.turned_state.ensures.apart)
+
+pub returns-clause-fitting : goal.returns-clause-fitting
+returns-clause-fitting c =
+    subst (λ (s : State). OnOk c.turned_state.result (AreFitting (is_full (length c.args.automaton.now.propositions) s) (labels_of (length c.args.automaton.now.propositions) s))) c.state_of-state.ensures
+    (subst (λ (ps : List (List ℕ)). OnOk c.turned_state.result (AreFitting (is_full (length ps) c.state_of-state.result.now) (labels_of (length ps) c.state_of-state.result.now))) c.propositions-count.ensures
+    c.turned_state.ensures.fitting)
 
 pub returns-clause-err : goal.returns-clause-err
 returns-clause-err c =

@@ -11,7 +11,7 @@ pub returns-in_err-next-clause-err : goal.returns-in_err-next-clause-err
 returns-in_err-next-clause-err c =
     let p = err_from_is_err_and c.from_residual-in_err-next.result c.from_residual-in_err-next.ensures.1 in
     rw (p.1, p.2)
-    (state_refused c.args.automaton.now c.loop-number.number (omega (arith, c.loop-number-test.true, c.state_count-number-end.ensures)) c.loop-number.invariant.apart
+    (state_refused c.args.automaton.now c.loop-number.number (omega (arith, c.loop-number-test.true, c.state_count-number-end.ensures)) c.loop-number.invariant.apart c.loop-number.invariant.fitting
     c.in_err-next.field-0.0 c.in_err-next.ensures.err)
 
 pub loop-number-preserved : goal.loop-number-preserved
@@ -19,7 +19,7 @@ loop-number-preserved c =
     subst (λ (ss : List RawState). AreTurned c.args.automaton.now (c.loop-number.number + 1) ss c.either-lacks.result) (sym c.in_ok-push.ensures.items)
     (subst (λ (b : Bool). AreTurned c.args.automaton.now (c.loop-number.number + 1) (c.loop-number.states.items ++ c.in_ok-next.next.state ∷ []) b) (sym c.either-lacks.ensures)
     (turned_more c.args.automaton.now c.loop-number.number c.loop-number.states.items c.loop-number.lacks c.in_ok-next.next.state c.in_ok-next.next.lacks c.loop-number.invariant
-    c.in_ok-next.ensures.turned c.in_ok-next.ensures.apart c.in_ok-next.ensures.lacks))
+    c.in_ok-next.ensures.turned c.in_ok-next.ensures.apart c.in_ok-next.ensures.fitting c.in_ok-next.ensures.lacks))
 
 pub returns-clause-turned : goal.returns-clause-turned
 returns-clause-turned c =

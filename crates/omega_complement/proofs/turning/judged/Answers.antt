@@ -1,8 +1,11 @@
 -- a state with an edge for each valuation is not judged
-use Rattle.std.proofs.Common.{List, subst, sym, ◌∙◌}
+use Rattle.std.proofs.Common.{List, subst, sym, ◌∙◌, true≢false}
+use Rattle.std.proofs.lemmas.Result.{on_ok_weaker}
 use Rattle.omega_acc.specs.label.Label.{LabelTree}
 use Rattle.omega_complement.specs.Letters.{HasClash, LacksLetter}
+use Rattle.omega_complement.specs.Labels.{is_full}
 use Rattle.omega_complement.proofs.Full.{full_apart, full_lacks_none}
+use Rattle.omega_complement.proofs.Judged.{judged_fit}
 use Rattle.omega_complement.proofs.turning.judged.Goals as goal
 
 pub returns-then-is_full-clause-missing : goal.returns-then-is_full-clause-missing
@@ -12,3 +15,15 @@ returns-then-is_full-clause-missing c =
 pub returns-then-is_full-clause-apart : goal.returns-then-is_full-clause-apart
 returns-then-is_full-clause-apart c =
     λ clash. full_apart c.args.count c.args.state.now (sym c.is_full.ensures ∙ c.if-is_full.true) (subst (λ (ls : List LabelTree). HasClash ls) c.requires clash)
+
+pub returns-then-is_full-clause-judged : goal.returns-then-is_full-clause-judged
+returns-then-is_full-clause-judged c = λ label judged. absurd (true≢false (sym c.if-is_full.true ∙ c.is_full.ensures ∙ judged.0))
+
+pub returns-then-is_full-clause-written : goal.returns-then-is_full-clause-written
+returns-then-is_full-clause-written c =
+    λ lacks.
+    absurd (full_lacks_none c.args.count c.args.state.now (sym c.is_full.ensures ∙ c.if-is_full.true) (subst (λ (ls : List LabelTree). LacksLetter ls) c.requires lacks))
+
+pub returns-clause-judged : goal.returns-clause-judged
+returns-clause-judged c =
+    on_ok_weaker c.missing.result (judged_fit (is_full c.args.count c.args.state.now) c.args.labels.now c.in_ok-judge_apart.ensures.fits) c.missing.ensures.judged

@@ -1,7 +1,8 @@
 -- `path`: a walk of edges of a list from one of some states to a state.
-use Rattle.std.proofs.Common.{ℕ, [], length, subst}
+use Rattle.std.proofs.Common.{ℕ, [], IsTrue, length, subst}
 use Rattle.omega_components.specs.Graph.{listed, marked}
 use Rattle.omega_components.specs.Reaching.{IsWalkFrom}
+use Rattle.omega_components.specs.private.Searching.{mark_at}
 use Rattle.omega_components.proofs.Searched.{leads_back}
 use Rattle.omega_components.proofs.Walks.{leaves_count, reached_marked}
 use Rattle.omega_components.proofs.walking.path.Goals as goal
@@ -16,9 +17,10 @@ pub returns-in-None-clause-none : goal.returns-in-None-clause-none
 returns-in-None-clause-none c =
     λ marks reached.
     let is = c.in_ok-search.ensures in
-    let mark = reached_marked (marked c.args.graph.now marks) c.args.edges.now is.leaves is.enters (is.ends marks) c.args.sources.now c.args.graph.now.states c.in_ok-search.search is.searched c.args.target reached in
-    let at = is.searched.found c.args.target mark in
-    c.in-None.ensures.none at.0 at.1 at.2
+    let unmet : IsTrue (mark_at c.in_ok-search.search.marks c.args.target) → ⊥ =
+    λ mark. let at = is.searched.found c.args.target mark in c.in-None.ensures.none at.0 at.1 at.2 in
+    unmet (reached_marked (marked c.args.graph.now marks) c.args.edges.now is.leaves is.enters (is.ends marks) c.args.sources.now c.args.graph.now.states c.in_ok-search.search
+    (is.searched.whole unmet) c.args.target reached)
 
 pub returns-clause-walk : goal.returns-clause-walk
 returns-clause-walk c =

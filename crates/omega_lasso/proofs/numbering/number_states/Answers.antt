@@ -1,38 +1,10 @@
--- the names are those that were met
-use Rattle.std.proofs.Common.{◌≡◌, ◌<◌, ℕ, List, length, map, All, sym, ap, ◌∙◌, subst, arith}
+-- the automaton's edges and starts
+use Rattle.std.proofs.Common.{◌<◌, ℕ, List, length, All, sym, subst}
 use Rattle.std.proofs.lemmas.List.Elements.{All-weaker}
 use Rattle.omega_automaton.specs.Automaton.{AreTargets}
-use Rattle.omega_lasso.specs.private.Numbering.{first_of}
-use Rattle.omega_lasso.proofs.Names.{all_below, apart, length_grown, names_kept}
 use Rattle.omega_lasso.proofs.numbering.number_states.Goals as goal
 
-pub sources-requires-clause-starts : goal.sources-requires-clause-starts
-sources-requires-clause-starts c =
+pub start_bound-requires : goal.start_bound-requires
+start_bound-requires c =
     subst (λ (starts : List (List ℕ)). All (λ (start : List ℕ). 0 < length start) starts) (sym c.starts-starts.ensures)
     (All-weaker (AreTargets c.args.automaton.now) (λ (start : List ℕ). 0 < length start) (λ start targets. targets.listed) c.args.automaton.now.starts c.keeps_limits.ensures.starts)
-
-pub graph_of-requires-clause-before : goal.graph_of-requires-clause-before
-graph_of-requires-clause-before c =
-    let some = length_grown _ c.new-met.result.keys c.sources.new.met.keys c.in_ok-sources.ensures.grows in
-    let none : length c.new-met.result.keys ≡ 0 = ap (λ (keys : List ℕ). length keys) c.new-met.ensures.empty in
-    omega arith
-
-pub returns-clause-numbered : goal.returns-clause-numbered
-returns-clause-numbered c =
-    let keys : List ℕ = c.sources.new.met.keys in
-    let names : List ℕ = c.graph_of.new.met.keys in
-    let grows = c.in_ok-graph.ensures.grows in
-    let some = length_grown _ c.new-met.result.keys c.sources.new.met.keys c.in_ok-sources.ensures.grows in
-    let none : length c.new-met.result.keys ≡ 0 = ap (λ (keys : List ℕ). length keys) c.new-met.ensures.empty in (
-      names,
-      record {
-        apart = apart names c.in_ok-graph.ensures.distinct;
-        inside = c.in_ok-graph.ensures.inside;
-        ends = c.in_ok-graph.ensures.ends ∙ c.requires;
-        within = all_below _ keys names c.in_ok-sources.sources.items grows c.in_ok-sources.ensures.within;
-        states = All-weaker (λ source. source < length keys) (λ source. source < c.in_ok-graph.graph.states) (λ source low. let states = c.in_ok-graph.ensures.states in omega arith)
-            c.in_ok-sources.sources.items c.in_ok-sources.ensures.within;
-        starts = names_kept _ keys names c.in_ok-sources.sources.items grows c.in_ok-sources.ensures.within ∙ c.in_ok-sources.ensures.names
-            ∙ ap (map first_of) c.starts-starts.ensures;
-      },
-    )

@@ -17,7 +17,7 @@ returns-in_err-judge_edges-clause-refused c =
     let states : List State = c.args.automaton.now.defined in
     let here : c.state-item.result ≡ get_or states c.loop-state.state-index c.state-item.result = cc in
     let below : c.loop-state.state-index < length states = omega (arith, ap length c.defined-state-items.ensures) in
-    let p = err_from_is_err_and c.from_residual.result c.from_residual.ensures.1 in
+    let p = err_from_is_err_and c.from_residual-in_err-judge_edges.result c.from_residual-in_err-judge_edges.ensures.1 in
     rw (p.1, p.2)
     (wide_refused (HasWide c.state-item.result) (HasWideLabel c.args.automaton.now) (wide_label c.args.automaton.now c.loop-state.state-index c.state-item.result below here)
     _ c.in_err-judge_edges.ensures.refused)

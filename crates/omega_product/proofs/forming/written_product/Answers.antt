@@ -9,12 +9,13 @@ use Rattle.omega_raw.specs.declared.raw_automaton.RawAutomaton.{RawAutomaton}
 use Rattle.omega_raw.specs.declared.raw_state.RawState.{RawState}
 use Rattle.omega_text.specs.Limits.{most_number}
 use Rattle.omega_product.specs.Acceptance.{moved_behind}
-use Rattle.omega_product.specs.Limits.{most_edges}
+use Rattle.omega_written.specs.Limits.{most_edges}
 use Rattle.omega_product.specs.Pairs.{first_standing, second_standing}
 use Rattle.omega_product.specs.Refusing.{HasUnfitLabel, IsJoinFault, deep_acceptance, many_sets, unfit_first, unfit_second}
 use Rattle.omega_product.specs.Written.{raw_of, raw_state_of}
 use Rattle.omega_product.proofs.Formulas.{items_are}
-use Rattle.omega_product.proofs.Refused.{large_join, memory_task, passed_on}
+use Rattle.omega_product.proofs.Refused.{large_join}
+use Rattle.omega_written.proofs.Refusals.{memory_task, passed_on}
 use Rattle.omega_product.proofs.forming.written_product.Goals as goal
 
 pub returns-in_err-sets-clause-refused : goal.returns-in_err-sets-clause-refused

@@ -1,0 +1,61 @@
+-- The label of a valuation, one proposition more at a time, and its text.
+use Rattle.std.proofs.Common.{◌≡◌, ◌==◌, ℕ, zero, suc, ◌+◌, ◌<◌, ◌≤◌, ◌/◌, ◌%◌, ◌^◌, Bool, true, false, cond, List, ◌++◌, ap, refl, sym, ◌∙◌, append_assoc, arith}
+use Rattle.std.proofs.Math.Nat.{div-eq_of_lt}
+use Rattle.std.proofs.Math.Pow.{pow_mono}
+use Rattle.std.specs.Prelude.{codes, nat_le, nat_lt}
+use Rattle.omega_acc.specs.Writing.{bracketed, label_text}
+use Rattle.omega_acc.specs.label.Label.{conjunction, negation, proposition}
+use Rattle.omega_automaton_drawing.specs.Expressions.{named_text}
+use Rattle.omega_automaton_drawing.specs.Valuations.{literal, valuation_label}
+
+-- one proposition more
+valuation_more : (index p : ℕ) → 1 ≤ p → valuation_label index (p + 1) ≡ conjunction (valuation_label index p) (literal index p)
+valuation_more index zero some = absurd (omega arith)
+valuation_more index (suc p) some = let e : suc p + 1 ≡ suc (suc p) = omega arith in ap (valuation_label index) e
+
+-- a proposition and its negation bind tightly
+literal_tight : (set : Bool) (p : ℕ) → (label_text (cond set (proposition p) (negation (proposition p)))).rank ≡ 3
+literal_tight true p = refl
+literal_tight false p = refl
+
+-- no valuation stands in parentheses as a left part of `&`
+valuation_bare : (index p : ℕ) → 1 ≤ p → nat_lt (label_text (valuation_label index p)).rank 2 ≡ false
+valuation_bare index zero some = absurd (omega arith)
+valuation_bare index (suc zero) some = ap (λ rank. nat_lt rank 2) (literal_tight ((index / 2 ^ 0) % 2 == 1) 0)
+valuation_bare index (suc (suc p)) some = refl
+
+-- the text of a valuation of one proposition more
+pub valuation_named : (names : List (List ℕ)) (index p : ℕ) → 1 ≤ p
+    → named_text names (valuation_label index (p + 1)) ≡ named_text names (valuation_label index p) ++ (codes " & " ++ named_text names (literal index p))
+valuation_named names index p some =
+    let left : List ℕ = named_text names (valuation_label index p) in
+    let right : List ℕ = named_text names (literal index p) in
+    ap (named_text names) (valuation_more index p some)
+    ∙ ap (λ within. bracketed within left ++ (codes " & " ++ bracketed (nat_le (label_text (literal index p)).rank 2) right)) (valuation_bare index p some)
+    ∙ ap (λ rank. left ++ (codes " & " ++ bracketed (nat_le rank 2) right)) (literal_tight ((index / 2 ^ p) % 2 == 1) p)
+
+-- a literal more is written
+pub literal_written : (names : List (List ℕ)) (index p : ℕ) (front out between after : List ℕ) → 1 ≤ p
+    → out ≡ front ++ named_text names (valuation_label index p) → between ≡ out ++ codes " & " → after ≡ between ++ named_text names (literal index p)
+    → after ≡ front ++ named_text names (valuation_label index (p + 1))
+literal_written names index p front out between after some so_far sign step =
+    let left : List ℕ = named_text names (valuation_label index p) in
+    step ∙ ap (λ list. list ++ named_text names (literal index p)) (sign ∙ ap (λ list. list ++ codes " & ") so_far)
+    ∙ append_assoc (front ++ left) (codes " & ") (named_text names (literal index p))
+    ∙ append_assoc front left (codes " & " ++ named_text names (literal index p))
+    ∙ ap (λ list. front ++ list) (sym (valuation_named names index p some))
+
+-- the text of a proposition or of its negation
+pub literal_named : (names : List (List ℕ)) (set : Bool) (p : ℕ) → named_text names (cond set (proposition p) (negation (proposition p)))
+    ≡ cond set (named_text names (proposition p)) (codes "!" ++ named_text names (proposition p))
+literal_named names true p = refl
+literal_named names false p = refl
+
+-- bits of numbers that are too small have none
+not_below : (k n : ℕ) → n ≤ k → nat_lt k n ≡ false
+not_below k n least = grind arith
+
+pub far_bit : (index p : ℕ) → 64 ≤ p → index < 2 ^ 64 → nat_lt p 64 ≡ ((index / 2 ^ p) % 2 == 1)
+far_bit index p far small =
+    let e : index / 2 ^ p ≡ 0 = div-eq_of_lt (omega (arith, small, pow_mono far)) in
+    not_below p 64 far ∙ ap (λ (n : ℕ). n % 2 == 1) (sym e)

@@ -1,0 +1,27 @@
+-- How the names of propositions stand in a drawing.
+use Rattle.std.specs.Prelude.{ℕ, ◌&&◌, ◌||◌, Bool, false, not, if◌then◌else◌, List, [], ◌∷◌, ◌++◌, codes, slice_index_or}
+use Rattle.std.specs.List.{list_all}
+use Rattle.std.specs.Str.{bytes_eq}
+use Rattle.omega_dot.specs.Labels.{escaped}
+use Rattle.omega_text.specs.Bytes.{is_digit, is_letter}
+
+-- whether a byte goes on in an identifier: a letter, an underscore or a digit
+abbrev pub goes_on : ℕ → Bool
+goes_on byte = is_letter byte || is_digit byte
+
+-- whether a name is an identifier: a letter or an underscore, and then letters, underscores and digits
+abbrev pub is_identifier : List ℕ → Bool
+is_identifier [] = false
+is_identifier (byte ∷ rest) = is_letter byte && list_all goes_on rest
+
+-- whether a name is that of a constant, `t` or `f`
+abbrev pub is_constant : List ℕ → Bool
+is_constant name = bytes_eq name (codes "t") || bytes_eq name (codes "f")
+
+-- a name, in quotes where it is no identifier or could be taken for a constant
+abbrev pub drawn_name : List ℕ → List ℕ
+drawn_name name = if is_identifier name && not (is_constant name) then escaped name else codes "\\\"" ++ (escaped name ++ codes "\\\"")
+
+-- the name of the proposition of a number
+abbrev pub name_at : List (List ℕ) → ℕ → List ℕ
+name_at names number = slice_index_or names number []

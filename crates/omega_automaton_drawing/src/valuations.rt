@@ -1,0 +1,52 @@
+//! The valuations of edges without labels.
+
+ghost use Rattle.std.specs.Prelude.{◌≡◌, ◌==◌, ◌<◌, ◌/◌, ◌%◌, ◌^◌, ◌++◌, IsOkUnless, OnOk, length};
+ghost use Rattle.omega_automaton_drawing.specs.Expressions.{named_text};
+ghost use Rattle.omega_automaton_drawing.specs.Valuations.{literal, valuation_label};
+
+use crate::names::write_name_at;
+use omega_text::{ByteString, Refusal};
+
+/// Appends the label of the valuation of an index over all propositions.
+pub(crate) fn write_valuation(
+    names: &[ByteString],
+    index: usize,
+    out: &mut Vec<u8>,
+) -> Result<(), Refusal>
+    ensures ok { OnOk result (out.new.items ≡ out.old.items ++ named_text names.now (valuation_label index (length names.now))) }
+    ensures memory { IsOkUnless result Refusal.Memory }
+{
+    if names.is_empty() {
+        out.push(b't')?;
+        return Ok(());
+    }
+    write_literal(names, index, 0, out)?;
+    for p in 1..names.len() {
+        out.extend_from_slice(b" & ")?;
+        write_literal(names, index, p, out)?;
+    }
+    Ok(())
+}
+
+/// Appends a proposition that holds in the valuation of an index, or its negation.
+fn write_literal(
+    names: &[ByteString],
+    index: usize,
+    p: usize,
+    out: &mut Vec<u8>,
+) -> Result<(), Refusal>
+    ensures ok { OnOk result (out.new.items ≡ out.old.items ++ named_text names.now (literal index p)) }
+    ensures memory { IsOkUnless result Refusal.Memory }
+{
+    if !has_bit(index, p) {
+        out.push(b'!')?;
+    }
+    write_name_at(names, p, out)
+}
+
+/// Whether a bit of an index is set.
+fn has_bit(index: usize, p: usize) -> bool
+    ensures { result ≡ ((index / 2 ^ p) % 2 == 1) }
+{
+    p < 64 && (index >> p) % 2 == 1
+}

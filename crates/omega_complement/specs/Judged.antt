@@ -1,0 +1,41 @@
+-- The labels of a state that are judged, whether they can be true, and those that are written, and whether they fit.
+use Rattle.std.specs.Prelude.{◌≡◌, ◌⊎◌, ℕ, ◌<◌, Bool, false, List, length, slice_get, Some}
+use Rattle.omega_acc.specs.Limits.{most_mentioned}
+use Rattle.omega_acc.specs.label.Label.{LabelTree, conjunction}
+use Rattle.omega_acc.specs.label.Satisfiable.{mentioned}
+use Rattle.omega_acc.specs.label.Shape.{FitsALabel}
+use Rattle.omega_complement.specs.Letters.{IsPair, IsRest, LacksLetter}
+use Rattle.omega_written.specs.Fitting.{FitsAText}
+
+-- the label of an edge
+abbrev pub IsOne : List LabelTree → LabelTree → Type 0
+IsOne labels label = (index : ℕ) × (slice_get labels index ≡ Some label)
+
+-- both of two labels
+abbrev pub IsBoth : List LabelTree → LabelTree → Type 0
+IsBoth labels label = (one : LabelTree) × ((other : LabelTree) × IsPair labels one other × (label ≡ conjunction one other))
+
+-- a label that is judged of a state, where there is not an edge for each valuation: that of two edges together, and that
+-- of the rest of the letters
+abbrev pub IsJudged : Bool → List LabelTree → LabelTree → Type 0
+IsJudged full labels label = (full ≡ false) × (IsBoth labels label ⊎ IsRest labels label)
+
+-- a label that is written of a state: that of an edge, and that of the rest of the letters, where it has some
+abbrev pub IsWritten : List LabelTree → LabelTree → Type 0
+IsWritten labels label = IsOne labels label ⊎ (LacksLetter labels × IsRest labels label)
+
+-- the labels that are judged are neither too deep nor too large, and those that are written are not with the parentheses
+-- that they need
+pub record AreFitting (full : Bool) (labels : List LabelTree) : Type 0 where
+  pub judged : (label : LabelTree) → IsJudged full labels label → FitsALabel label
+  pub written : (label : LabelTree) → IsWritten labels label → FitsAText label
+
+-- a label that is judged mentions more propositions than the limit
+abbrev pub HasWide : Bool → List LabelTree → Type 0
+HasWide full labels = (label : LabelTree) × IsJudged full labels label × (most_mentioned < length (mentioned label))
+
+-- a label that is judged, or one that is written with its parentheses, is too deep or too large
+abbrev pub HasLarge : Bool → List LabelTree → Type 0
+HasLarge full labels =
+    ((label : LabelTree) × IsJudged full labels label × (FitsALabel label → ⊥))
+    ⊎ ((label : LabelTree) × IsWritten labels label × (FitsAText label → ⊥))

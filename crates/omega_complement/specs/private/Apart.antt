@@ -1,0 +1,20 @@
+-- Labels of a state that are judged two by two.
+use Rattle.std.specs.Prelude.{◌≡◌, ℕ, ◌<◌, List, slice_get, Some}
+use Rattle.omega_acc.specs.label.Label.{LabelTree, conjunction}
+use Rattle.omega_acc.specs.label.Satisfiable.{IsSatisfiable}
+use Rattle.omega_acc.specs.label.Shape.{FitsALabel}
+
+-- two labels fit together, and at no letter both are true
+pub record IsApart (one other : LabelTree) : Type 0 where
+  pub fits : FitsALabel (conjunction one other)
+  pub apart : IsSatisfiable (conjunction one other) → ⊥
+
+-- so is the label at a place from those at places below a count
+abbrev pub IsApartFrom : List LabelTree → ℕ → ℕ → Type 0
+IsApartFrom labels second count =
+    (first : ℕ) (one other : LabelTree) → first < count → slice_get labels first ≡ Some one
+    → slice_get labels second ≡ Some other → IsApart one other
+
+-- and each at a place below a count from those before it
+abbrev pub AreApartTo : List LabelTree → ℕ → Type 0
+AreApartTo labels count = (second : ℕ) → second < count → IsApartFrom labels second second

@@ -1,9 +1,0 @@
--- the label of the valuation over the propositions so far
-use Rattle.std.proofs.Common.{◌≡◌}
-use Rattle.omega_acc.specs.label.Shape.{label_tree_of_shape}
-use Rattle.omega_product.specs.Joining.{relabelled}
-use Rattle.omega_product.specs.Transitions.{valuation_label}
-use Rattle.omega_product.proofs.labels.valuation_within.Given as goal
-
-abbrev pub invariant-loop-p : goal.invariant-loop-p
-invariant-loop-p l = label_tree_of_shape l.label ≡ relabelled l.places (valuation_label l.index l.p)

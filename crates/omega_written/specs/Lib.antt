@@ -1,0 +1,6 @@
+-- What automata that are made of others share: what contracts cite.
+pub use Rattle.omega_text.specs.Cases
+pub use Rattle.omega_text.specs.Refusal
+pub mod Labels
+pub mod Fitting
+pub mod Limits

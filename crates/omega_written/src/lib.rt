@@ -1,0 +1,15 @@
+//! What automata that are made of others share: the labels of edges, also of those that are written without one,
+//! labels and acceptance formulas as a text has them, with parentheses only where an operator needs them, and limits.
+#![tactic(auto)]
+
+mod edge_labels;
+mod fitting;
+mod formula_writing;
+mod label_writing;
+mod limits;
+
+pub use edge_labels::label_at;
+pub use fitting::fitting_label;
+pub use formula_writing::written_formula;
+pub use label_writing::written_label;
+pub use limits::{MOST_EDGES, MOST_STATES, written_limits_are_stated};
