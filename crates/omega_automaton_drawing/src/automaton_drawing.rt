@@ -17,9 +17,9 @@ use std::alloc::Global;
 /// its valuation. Labels have the names of propositions, in quotes where they are no identifiers, or `t` or `f`. Edges
 /// of a state to the same one state share an arrow, which has the lines of each. An arrow from nowhere leads to each
 /// start. A universal branch, and a start of several states, leads to a point and from there to each of its states.
-/// States that are only counted, and neither defined nor started from nor entered, are not drawn. The text is in the DOT
-/// language (graphviz.org/doc/info/lang.html) and in UTF-8, whatever bytes the names have. The cost is linear in it, but
-/// for n log n in the edges of a state.
+/// States that are only counted, and neither defined nor started from nor entered, are not drawn. The text is in the
+/// DOT language (graphviz.org/doc/info/lang.html) and in UTF-8, whatever bytes the names have. The cost is linear in
+/// it, but for n log n in the edges of a state.
 pub fn draw_automaton(alloc: Global, automaton: &Automaton) -> Result<Vec<u8>, Refusal>
     ensures text { IfOk result (λ text. text.items ≡ drawing_of_automaton automaton.now) }
     ensures memory { IsOkUnless result Refusal.Memory }

@@ -90,8 +90,8 @@ text_of name.File options = option_map (λ text. text.now) options.file
 
 -- ---- what a subcommand asks for
 
--- the part of a game that the node with the identifier reaches, by at most so many steps, if that is said; the steps are
--- counted from a node that is given
+-- the part of a game that the node with the identifier reaches, by at most so many steps, if that is said; the steps
+-- are counted from a node that is given
 abbrev pub GivesPart : Options → (from depth : Option ℕ) → Type 0
 GivesPart options from depth =
     Gives (IsNumberText most_number) (text_of name.From options) from × Gives (IsNumberText most_number) (text_of name.Depth options) depth

@@ -15,8 +15,8 @@ IsOne labels label = (index : ℕ) × (slice_get labels index ≡ Some label)
 abbrev pub IsBoth : List LabelTree → LabelTree → Type 0
 IsBoth labels label = (one : LabelTree) × ((other : LabelTree) × IsPair labels one other × (label ≡ conjunction one other))
 
--- a label that is judged of a state, where there is not an edge for each valuation: that of two edges together, and that
--- of the rest of the letters
+-- a label that is judged of a state, where there is not an edge for each valuation: that of two edges together, and
+-- that of the rest of the letters
 abbrev pub IsJudged : Bool → List LabelTree → LabelTree → Type 0
 IsJudged full labels label = (full ≡ false) × (IsBoth labels label ⊎ IsRest labels label)
 
@@ -24,8 +24,8 @@ IsJudged full labels label = (full ≡ false) × (IsBoth labels label ⊎ IsRest
 abbrev pub IsWritten : List LabelTree → LabelTree → Type 0
 IsWritten labels label = IsOne labels label ⊎ (LacksLetter labels × IsRest labels label)
 
--- the labels that are judged are neither too deep nor too large, and those that are written are not with the parentheses
--- that they need
+-- the labels that are judged are neither too deep nor too large, and those that are written are not with the
+-- parentheses that they need
 pub record AreFitting (full : Bool) (labels : List LabelTree) : Type 0 where
   pub judged : (label : LabelTree) → IsJudged full labels label → FitsALabel label
   pub written : (label : LabelTree) → IsWritten labels label → FitsAText label

@@ -5,8 +5,8 @@ ghost use Rattle.omega_dot.specs.Labels.{escaped, escaped_byte, escaped_bytes, n
 
 use omega_text::Refusal;
 
-/// Appends a name so that DOT draws it: in UTF-8, with U+FFFD for what is not, as `String::from_utf8_lossy` reads it, and
-/// with a space for each control byte but a line feed. Refusal 60, where part of it may be appended.
+/// Appends a name so that DOT draws it: in UTF-8, with U+FFFD for what is not, as `String::from_utf8_lossy` reads it,
+/// and with a space for each control byte but a line feed. Refusal 60, where part of it may be appended.
 pub fn write_escaped(name: &[u8], out: &mut Vec<u8>) -> Result<(), Refusal>
     ensures ok { OnOk result (out.new.items ≡ out.old.items ++ escaped name.now) }
     ensures memory { IsOkUnless result Refusal.Memory }

@@ -208,8 +208,8 @@ fn an_automaton_is_drawn(rt: HostRuntime) {
     assert!(rt; is_text(drawn, wanted));
 }
 
-// An edge of both parts is the cycle's, one of neither is plain, one beside an edge of the lasso has an arrow of its own,
-// and 9 is no edge's number.
+// An edge of both parts is the cycle's, one of neither is plain, one beside an edge of the lasso has an arrow of its
+// own, and 9 is no edge's number.
 #[test]
 fn a_lasso_is_drawn(rt: HostRuntime) {
     let text = r#"HOA: v1 States: 2 Start: 0 AP: 1 "a" Acceptance: 1 Inf(0)

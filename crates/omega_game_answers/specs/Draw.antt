@@ -1,4 +1,5 @@
--- What `draw` answers for a game text: the drawing of its game, or of a part of it, alone or with a solution of the game.
+-- What `draw` answers for a game text: the drawing of its game, or of a part of it, alone or with a solution of the
+-- game.
 use Rattle.std.specs.Prelude.{◌≡◌, ◌⊎◌, Bool, List, Option, None, Some, ℕ}
 use Rattle.omega_text.specs.declared.refusal.Refusal.{Refusal}
 use Rattle.omega_game.specs.Game.{Node}
@@ -12,8 +13,8 @@ use Rattle.omega_pg.specs.solution.Text.{IsSolutionText}
 use Rattle.omega_game_answers.specs.Part.{HasIdentifier}
 use Rattle.omega_game_answers.specs.Verify.{IsJudgedGameRefusal}
 
--- what is to be drawn of a game: all of it, or where an identifier is given, what its node reaches; where a depth is given
--- too, by at most so many edges
+-- what is to be drawn of a game: all of it, or where an identifier is given, what its node reaches; where a depth is
+-- given too, by at most so many edges
 abbrev pub IsExtent : List Node → (from depth : Option ℕ) → Extent → Type 0
 IsExtent game None depth extent = extent ≡ Whole
 IsExtent game (Some identifier) depth extent = (place : ℕ) × HasIdentifier game identifier place × (extent ≡ Part place depth)

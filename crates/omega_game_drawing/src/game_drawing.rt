@@ -36,8 +36,8 @@ pub fn draw_game(alloc: Global, game: &Game, extent: Extent) -> Result<Vec<u8>, 
 }
 
 /// The drawing of a game, or of a part of it, with a solution of the game: as that of the game, each node filled in its
-/// winner's colour, light blue for player 0 and orange for player 1, and each edge to a choice bold; where that is asked
-/// for, with a legend that says so. 60 alone.
+/// winner's colour, light blue for player 0 and orange for player 1, and each edge to a choice bold; where that is
+/// asked for, with a legend that says so. 60 alone.
 pub fn draw_solution(
     alloc: Global,
     game: &Game,

@@ -4,12 +4,12 @@ use Rattle.std.specs.List.{list_any}
 use Rattle.std.proofs.lemmas.Bool.{ltb-false, or_parts}
 use Rattle.std.proofs.lemmas.List.{get_or-map, get_or_default, length-map}
 use Rattle.std.proofs.lemmas.List.Elements.{All-contains, Contains-get_or}
-use Rattle.omega_acc.specs.formula.Acceptance.{accepts}
+use Rattle.omega_acc.specs.formula.Acceptance.{AccTree, accepts}
 use Rattle.omega_automaton.specs.Automaton.{AreTargets, Description, IsAutomaton, edges_of}
 use Rattle.omega_automaton.specs.Branching.{has_branch, state_branches}
 use Rattle.omega_components.specs.Graph.{AreEdges, Shape, edge_at as graph_edge, listed, marked}
 use Rattle.omega_components.specs.Reaching.{IsReached, IsWalkFrom}
-use Rattle.omega_walk.specs.Walks.{EdgeSet, HasAccepting, IsAccepting, IsClosedEdgeWalk, IsEdgeWalk, MarkedGraph}
+use Rattle.omega_walk.specs.Walks.{EdgeSet, HasAccepting, IsAccepting, IsClosedEdgeWalk, IsEdgeWalk, MarkedGraph, marks_on}
 use Rattle.omega_walk.proofs.Walking.{on_edges, walk_in}
 use Rattle.omega_accepting.specs.Rows.{row_at}
 use Rattle.omega_accepting.proofs.Listing.{filter_has, listed_from, listed_has}
@@ -110,6 +110,14 @@ kept_on rows graph edges states cycle closed number has =
     (listed_has (kept states graph edges) number
     (on_edges (seen rows graph) (listed (kept states graph edges)) closed.knot cycle closed.knot closed.leads number has))
 
+-- a closed walk of edges that accepts, to whose beginning they lead from a source
+record CycleOf (graph : MarkedGraph) (sources edges : List ℕ) (formula : AccTree) (cycle : List ℕ) : Type 0 where
+  pub knot : ℕ
+  pub come : IsReached graph (listed edges) sources knot
+  pub leads : IsEdgeWalk graph (listed edges) knot cycle knot
+  pub longer : 0 < length cycle
+  pub accepted : IsTrue (accepts (marks_on graph cycle) formula)
+
 module _ {a : Description} {rows : List (List ℕ)} {graph : Shape} {sources edges : List ℕ} where
   -- the edges of a search are those of its graph, each of which has its marks
   pub edges_inside : IsSearch a rows graph sources edges → AreEdges graph edges
@@ -120,11 +128,9 @@ module _ {a : Description} {rows : List (List ℕ)} {graph : Shape} {sources edg
   marks_counted sought =
       ap (λ (list : List (List ℕ)). length list) sought.marks_are ∙ length-map (edges_of a) marks_of ∙ sym (counted a sought.names sources graph sought.numbered)
 
-  -- where no closed walk that a source reaches accepts, no lasso does
-  pub no_lasso : IsSearch a rows graph sources edges → (states : List Bool) → AreReached rows graph sources edges states
-      → (HasAccepting (seen rows graph) (listed (kept states graph edges)) a.acceptance → ⊥)
-      → (stem cycle : List ℕ) → IsAcceptingLasso a stem cycle → ⊥
-  no_lasso sought states reached none stem cycle lasso =
+  -- the cycle of an accepting lasso is one
+  cycle_of : IsSearch a rows graph sources edges → (stem cycle : List ℕ) → IsAcceptingLasso a stem cycle → CycleOf (seen rows graph) sources edges a.acceptance cycle
+  cycle_of sought stem cycle lasso =
       let names : List ℕ = sought.names in
       let begin = start_source a sought.automaton sought.plain names sources graph sought.numbered lasso.lasso.start lasso.lasso.begins in
       let there : TracedWalk a sought.automaton sought.plain names sources graph sought.numbered edges sought.usable (row_at rows) begin.source stem lasso.lasso.knot =
@@ -134,20 +140,37 @@ module _ {a : Description} {rows : List (List ℕ)} {graph : Shape} {sources edg
       leads_to a sought.automaton sought.plain names sources graph sought.numbered edges sought.usable (row_at rows) there.to lasso.lasso.knot cycle lasso.lasso.knot
       there.below there.named lasso.lasso.cycle_leads in
       let same : around.to ≡ there.to = sought.numbered.apart around.to there.to around.below there.below (around.named ∙ sym there.named) in
-      let closed : IsEdgeWalk (seen rows graph) (listed edges) there.to cycle there.to =
-      subst (λ state. IsEdgeWalk (seen rows graph) (listed edges) there.to cycle state) same around.leads in
-      let come : IsReached (seen rows graph) (listed edges) sources there.to =
-      (stem, record { source = begin.source; begins = begin.has; leads = there.leads }) in
+      record {
+        knot = there.to;
+        come = (stem, record { source = begin.source; begins = begin.has; leads = there.leads });
+        leads = subst (λ state. IsEdgeWalk (seen rows graph) (listed edges) there.to cycle state) same around.leads;
+        longer = lasso.lasso.longer;
+        accepted = ap (λ (list : List (List ℕ)). accepts list a.acceptance) (same_marks a graph rows sought.marks_are cycle) ∙ lasso.accepted;
+      }
+
+  -- where no closed walk accepts, no lasso does
+  pub no_lasso : IsSearch a rows graph sources edges → (HasAccepting (seen rows graph) (listed edges) a.acceptance → ⊥)
+      → (stem cycle : List ℕ) → IsAcceptingLasso a stem cycle → ⊥
+  no_lasso sought none stem cycle lasso =
+      let found = cycle_of sought stem cycle lasso in
+      none (cycle, record { closed = record { knot = found.knot; leads = found.leads; longer = found.longer }; accepted = found.accepted })
+
+  -- nor does one where none does that a source reaches
+  pub no_lasso_reached : IsSearch a rows graph sources edges → (states : List Bool) → AreReached rows graph sources edges states
+      → (HasAccepting (seen rows graph) (listed (kept states graph edges)) a.acceptance → ⊥)
+      → (stem cycle : List ℕ) → IsAcceptingLasso a stem cycle → ⊥
+  no_lasso_reached sought states reached none stem cycle lasso =
+      let found = cycle_of sought stem cycle lasso in
       none (
         cycle,
         record {
           closed = record {
-            knot = there.to;
-            leads = walk_reached a sought.automaton sought.plain names sources graph sought.numbered edges sought.usable (row_at rows) states
-                (λ state is. (reached state).1 is) there.to cycle there.to come closed;
-            longer = lasso.lasso.longer;
+            knot = found.knot;
+            leads = walk_reached a sought.automaton sought.plain sought.names sources graph sought.numbered edges sought.usable (row_at rows) states
+                (λ state is. (reached state).1 is) found.knot cycle found.knot found.come found.leads;
+            longer = found.longer;
           };
-          accepted = ap (λ (list : List (List ℕ)). accepts list a.acceptance) (same_marks a graph rows sought.marks_are cycle) ∙ lasso.accepted;
+          accepted = found.accepted;
         },
       )
 

@@ -1,17 +1,21 @@
 //! An accepting lasso of any acceptance formula, found by a search of the automaton itself.
-ghost use Rattle.std.specs.Prelude.{◌≡◌, false, IfErr, IfOk, IsOkUnless, OnOk, filter, length, slice_index_or};
+ghost use Rattle.std.specs.Prelude.{◌≡◌, false, IfErr, IfNone, IfOk, IfSome, IsOkUnless, OnOk, filter, length, slice_index, slice_index_or};
+ghost use Rattle.omega_acc.specs.formula.Shape.{acc_tree_of_shape};
 ghost use Rattle.omega_automaton.specs.Branching.{has_branch};
-ghost use Rattle.omega_components.specs.Graph.{AreEdges, edge_at};
+ghost use Rattle.omega_components.specs.Graph.{AreEdges, edge_at, listed, marked};
+ghost use Rattle.omega_components.specs.Reaching.{IsReached};
+ghost use Rattle.omega_walk.specs.Walks.{IsAccepting};
+ghost use Rattle.omega_accepting.specs.Rows.{row_at};
 ghost use Rattle.omega_empty.specs.Verdict.{IsVerdict};
 ghost use Rattle.omega_lasso.specs.Searching.{IsSearchRefusal, IsSearchable};
-ghost use Rattle.omega_lasso.specs.private.Searched.{AreUsableEdges, IsReachedCycle, IsSearch};
+ghost use Rattle.omega_lasso.specs.private.Searched.{AreUsableEdges, IsSearch};
 
 use crate::edge_table::edge_table;
 use crate::numbering::number_states;
 use crate::search::Search;
 use crate::turning::turned;
 use crate::usable::usable_edges;
-use omega_accepting::accepting_walk;
+use omega_accepting::{AccShape, accepting_walk};
 use omega_automaton::{Automaton, Refusal, has_branch};
 use omega_components::{Graph, path, reached};
 use omega_empty::Verdict;
@@ -21,7 +25,7 @@ use std::alloc::Global;
 /// Whether an automaton is empty, or an accepting lasso, whatever its acceptance formula and its name. Refused are, the
 /// first by number: 41 (a start or an edge lists several states), 42 (a label mentions over 12 propositions, and
 /// `can_be_true` gave it up), or 60. The cost is that of `can_be_true` for each label, and of `accepting_walk` in the
-/// usable edges that a start reaches.
+/// usable edges, and in those that a start reaches where no start leads to the closed walk that was found.
 pub fn lasso(alloc: Global, automaton: &Automaton) -> Result<Verdict, Refusal>
     ensures verdict { IfOk result (IsVerdict automaton.now) }
     ensures given { OnOk result (IsSearchable automaton.now) }
@@ -58,9 +62,32 @@ fn searched(alloc: Global, automaton: &Automaton, edges: &[u32]) -> Result<Verdi
     Ok(verdict)
 }
 
-/// The verdict of a search: the closed walks are sought among the usable edges that a source reaches. 60 alone.
+/// The verdict of a search. A closed walk is sought among all its edges, and where no source leads to the one that is
+/// found, among those that a source reaches. 60 alone.
 fn found_in(alloc: Global, search: &Search<'_>) -> Result<Verdict, Refusal>
     requires { IsSearch search.now.automaton.now search.now.marks.now search.now.graph.now search.now.sources.now search.now.edges.now }
+    ensures verdict { IfOk result (IsVerdict search.now.automaton.now) }
+    ensures memory { IsOkUnless result Refusal.Memory }
+{
+    let formula = search.automaton.acceptance().shape(alloc)?;
+    let found = accepting_walk(alloc, search.graph, search.marks, search.edges, &formula)?;
+    match found {
+        None => Ok(Verdict::Empty),
+        Some(cycle) => match with_stem(alloc, search, cycle.as_slice())? {
+            Some(verdict) => Ok(verdict),
+            None => found_among_reached(alloc, search, &formula),
+        },
+    }
+}
+
+/// The verdict of a search: the closed walks are sought among its edges that a source reaches. 60 alone.
+fn found_among_reached(
+    alloc: Global,
+    search: &Search<'_>,
+    formula: &AccShape,
+) -> Result<Verdict, Refusal>
+    requires ready { IsSearch search.now.automaton.now search.now.marks.now search.now.graph.now search.now.sources.now search.now.edges.now }
+    requires formula { acc_tree_of_shape formula.now ≡ search.now.automaton.now.acceptance }
     ensures verdict { IfOk result (IsVerdict search.now.automaton.now) }
     ensures memory { IsOkUnless result Refusal.Memory }
 {
@@ -68,28 +95,34 @@ fn found_in(alloc: Global, search: &Search<'_>) -> Result<Verdict, Refusal>
     let flags = states.as_slice();
     let edges = leaving(alloc, search.graph, search.edges, flags)?;
     let kept = edges.as_slice();
-    let formula = search.automaton.acceptance().shape(alloc)?;
-    let found = accepting_walk(alloc, search.graph, search.marks, kept, &formula)?;
+    let found = accepting_walk(alloc, search.graph, search.marks, kept, formula)?;
     match found {
         None => Ok(Verdict::Empty),
         Some(cycle) => {
             let walk = cycle.as_slice();
-            with_stem(alloc, search, walk)
+            match with_stem(alloc, search, walk)? {
+                Some(verdict) => Ok(verdict),
+                None => unreachable!(),
+            }
         }
     }
 }
 
-/// The lasso of a closed walk that accepts, with a shortest stem to it. 60 alone.
-fn with_stem(alloc: Global, search: &Search<'_>, cycle: &[u32]) -> Result<Verdict, Refusal>
+/// The lasso of a closed walk that accepts, with a shortest stem to it, none where no source leads to it. 60 alone.
+fn with_stem(alloc: Global, search: &Search<'_>, cycle: &[u32]) -> Result<Option<Verdict>, Refusal>
     requires ready { IsSearch search.now.automaton.now search.now.marks.now search.now.graph.now search.now.sources.now search.now.edges.now }
-    requires cycle { IsReachedCycle search.now.automaton.now search.now.marks.now search.now.graph.now search.now.sources.now search.now.edges.now cycle.now }
-    ensures verdict { IfOk result (IsVerdict search.now.automaton.now) }
+    requires cycle { IsAccepting (marked search.now.graph.now (row_at search.now.marks.now)) (listed search.now.edges.now) search.now.automaton.now.acceptance cycle.now }
+    ensures verdict { IfOk result (λ found. IfSome found (IsVerdict search.now.automaton.now)) }
+    ensures none { IfOk result (λ found. IfNone found (¬ IsReached (marked search.now.graph.now (row_at search.now.marks.now)) (listed search.now.edges.now) search.now.sources.now (edge_at search.now.graph.now (slice_index cycle.now 0)).from)) }
     ensures memory { IsOkUnless result Refusal.Memory }
 {
     let target = search.graph.from(cycle[0]);
     match path(alloc, search.graph, search.edges, search.sources, target)? {
-        None => unreachable!(),
-        Some(stem) => turned(alloc, stem.as_slice(), cycle),
+        None => Ok(None),
+        Some(stem) => {
+            let verdict = turned(alloc, stem.as_slice(), cycle)?;
+            Ok(Some(verdict))
+        }
     }
 }
 

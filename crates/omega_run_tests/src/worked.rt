@@ -69,11 +69,7 @@ static GAMES: [(&str, &str, &str); 20] = [
         "accepted\n",
     ),
     // Dense games: five listed successors a node.
-    (
-        "omega solve",
-        "0 0 0 0,0,0,0,0;",
-        "paritysol 0;\n0 0 0;\n",
-    ),
+    ("omega solve", "0 0 0 0,0,0,0,0;", "paritysol 0;\n0 0 0;\n"),
     (
         "omega solve",
         "0 0 0 1,1,2,2,2; 1 1 1 0,0,0,0,0; 2 2 1 0,0,0,0,0;",

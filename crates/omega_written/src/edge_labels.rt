@@ -11,8 +11,8 @@ use omega_text::Refusal;
 use std::alloc::Global;
 
 /// The label of an edge of a state by its index, over so many propositions: that of the state, or else its own, or else
-/// that of the valuation of the index (HOA v1, semantics of labels and implicit labels). 60 alone, also where the number
-/// of a proposition would not fit, which none of an automaton does.
+/// that of the valuation of the index (HOA v1, semantics of labels and implicit labels). 60 alone, also where the
+/// number of a proposition would not fit, which none of an automaton does.
 pub fn label_at(
     alloc: Global,
     count: usize,

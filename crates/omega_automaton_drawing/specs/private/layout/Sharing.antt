@@ -14,7 +14,8 @@ targets_of edges = map (λ edge. shared_target edge.role edge.targets) edges
 abbrev pub next_to : List (Option ℕ) → ℕ → ℕ → Option ℕ
 next_to targets index target = position_from (is_to target) index (drop index targets)
 
--- a table has for each edge the next that shares its arrow, and for each state the first edge that shares an arrow to it
+-- a table has for each edge the next that shares its arrow, and for each state the first edge that shares an arrow to
+-- it
 pub record IsSharing (targets : List (Option ℕ)) (sharing : Sharing) : Type 0 where
   pub entries : length sharing.next.items ≡ length targets
   pub next : (index target : ℕ) → index < length targets → slice_index_or targets index None ≡ Some target

@@ -7,19 +7,19 @@ use Rattle.omega_lasso.proofs.Lassos.{first_inside, is_lasso, seen}
 use Rattle.omega_lasso.proofs.finding.with_stem.Goals as goal
 
 pub from-target-requires : goal.from-target-requires
-from-target-requires c = first_inside c.requires.ready c.args.cycle.now c.requires.cycle.accepting
+from-target-requires c = first_inside c.requires.ready c.args.cycle.now c.requires.cycle
 
-pub unreachable-requires : goal.unreachable-requires
-unreachable-requires c =
+pub returns-in-None-clause-none : goal.returns-in-None-clause-none
+returns-in-None-clause-none c =
     let rows : List (List ℕ) = c.args.search.now.marks.now in
     let graph : Shape = c.args.search.now.graph.now in
     let sources : List ℕ = c.args.search.now.sources.now in
     let edges : List ℕ = c.args.search.now.edges.now in
     let none = rw c.in-None.is at c.in_ok-path.ensures.none in
-    none (row_at rows) (subst (IsReached (seen rows graph) (listed edges) sources) (sym c.from-target.ensures.from) c.requires.cycle.reached)
+    λ reached. none (row_at rows) (subst (IsReached (seen rows graph) (listed edges) sources) (sym c.from-target.ensures.from) reached)
 
-pub returns-clause-verdict : goal.returns-clause-verdict
-returns-clause-verdict c =
+pub returns-in_ok-verdict-in-Some-clause-verdict : goal.returns-in_ok-verdict-in-Some-clause-verdict
+returns-in_ok-verdict-in-Some-clause-verdict c =
     let rows : List (List ℕ) = c.args.search.now.marks.now in
     let graph : Shape = c.args.search.now.graph.now in
     let sources : List ℕ = c.args.search.now.sources.now in
@@ -30,4 +30,4 @@ returns-clause-verdict c =
     let way : IsWalkFrom (seen rows graph) (listed edges) sources stem target =
     subst (λ (xs : List ℕ). IsWalkFrom (seen rows graph) (listed edges) sources xs target) (sym c.as_slice.ensures.value)
     (subst (IsWalkFrom (seen rows graph) (listed edges) sources c.in-Some.stem.items) c.from-target.ensures.from (walk (row_at rows))) in
-    c.turned.ensures.verdict c.args.search.now.automaton.now (is_lasso c.requires.ready stem c.args.cycle.now c.requires.cycle.accepting way)
+    c.in_ok-verdict-in-Some.ensures.verdict c.args.search.now.automaton.now (is_lasso c.requires.ready stem c.args.cycle.now c.requires.cycle way)
