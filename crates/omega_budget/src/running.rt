@@ -46,7 +46,7 @@ pub(crate) fn run_watched<T: MeasureTable, S: Schedule, L, W: Watch<L>>(
 pub(crate) fn most_lifts_of(game: &Game, player: Player, budget: u64) -> u64
     ensures { result ≡ most_of game.now player budget }
 {
-    match bound(game, player) {
+    match bound(game.arena(), player) {
         Some(lifts) if lifts < u128::from(budget) => lifts as u64,
         _ => budget,
     }

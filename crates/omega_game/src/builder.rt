@@ -3,6 +3,7 @@ ghost use Rattle.std.specs.Bool.{OnFalse};
 ghost use Rattle.std.specs.List.{range_with_len};
 ghost use Rattle.std.specs.List.Sorted.{IsNonDecreasing, IsPermutation, IsStrictlyIncreasing};
 
+use crate::arena::Arena;
 use crate::game::Game;
 use crate::identifiers::listed_ids;
 use crate::limits::{MOST_NODES, MOST_SUCCESSORS};
@@ -105,7 +106,13 @@ impl GameBuilder {
         ensures err { OnErr result (self.new ≡ self.old) }
         ensures memory { IsOkUnless result Refusal.Memory }
     {
-        self.add(id, priority, owner, &[first])?;
+        self.ids.reserve(1)?;
+        self.priorities.reserve(1)?;
+        self.owners.reserve(1)?;
+        self.successors.push_single(first)?;
+        let _ = self.ids.push(id);
+        let _ = self.priorities.push(priority);
+        let _ = self.owners.push(owner);
         Ok(())
     }
 
@@ -253,6 +260,18 @@ impl GameBuilder {
         ensures faultless { OnOk result (game_fault_of self ≡ None) }
         ensures refused { IfErr result (IsBuildRefusal self) }
     {
+        let alloc = *self.ids.allocator();
+        let arena = self.finish_arena()?;
+        arena.with_predecessors(alloc)
+    }
+
+    /// The same without predecessors, and without the memory that they take.
+    pub fn finish_arena(self) -> Result<Arena, Refusal>
+        requires { 0 < length self }
+        ensures game { IfOk result (λ arena. IsGameOf self arena) }
+        ensures faultless { OnOk result (game_fault_of self ≡ None) }
+        ensures refused { IfErr result (IsBuildRefusal self) }
+    {
         if self.has_rising_ids() {
             return self.resolved();
         }
@@ -263,11 +282,11 @@ impl GameBuilder {
         sorted.resolved()
     }
 
-    /// The game of specifications whose identifiers rise, or the first fault that applies.
-    fn resolved(self) -> Result<Game, Refusal>
+    /// The arena of specifications whose identifiers rise, or the first fault that applies.
+    fn resolved(self) -> Result<Arena, Refusal>
         requires some { 0 < length self }
         requires rising { IsStrictlyIncreasing (ids_of self) }
-        ensures game { IfOk result (λ game. IsGameOf self game) }
+        ensures game { IfOk result (λ arena. IsGameOf self arena) }
         ensures faultless { OnOk result (game_fault_of self ≡ None) }
         ensures refused { IfErr result (IsBuildRefusal self) }
     {
@@ -290,7 +309,7 @@ impl GameBuilder {
         if successors.total() > MOST_SUCCESSORS {
             return Err(Refusal::Game(GameFault::TooManyEdges));
         }
-        let game = Game::assembled(alloc, listed, priorities, owners, successors, quoted)?;
-        Ok(game)
+        let arena = Arena::assembled(alloc, listed, priorities, owners, successors, quoted)?;
+        Ok(arena)
     }
 }

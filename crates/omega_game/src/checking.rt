@@ -13,7 +13,7 @@ mod ordering;
 mod recurring;
 mod union_find;
 
-use crate::game::Game;
+use crate::arena::Arena;
 use crate::player::Player;
 use crate::reaching::reached_from;
 use crate::strategy::Strategy;
@@ -33,7 +33,7 @@ use std::alloc::{AllocError, Global};
 /// confirmed, and no proof excludes one.
 pub fn check_strategy(
     alloc: Global,
-    game: &Game,
+    game: &Arena,
     player: Player,
     places: &[u32],
     strategy: &Strategy,
@@ -51,7 +51,7 @@ pub fn check_strategy(
 /// (m + n) · log d in each case. `Memory` where a request for memory is refused.
 pub fn check_strategy_fast(
     alloc: Global,
-    game: &Game,
+    game: &Arena,
     player: Player,
     places: &[u32],
     strategy: &Strategy,
@@ -71,7 +71,7 @@ pub fn check_strategy_fast(
 /// memory is refused.
 pub fn check_strategy_by_order(
     alloc: Global,
-    game: &Game,
+    game: &Arena,
     player: Player,
     places: &[u32],
     strategy: &Strategy,
@@ -96,7 +96,7 @@ pub fn check_strategy_by_order(
 /// Whether choices that are a strategy of the player win from each of the places.
 fn wins_from(
     alloc: Global,
-    game: &Game,
+    game: &Arena,
     player: Player,
     places: &[u32],
     choices: &[Option<u32>],
@@ -114,7 +114,7 @@ fn wins_from(
 /// The same where what the fast search suggests is confirmed, else none.
 fn wins_fast(
     alloc: Global,
-    game: &Game,
+    game: &Arena,
     player: Player,
     places: &[u32],
     choices: &[Option<u32>],
@@ -134,7 +134,7 @@ fn wins_fast(
 /// Whether an order shows that choices that are a strategy of the player win from each of the places.
 fn shows_wins(
     alloc: Global,
-    game: &Game,
+    game: &Arena,
     player: Player,
     places: &[u32],
     choices: &[Option<u32>],

@@ -1,50 +1,54 @@
-ghost use Rattle.std.specs.Prelude.{◌≡◌, ℕ, ◌<◌, length, vec_len, map, option_map, position, ◌==◌, All, IfOk, IfErr, OnOk, None};
+ghost use Rattle.std.specs.Prelude.{◌≡◌, ℕ, ◌<◌, length, vec_len, option_map, position, ◌==◌, All, IfOk, IfErr, OnOk, IsOkUnless, None};
 
+use crate::arena::Arena;
 use crate::builder::GameBuilder;
-use crate::identifiers::{identifier_at, place_among};
 use crate::lists::Lists;
-use crate::names::name_at;
 use crate::node_spec::NodeSpec;
 use crate::player::Player;
-use crate::predecessors::predecessors_of;
-use crate::priority_counts::{PriorityCount, counts_of};
-use indexmap::IndexSet;
+use crate::priority_counts::PriorityCount;
 use omega_text::Refusal;
-use std::alloc::{AllocError, Global};
+use std::alloc::Global;
 use std::marker::Model;
 
-/// A parity game. A place is a node's position, from 0, in rising order of identifiers.
+/// A parity game, with the predecessors of each place. A place is a node's position, from 0, in rising order of
+/// identifiers.
 #[derive(Drop)]
 pub struct Game {
-    // Empty where the identifiers are 0 to n - 1: a place is then its identifier.
-    listed: IndexSet<u32>,
-    priorities: Vec<u32>,
-    owners: Vec<Player>,
-    successors: Lists<u32>,
+    arena: Arena,
     predecessors: Lists<u32>,
-    // The name of each node behind an opening quote, so that an empty name differs from none. It ends with the
-    // last node that is named.
-    quoted: Lists<u8>,
-    priority_counts: Vec<PriorityCount>,
 }
 
 impl Model for Game {
     ghost use Rattle.std.specs.Prelude.{List};
     ghost use Rattle.omega_game.specs.Game.{Node};
-    ghost use Rattle.omega_game.specs.private.layout.Columns.{columns_of, nodes_of, IsLaidOut};
+    ghost use Rattle.omega_game.specs.private.layout.Columns.{ArePredecessors};
 
     ghost Value = { List Node };
 
-    ghost view = { λ a. nodes_of (columns_of a.listed.keys a.priorities.items a.owners.items a.successors a.quoted) };
+    ghost view = { λ a. a.arena };
 
-    ghost invariant = { λ a. IsLaidOut (columns_of a.listed.keys a.priorities.items a.owners.items a.successors a.quoted) a.predecessors a.priority_counts.items };
+    ghost invariant = { λ a. ArePredecessors a.arena a.predecessors };
+}
+
+impl Arena {
+    /// The game of this arena, which takes memory for its predecessors. `Memory` where that is refused. Takes time in
+    /// the nodes and edges.
+    pub fn with_predecessors(self, alloc: Global) -> Result<Game, Refusal>
+        ensures game { IfOk result (λ game. game ≡ self) }
+        ensures memory { IsOkUnless result Refusal.Memory }
+    {
+        let predecessors = self.listed_predecessors(alloc)?;
+        Ok(Game {
+            arena: self,
+            predecessors,
+        })
+    }
 }
 
 impl Game {
     ghost use Rattle.omega_game.specs.Building.{IsBuildRefusal, IsGameOf, IsWellFormed, game_fault_of};
     ghost use Rattle.omega_game.specs.Game.{IsGame, IsWithinLimits, successor_count, identifiers, node_at, owner_at, predecessors_of, priorities, priority_at, successors_at};
     ghost use Rattle.omega_game.specs.Bound.{priority_counts};
-    ghost use Rattle.omega_game.specs.private.layout.Columns.{columns_of, nodes_of, AreEven};
 
     /// The game of the specifications, which may come in any order. Refused with the first that applies of
     /// `DuplicateNode`, `UndefinedSuccessor`, `TooManyNodes` and `TooManyEdges`, or with `Memory` where a request for
@@ -60,31 +64,11 @@ impl Game {
         builder.finish()
     }
 
-    /// The game of these columns, with its predecessors and its priorities counted.
-    pub(crate) fn assembled(
-        alloc: Global,
-        listed: IndexSet<u32>,
-        priorities: Vec<u32>,
-        owners: Vec<Player>,
-        successors: Lists<u32>,
-        quoted: Lists<u8>,
-    ) -> Result<Game, AllocError>
-        requires even { AreEven (columns_of listed.keys priorities.items owners.items successors quoted) }
-        requires game { IsGame (nodes_of (columns_of listed.keys priorities.items owners.items successors quoted)) }
-        requires limits { IsWithinLimits (nodes_of (columns_of listed.keys priorities.items owners.items successors quoted)) }
-        ensures { IfOk result (λ game. game ≡ nodes_of (columns_of listed.keys priorities.items owners.items successors quoted)) }
+    /// The game without its predecessors: what texts, drawings and judgements take.
+    pub fn arena(&self) -> &Arena
+        ensures { result.now ≡ self.now }
     {
-        let predecessors = predecessors_of(alloc, &successors)?;
-        let priority_counts = counts_of(alloc, priorities.as_slice())?;
-        Ok(Game {
-            listed,
-            priorities,
-            owners,
-            successors,
-            predecessors,
-            quoted,
-            priority_counts,
-        })
+        &self.arena
     }
 
     /// The number of nodes, at least 1.
@@ -93,7 +77,7 @@ impl Game {
         ensures game { IsGame self.now }
         ensures limits { IsWithinLimits self.now }
     {
-        self.priorities.len()
+        self.arena.len()
     }
 
     /// The nodes are a game's, within the limits. Does nothing: it hands on what each game keeps.
@@ -101,15 +85,14 @@ impl Game {
         ensures game { IsGame self.now }
         ensures limits { IsWithinLimits self.now }
     {
-        // A field is read, since only then a proof knows the invariant.
-        let _count = self.priorities.len();
+        self.arena.keeps_limits();
     }
 
     /// The number of listed successors, repeats counted.
     pub fn edges(&self) -> usize
         ensures { result ≡ successor_count self.now }
     {
-        self.successors.total()
+        self.arena.edges()
     }
 
     /// The identifier of the node at a place.
@@ -117,7 +100,7 @@ impl Game {
         requires { place < length self.now }
         ensures { result ≡ (node_at self.now place).identifier }
     {
-        identifier_at(self.listed.as_slice(), place)
+        self.arena.id(place)
     }
 
     /// The priority of the node at a place.
@@ -125,7 +108,7 @@ impl Game {
         requires { place < length self.now }
         ensures { result ≡ priority_at self.now place }
     {
-        self.priorities[place as usize]
+        self.arena.priority(place)
     }
 
     /// The player who chooses the successor at a place.
@@ -133,7 +116,7 @@ impl Game {
         requires { place < length self.now }
         ensures { result ≡ owner_at self.now place }
     {
-        self.owners[place as usize]
+        self.arena.owner(place)
     }
 
     /// The name of the node at a place, without its quotes.
@@ -141,7 +124,7 @@ impl Game {
         requires { place < length self.now }
         ensures { option_map (λ name. name.now) result ≡ (node_at self.now place).name }
     {
-        name_at(&self.quoted, place as usize)
+        self.arena.name(place)
     }
 
     /// The places of the successors of the node at a place, in the order listed, repeats kept.
@@ -149,7 +132,7 @@ impl Game {
         requires { place < length self.now }
         ensures { result.now ≡ successors_at self.now place }
     {
-        self.successors.list(place as usize)
+        self.arena.successors(place)
     }
 
     /// The places with an edge to a place, rising, one entry for each listed edge.
@@ -164,13 +147,13 @@ impl Game {
     pub fn place_of(&self, id: u32) -> Option<u32>
         ensures { result ≡ position (λ x. x == id) (identifiers self.now) }
     {
-        place_among(&self.listed, self.priorities.len(), id)
+        self.arena.place_of(id)
     }
 
     /// Each priority that is borne, the greatest first, with the number of nodes that bear it.
     pub fn priority_counts(&self) -> &[PriorityCount]
         ensures { result.now ≡ priority_counts (priorities self.now) }
     {
-        self.priority_counts.as_slice()
+        self.arena.priority_counts()
     }
 }

@@ -1,6 +1,7 @@
 //! Parity games: their nodes, strategies, the bound on lifts, and the part that a node reaches.
 #![tactic(auto)]
 
+mod arena;
 mod bounds;
 mod builder;
 mod checking;
@@ -23,6 +24,7 @@ mod solution;
 mod sorting;
 mod strategy;
 
+pub use arena::Arena;
 pub use bounds::bound;
 pub use builder::GameBuilder;
 pub use checking::{check_strategy, check_strategy_by_order, check_strategy_fast};

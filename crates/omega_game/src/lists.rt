@@ -107,6 +107,19 @@ impl<T: Copy> Lists<T> {
         Ok(())
     }
 
+    /// Adds a list of one item behind the others. Refused where `push_list` is.
+    #[inline(always)]
+    pub(crate) fn push_single(&mut self, item: T) -> Result<(), AllocError>
+        ensures ok { OnOk result (self.new ≡ self.old ++ (item ∷ []) ∷ []) }
+        ensures err { OnErr result (self.new ≡ self.old) }
+    {
+        let start = u32::try_from(self.items.len()).map_err(|_| AllocError)?;
+        self.starts.reserve(1)?;
+        self.items.push(item)?;
+        let _ = self.starts.push(start);
+        Ok(())
+    }
+
     /// Adds an item to the last list.
     pub(crate) fn push_item(&mut self, item: T) -> Result<(), AllocError>
         requires { 0 < length self.old }

@@ -2,18 +2,19 @@ ghost use Rattle.std.specs.Prelude.{◌≡◌, ◌∷◌, ◌++◌, [], ◌<◌,
 ghost use Rattle.omega_game.specs.Building.{specified};
 ghost use Rattle.omega_game.specs.Game.{IsGame, IsWithinLimits, node_at};
 
+use crate::arena::Arena;
 use crate::builder::GameBuilder;
 use crate::game::Game;
 use crate::reaching::reached_from;
 use omega_text::Refusal;
 use std::alloc::Global;
 
-impl Game {
+impl Arena {
     ghost use Rattle.omega_game.specs.Part.{IsPart};
 
-    /// The game of all nodes to which a list of listed edges leads from the place, itself included. `Memory` where a
+    /// The arena of all nodes to which a list of listed edges leads from the place, itself included. `Memory` where a
     /// request for memory is refused. Takes time in the nodes, and in the successors and names of those that are kept.
-    pub fn part(&self, alloc: Global, place: u32) -> Result<Game, Refusal>
+    pub fn part(&self, alloc: Global, place: u32) -> Result<Arena, Refusal>
         requires { place < length self.now }
         ensures part { IfOk result (λ part. IsPart self.now place part) }
         ensures memory { IsOkUnless result Refusal.Memory }
@@ -26,12 +27,27 @@ impl Game {
                 specify(&mut builder, self, kept as u32)?;
             }
         }
-        builder.finish()
+        builder.finish_arena()
+    }
+}
+
+impl Game {
+    ghost use Rattle.omega_game.specs.Part.{IsPart};
+
+    /// The game of all nodes to which a list of listed edges leads from the place, itself included. `Memory` where a
+    /// request for memory is refused. Takes time in the nodes, and in the successors and names of those that are kept.
+    pub fn part(&self, alloc: Global, place: u32) -> Result<Game, Refusal>
+        requires { place < length self.now }
+        ensures part { IfOk result (λ part. IsPart self.now place part) }
+        ensures memory { IsOkUnless result Refusal.Memory }
+    {
+        let part = self.arena().part(alloc, place)?;
+        part.with_predecessors(alloc)
     }
 }
 
 /// Adds the specification of the node at a place.
-fn specify(builder: &mut GameBuilder, game: &Game, place: u32) -> Result<(), Refusal>
+fn specify(builder: &mut GameBuilder, game: &Arena, place: u32) -> Result<(), Refusal>
     requires place { place < length game.now }
     requires game { IsGame game.now }
     requires limits { IsWithinLimits game.now }
@@ -46,7 +62,7 @@ fn specify(builder: &mut GameBuilder, game: &Game, place: u32) -> Result<(), Ref
 }
 
 /// Adds the specification of the node at a place, without its name.
-fn specify_unnamed(builder: &mut GameBuilder, game: &Game, place: u32) -> Result<(), Refusal>
+fn specify_unnamed(builder: &mut GameBuilder, game: &Arena, place: u32) -> Result<(), Refusal>
     requires place { place < length game.now }
     requires game { IsGame game.now }
     requires limits { IsWithinLimits game.now }

@@ -2,13 +2,13 @@
 ghost use Rattle.std.specs.Prelude.{◌≡◌, ℕ, ◌<◌, length, vec_len, All, IfOk, OnOk};
 ghost use Rattle.omega_game.specs.private.checking.Reaching.{left_at, LeadsInside, AreEntered, AreReached};
 
-use crate::game::Game;
+use crate::arena::Arena;
 use std::alloc::{AllocError, Global};
 use std::slice;
 
 /// The places to which the choices leave an edge from a place possible: the one chosen, or each listed successor where
 /// none is chosen or the choices end before the place.
-pub(crate) fn edges_left<'a>(game: &'a Game, choices: &'a [Option<u32>], place: u32) -> &'a [u32]
+pub(crate) fn edges_left<'a>(game: &'a Arena, choices: &'a [Option<u32>], place: u32) -> &'a [u32]
     requires inside { place < length game.now }
     requires choices { LeadsInside game.now choices.now }
     ensures left { result.now ≡ left_at game.now choices.now place }
@@ -24,7 +24,7 @@ pub(crate) fn edges_left<'a>(game: &'a Game, choices: &'a [Option<u32>], place: 
 /// Marks the places that are reached from the given ones through priorities at most `most`. Linear in nodes and edges.
 pub(crate) fn reached_from(
     alloc: Global,
-    game: &Game,
+    game: &Arena,
     choices: &[Option<u32>],
     most: u32,
     places: &[u32],
@@ -51,7 +51,7 @@ pub(crate) fn reached_from(
 
 /// Marks the places of priority at most `most`, and stacks those that were not marked.
 fn enter(
-    game: &Game,
+    game: &Arena,
     most: u32,
     places: &[u32],
     marks: &mut Vec<bool>,

@@ -3,7 +3,7 @@ ghost use Rattle.std.specs.Prelude.{◌≡◌, ◌≢◌, ◌+◌, ◌<◌, ◌�
 ghost use Rattle.omega_game_drawing.specs.Extent.{IsNear, is_drawn};
 ghost use Rattle.omega_game_drawing.specs.private.Entering.{AreEntered, IsBehind};
 
-use omega_game::Game;
+use omega_game::Arena;
 use std::alloc::{AllocError, Global};
 
 /// Flags the places that a place reaches, itself included; where a depth is given, by at most so many edges.
@@ -11,7 +11,7 @@ use std::alloc::{AllocError, Global};
 /// Breadth first, so that each edge of what is reached is followed once.
 pub(crate) fn places_near(
     alloc: Global,
-    game: &Game,
+    game: &Arena,
     place: u32,
     depth: Option<u32>,
 ) -> Result<Vec<bool>, AllocError>
@@ -45,7 +45,7 @@ fn one_less(left: Option<u32>) -> Option<u32>
 /// Flags the places to which an edge leads from one of the front, and gives those that were not flagged before.
 fn enter_behind(
     alloc: Global,
-    game: &Game,
+    game: &Arena,
     front: &[u32],
     drawn: &mut Vec<bool>,
 ) -> Result<Vec<u32>, AllocError>

@@ -94,7 +94,7 @@ fn is_accepted(
     ensures accepted { IfOk result (λ answer. IsTrue answer → IsAcceptedFor game.now solution.now player) }
     ensures memory { IsOkUnless result Refusal.Memory }
 {
-    if !solution.strategy(player).fits(game, player) {
+    if !solution.strategy(player).fits(game.arena(), player) {
         return Ok(false);
     }
     wins_given(alloc, game, solution, player, order)
@@ -116,5 +116,12 @@ fn wins_given(
     game.keeps_limits();
     let places = solution.places_given(alloc, player)?;
     let strategy = solution.strategy(player);
-    check_strategy_by_order(alloc, game, player, places.as_slice(), strategy, order)
+    check_strategy_by_order(
+        alloc,
+        game.arena(),
+        player,
+        places.as_slice(),
+        strategy,
+        order,
+    )
 }

@@ -8,7 +8,7 @@ use Rattle.std.proofs.lemmas.List.Sums.{sum_by-cons, position_or_len_is}
 use Rattle.std.proofs.lemmas.List.FromFn.{length-range_with_len, get_or-range_with_len, length-map-range_with_len, get_or-map-range_with_len}
 use Rattle.omega_game.specs.declared.player.Player.{Player}
 use Rattle.omega_game.specs.declared.player.Player.TheVariants.{Zero}
-use Rattle.omega_game.specs.Game.{Node, no_node, node_at, priority_at, owner_at, successors_at, predecessors_of, identifiers, priorities, successor_count}
+use Rattle.omega_game.specs.Game.{Node, no_node, node_at, priority_at, owner_at, successors_at, identifiers, priorities, successor_count}
 use Rattle.omega_game.specs.private.layout.Columns.{Columns, AreEven, node_in, nodes_of, name_in_column, identifiers_of}
 
 -- there is a node for each identifier
@@ -108,14 +108,6 @@ successors_are columns nodes v xs is h read = read ∙ sym (ap (λ (node : Node)
 pub name_is : (columns : Columns) (nodes : List Node) (v : ℕ) (x : Option (List ℕ)) → nodes_of columns ≡ nodes → v < length nodes → x ≡ name_in_column (get_or columns.quoted v []) → x ≡ (node_at nodes v).name
 unfolding node_in
 name_is columns nodes v x is h read = read ∙ sym (ap (λ (node : Node). node.name) (node_is columns nodes v is h))
-
--- what is read from the predecessors is the place's
-pub predecessors_are : (columns : Columns) (nodes : List Node) (lists : List (List ℕ)) (v : ℕ) (xs : List ℕ) → nodes_of columns ≡ nodes → v < length nodes
-    → lists ≡ map (predecessors_of (nodes_of columns)) (range_with_len 0 (length columns.identifiers)) → xs ≡ get_or lists v [] → xs ≡ predecessors_of nodes v
-predecessors_are columns nodes lists v xs is h all read =
-    read ∙ ap (λ lists. get_or lists v []) all
-    ∙ get_or-map-range_with_len (predecessors_of (nodes_of columns)) 0 (length columns.identifiers) v v [] (place_within columns nodes v is h) (omega arith)
-    ∙ ap (λ (list : List Node). predecessors_of list v) is
 
 -- where identifiers are listed, there is one for each node
 pub length-listed : (n : ℕ) (listed : List ℕ) → 0 < length listed → length (identifiers_of n listed) ≡ length listed

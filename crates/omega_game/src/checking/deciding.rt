@@ -4,12 +4,12 @@ ghost use Rattle.std.specs.Prelude.{◌≡◌, ℕ, ◌<◌, length, vec_len, If
 ghost use Rattle.omega_game.specs.private.checking.Decision.{IsLosingPlace, IsRightDecision};
 ghost use Rattle.omega_game.specs.private.checking.Reaching.{LeadsInside, AreClosed};
 
+use crate::arena::Arena;
 use crate::checking::components::Edge;
 use crate::checking::decision::Decision;
 use crate::checking::nesting::{Finding, search_nested};
 use crate::checking::ordering::shows_none;
 use crate::checking::recurring::{decide_plainly, recurs};
-use crate::game::Game;
 use crate::player::Player;
 use crate::reaching::edges_left;
 use std::alloc::{AllocError, Global};
@@ -17,7 +17,7 @@ use std::alloc::{AllocError, Global};
 /// Decides whether no marked place of a priority that loses for the player recurs.
 pub(crate) fn decide(
     alloc: Global,
-    game: &Game,
+    game: &Arena,
     player: Player,
     choices: &[Option<u32>],
     marks: &[bool],
@@ -37,7 +37,7 @@ pub(crate) fn decide(
 /// The same where what the fast search suggests is confirmed, else none.
 pub(crate) fn decide_fast(
     alloc: Global,
-    game: &Game,
+    game: &Arena,
     player: Player,
     choices: &[Option<u32>],
     marks: &[bool],
@@ -66,7 +66,7 @@ pub(crate) fn decide_fast(
 /// Whether a place is marked, of a losing priority, and recurs.
 fn loses_at(
     alloc: Global,
-    game: &Game,
+    game: &Arena,
     player: Player,
     choices: &[Option<u32>],
     marks: &[bool],
@@ -89,7 +89,7 @@ fn loses_at(
 /// What the fast search finds among the marked places.
 fn suggest(
     alloc: Global,
-    game: &Game,
+    game: &Arena,
     player: Player,
     choices: &[Option<u32>],
     marks: &[bool],

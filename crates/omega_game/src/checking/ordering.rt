@@ -5,7 +5,7 @@ ghost use Rattle.omega_game.specs.private.checking.Reaching.{mark_at, LeadsInsid
 ghost use Rattle.omega_game.specs.private.checking.Ordering.{AreEnds, IsInOrder, StandsInOrder};
 ghost use Rattle.omega_game.specs.private.checking.Recurring.{NoneRecurs};
 
-use crate::game::Game;
+use crate::arena::Arena;
 use crate::player::Player;
 use crate::reaching::edges_left;
 use std::alloc::{AllocError, Global};
@@ -13,7 +13,7 @@ use std::alloc::{AllocError, Global};
 /// Whether an order of the places shows that no marked place of a losing priority recurs. Linear in nodes and edges.
 pub(crate) fn shows_none(
     alloc: Global,
-    game: &Game,
+    game: &Arena,
     player: Player,
     choices: &[Option<u32>],
     marks: &[bool],
@@ -54,7 +54,7 @@ fn numbers_in(alloc: Global, count: usize, order: &[u32]) -> Result<Vec<usize>, 
 }
 
 /// The priorities of the places in the order.
-fn ranks_along(alloc: Global, game: &Game, order: &[u32]) -> Result<Vec<u32>, AllocError> {
+fn ranks_along(alloc: Global, game: &Arena, order: &[u32]) -> Result<Vec<u32>, AllocError> {
     let count = game.len();
     let mut ranks = Vec::with_capacity(alloc, order.len())?;
     for place in order {
@@ -101,7 +101,7 @@ fn end_behind(ranks: &[u32], ends: &[usize], index: usize) -> usize
 
 /// Whether each marked place stands in the order.
 fn all_stand(
-    game: &Game,
+    game: &Arena,
     player: Player,
     choices: &[Option<u32>],
     marks: &[bool],
@@ -127,7 +127,7 @@ fn all_stand(
 
 /// Whether a place stands in the order at a position of its priority, with each of its edges in order.
 fn stands(
-    game: &Game,
+    game: &Arena,
     player: Player,
     choices: &[Option<u32>],
     numbers: &[usize],
@@ -155,7 +155,7 @@ fn stands(
 
 /// Whether an edge leads forward, or back to a place whose priority does not lose and is the greatest on the way.
 fn is_in_order(
-    game: &Game,
+    game: &Arena,
     player: Player,
     numbers: &[usize],
     ends: &[usize],

@@ -71,13 +71,16 @@ columns_of listed ranks owners lists quoted = record {
   quoted = quoted;
 }
 
--- what a game keeps: even columns of a game within the limits, with its predecessors and its priorities counted
-pub record IsLaidOut (columns : Columns) (predecessors : List (List ℕ)) (counts : List PriorityCount) : Type 0 where
+-- what an arena keeps: even columns of a game within the limits, with its priorities counted
+pub record IsLaidOut (columns : Columns) (counts : List PriorityCount) : Type 0 where
   pub even : AreEven columns
   pub game : IsGame (nodes_of columns)
   pub limits : IsWithinLimits (nodes_of columns)
-  pub predecessors_all : predecessors ≡ map (predecessors_of (nodes_of columns)) (range_with_len 0 (length columns.identifiers))
   pub counted : counts ≡ priority_counts columns.priorities
+
+-- the predecessors of each place of the nodes
+abbrev pub ArePredecessors : List Node → List (List ℕ) → Type 0
+ArePredecessors nodes lists = lists ≡ map (predecessors_of nodes) (range_with_len 0 (length nodes))
 
 -- the columns of specifications: the identifiers, priorities, owners, successors and quoted names
 abbrev pub collected : List ℕ → List ℕ → List Player → List (List ℕ) → List (List ℕ) → Columns

@@ -1,4 +1,4 @@
--- `GameBuilder::finish`: the game of the specifications.
+-- `GameBuilder::finish_arena`: the arena of the specifications.
 use Rattle.std.proofs.Common.{ℕ, ◌<◌, ◌≤◌, ◌+◌, None, [], length, get_or, arith, sym, ◌∙◌}
 use Rattle.std.proofs.lemmas.Bool.{OnFalse_at}
 use Rattle.std.proofs.lemmas.List.Sorted.{length_permutation}
@@ -8,7 +8,7 @@ use Rattle.omega_game.specs.private.layout.Collected.{ids_of}
 use Rattle.omega_game.proofs.building.Duplicates.{fault_of-permutation, some_duplicate}
 use Rattle.omega_game.proofs.building.Rearranged.{faultless-rearranged, game_of-rearranged, refused-rearranged}
 use Rattle.omega_game.proofs.building.Refusals.{duplicate_refused}
-use Rattle.omega_game.proofs.builder.GameBuilder.finish.Goals as goal
+use Rattle.omega_game.proofs.builder.GameBuilder.finish_arena.Goals as goal
 
 -- any specification
 none : NodeSpec

@@ -1,7 +1,7 @@
--- `Game::successors`: the places of the successors of the node at a place, in the order listed, repeats kept.
+-- `Arena::successors`: the places of the successors of the node at a place, in the order listed, repeats kept.
 use Rattle.std.proofs.Common.{arith}
 use Rattle.omega_game.proofs.layout.Columns.{place_within, successors_are}
-use Rattle.omega_game.proofs.game.Game.successors.Goals as goal
+use Rattle.omega_game.proofs.arena.Arena.successors.Goals as goal
 
 pub list-requires : goal.list-requires
 list-requires c = omega (arith, place_within _ _ c.args.place c.self.view_is c.requires, c.self.invariant.even.successors_even)

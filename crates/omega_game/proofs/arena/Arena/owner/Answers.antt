@@ -1,7 +1,7 @@
--- `Game::owner`: the player who chooses the successor at a place.
+-- `Arena::owner`: the player who chooses the successor at a place.
 use Rattle.std.proofs.Common.{arith}
 use Rattle.omega_game.proofs.layout.Columns.{place_within, owner_is}
-use Rattle.omega_game.proofs.game.Game.owner.Goals as goal
+use Rattle.omega_game.proofs.arena.Arena.owner.Goals as goal
 
 pub index-requires : goal.index-requires
 index-requires c = omega (arith, place_within _ _ c.args.place c.self.view_is c.requires, c.self.invariant.even.owners_even)

@@ -1,9 +1,9 @@
--- `Game::priority_counts`: each priority that is borne, the greatest first, with the number of nodes that bear it.
+-- `Arena::priority_counts`: each priority that is borne, the greatest first, with the number of nodes that bear it.
 use Rattle.std.proofs.Common.{ap, sym, ◌∙◌}
 use Rattle.omega_game.specs.Bound.{priority_counts}
 use Rattle.omega_game.specs.Game.{priorities}
 use Rattle.omega_game.proofs.layout.Columns.{priorities-nodes_of}
-use Rattle.omega_game.proofs.game.Game.priority_counts.Goals as goal
+use Rattle.omega_game.proofs.arena.Arena.priority_counts.Goals as goal
 
 pub returns : goal.returns
 returns c =

@@ -1,4 +1,4 @@
--- `Game::part`: the game of all nodes to which a list of listed edges leads from the place.
+-- `Arena::part`: the game of all nodes to which a list of listed edges leads from the place.
 use Rattle.std.proofs.Common.{◌≡◌, None, ℕ, ◌<◌, [], ◌∷◌, ◌++◌, List, Bool, false, IsTrue, ◌↔◌, length, map, filter, sym, ap, ◌∙◌, subst, arith}
 use Rattle.std.proofs.lemmas.List.{get_or_default}
 use Rattle.std.proofs.lemmas.Result.{IfOk-weaker, IfErr-weaker}
@@ -13,8 +13,8 @@ use Rattle.omega_game.proofs.parts.PartGames.{kept_specs, some_kept, kept_faultl
 use Rattle.omega_game.proofs.walks.Marking.{reached_by_listed}
 use Rattle.omega_game.proofs.walks.Recurrence.{priorities_low}
 use Rattle.omega_game.proofs.parts.Specifying.{specified_passing, specified_failing}
-use Rattle.omega_game.proofs.game.Game.part.Goals as goal
-use Rattle.omega_game.proofs.game.Game.part.Goals.{then-index+in_ok-specify, else-index}
+use Rattle.omega_game.proofs.arena.Arena.part.Goals as goal
+use Rattle.omega_game.proofs.arena.Arena.part.Goals.{then-index+in_ok-specify, else-index}
 
 pub loop-kept-preserved : goal.loop-kept-preserved
 loop-kept-preserved c =
@@ -46,8 +46,8 @@ reached : (nodes : List Node) (v : ℕ) (marks : List Bool) → IsGame nodes →
 reached nodes v marks game limits within are =
     reached_by_listed nodes 4294967295 (priorities_low nodes 4294967295 limits (omega arith)) game v marks within are
 
-pub finish-requires : goal.finish-requires
-finish-requires c =
+pub finish_arena-requires : goal.finish_arena-requires
+finish_arena-requires c =
     let are : (u : ℕ) → IsTrue (mark_at c.in_ok-marks.marks.items u) ↔ Reaches c.args.self.now c.args.place u =
     reached c.args.self.now c.args.place c.in_ok-marks.marks.items c.len-count.ensures.game c.len-count.ensures.limits c.requires c.in_ok-marks.ensures.reached in
     let whole : c.loop-kept.kept ≡ length c.args.self.now = omega (arith, c.loop-kept-test.false, c.loop-kept.auto.kept-end, c.len-count.ensures.count) in
@@ -60,9 +60,9 @@ returns-clause-part c =
     reached c.args.self.now c.args.place c.in_ok-marks.marks.items c.len-count.ensures.game c.len-count.ensures.limits c.requires c.in_ok-marks.ensures.reached in
     let whole : c.loop-kept.kept ≡ length c.args.self.now = omega (arith, c.loop-kept-test.false, c.loop-kept.auto.kept-end, c.len-count.ensures.count) in
     let specs = all_kept c.args.self.now c.args.place c.loop-kept.kept c.in_ok-marks.marks.items c.loop-kept.builder c.len-count.ensures.game c.requires are c.loop-kept.invariant whole in
-    IfOk-weaker c.finish.result (λ game. IsGameOf c.loop-kept.builder game) (λ part. IsPart c.args.self.now c.args.place part)
+    IfOk-weaker c.finish_arena.result (λ game. IsGameOf c.loop-kept.builder game) (λ part. IsPart c.args.self.now c.args.place part)
     (λ part given. part_from_specs c.args.self.now c.args.place c.in_ok-marks.marks.items c.len-count.ensures.game c.requires are part
-    (subst (λ (given_specs : List NodeSpec). IsGameOf given_specs part) specs given)) c.finish.ensures.game
+    (subst (λ (given_specs : List NodeSpec). IsGameOf given_specs part) specs given)) c.finish_arena.ensures.game
 
 pub returns-clause-memory : goal.returns-clause-memory
 returns-clause-memory c =
@@ -72,5 +72,5 @@ returns-clause-memory c =
     let specs = all_kept c.args.self.now c.args.place c.loop-kept.kept c.in_ok-marks.marks.items c.loop-kept.builder c.len-count.ensures.game c.requires are c.loop-kept.invariant whole in
     let faultless : game_fault_of c.loop-kept.builder ≡ None =
     ap game_fault_of specs ∙ kept_faultless c.args.self.now c.args.place c.in_ok-marks.marks.items c.len-count.ensures.game c.requires are c.len-count.ensures.limits in
-    IfErr-weaker c.finish.result (IsBuildRefusal c.loop-kept.builder) (λ refusal. refusal ≡ Memory)
-    (λ refusal is. memory_alone c.loop-kept.builder refusal faultless is) c.finish.ensures.refused
+    IfErr-weaker c.finish_arena.result (IsBuildRefusal c.loop-kept.builder) (λ refusal. refusal ≡ Memory)
+    (λ refusal is. memory_alone c.loop-kept.builder refusal faultless is) c.finish_arena.ensures.refused

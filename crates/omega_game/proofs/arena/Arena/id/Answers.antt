@@ -1,8 +1,8 @@
--- `Game::id`: the identifier of the node at a place.
+-- `Arena::id`: the identifier of the node at a place.
 use Rattle.std.proofs.Common.{length, get_or, arith, ap, ◌∙◌}
 use Rattle.omega_game.specs.private.layout.Columns.{identifiers_of}
 use Rattle.omega_game.proofs.layout.Columns.{place_within, identifier_is}
-use Rattle.omega_game.proofs.game.Game.id.Goals as goal
+use Rattle.omega_game.proofs.arena.Arena.id.Goals as goal
 
 pub returns : goal.returns
 returns c = identifier_is _ _ c.args.place c.identifier_at.result c.self.view_is c.requires

@@ -1,10 +1,10 @@
--- `Game::place_of`: the place of the node with an identifier.
+-- `Arena::place_of`: the place of the node with an identifier.
 use Rattle.std.proofs.Common.{◌≡◌, ◌==◌, length, arith, ap, sym, ◌∙◌, inl, inr}
 use Rattle.omega_game.proofs.layout.Columns.{length_is, length-listed, identifiers_are}
 use Rattle.std.proofs.lemmas.Bool.{cases_lt}
 use Rattle.std.specs.List.{position}
 use Rattle.omega_game.specs.private.layout.Columns.{identifiers_of}
-use Rattle.omega_game.proofs.game.Game.place_of.Goals as goal
+use Rattle.omega_game.proofs.arena.Arena.place_of.Goals as goal
 
 pub place_among-requires : goal.place_among-requires
 place_among-requires c = elim (cases_lt 0 (length c.self.inside.listed.keys)) [

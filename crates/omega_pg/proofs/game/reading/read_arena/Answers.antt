@@ -1,6 +1,6 @@
--- `read_game`: what was kept and built is the game of the text, or its refusal.
+-- `read_arena`: what was kept and built is the arena of the text, or its refusal.
 use Rattle.omega_pg.proofs.games.Built.{IsGameText-built_all, read_specified, refused_built_all}
-use Rattle.omega_pg.proofs.game.reading.read_game.Goals as goal
+use Rattle.omega_pg.proofs.game.reading.read_arena.Goals as goal
 
 pub built-requires : goal.built-requires
 built-requires c = read_specified _ _ c.in_ok-builder.ensures.read

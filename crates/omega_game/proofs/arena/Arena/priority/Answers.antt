@@ -1,7 +1,7 @@
--- `Game::priority`: the priority of the node at a place.
+-- `Arena::priority`: the priority of the node at a place.
 use Rattle.std.proofs.Common.{arith}
 use Rattle.omega_game.proofs.layout.Columns.{place_within, priority_is}
-use Rattle.omega_game.proofs.game.Game.priority.Goals as goal
+use Rattle.omega_game.proofs.arena.Arena.priority.Goals as goal
 
 pub index-requires : goal.index-requires
 index-requires c = omega (arith, place_within _ _ c.args.place c.self.view_is c.requires, c.self.invariant.even.priorities_even)
