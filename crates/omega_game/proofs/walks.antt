@@ -7,3 +7,4 @@ pub mod Meeting
 pub mod Ways
 pub mod Lassos
 pub mod Deciding
+pub mod Keeping

@@ -1,23 +1,31 @@
 //! Whether a strategy wins, without a solver.
-ghost use Rattle.std.specs.Prelude.{◌↔◌, ℕ, ◌<◌, length, All, IfOk, IfSome, IsTrue, IsOkUnless};
+ghost use Rattle.std.specs.Prelude.{◌≡◌, ◌↔◌, ℕ, ◌<◌, length, All, IfOk, IfSome, IsTrue, IsOkUnless};
+ghost use Rattle.omega_game.specs.declared.player.Player.TheVariants.{One, Zero};
+ghost use Rattle.omega_game.specs.Solution.{WinsAsGiven};
 ghost use Rattle.omega_game.specs.Winning.{IsStrategy, Wins};
 
 mod components;
 pub(crate) mod deciding;
 pub(crate) mod decision;
+mod finding;
+mod given;
 mod levels;
 mod nest;
 mod nesting;
 mod numbers;
 mod ordering;
 mod recurring;
+mod rounds;
+mod tops;
 mod union_find;
 
 use crate::arena::Arena;
 use crate::player::Player;
-use crate::reaching::reached_from;
+use crate::reaching::followed_from;
+use crate::solution::Solution;
 use crate::strategy::Strategy;
 use deciding::{decide, decide_fast};
+use given::shows_given;
 use omega_text::Refusal;
 use ordering::shows_none;
 use std::alloc::{AllocError, Global};
@@ -26,11 +34,11 @@ use std::alloc::{AllocError, Global};
 /// none is listed. `Memory` where a request for memory is refused. A walk may take each edge that the choices leave
 /// possible: at a node with a choice that one, at each other node all.
 ///
-/// A search for strongly connected components (Tarjan 1972) for each halving of the priorities borne suggests an
-/// answer, which is checked. For n nodes, m edges and d priorities that are borne, whether they lose or not, the cost
-/// is near (m + n) · log d, after the nodes are sorted by priority, where the suggestion is confirmed. Else each place
-/// of a losing priority is tested by a search of its own: n · m at worst. Tests show no suggestion that is not
-/// confirmed, and no proof excludes one.
+/// A few searches for strongly connected components (Tarjan 1972) suggest an answer, which is checked. Where they give
+/// up, one for each halving of the priorities borne does. For n nodes, m edges and d priorities that are borne, whether
+/// they lose or not, the cost is near (m + n) · log d, after the nodes are sorted by priority, where the suggestion is
+/// confirmed. Else each place of a losing priority is tested by a search of its own: n · m at worst. Tests show no
+/// suggestion that is not confirmed, and no proof excludes one.
 pub fn check_strategy(
     alloc: Global,
     game: &Arena,
@@ -93,6 +101,27 @@ pub fn check_strategy_by_order(
     Ok(shown)
 }
 
+/// Whether an order of places shows that each player's strategy of a solution wins from all nodes given to the player:
+/// each edge that it leaves possible there leads to a node given to the same player, and forward in the order, or back
+/// to a place whose priority does not lose and is the greatest on the way. No says nothing. For n nodes and m edges the
+/// cost is n + m, and eight bytes a node and four a place in the order are kept beside it. `Memory` where a request for
+/// memory is refused.
+pub fn check_solution_by_order(
+    alloc: Global,
+    game: &Arena,
+    solution: &Solution,
+    order: &[u32],
+) -> Result<bool, Refusal>
+    requires winners { length solution.now.winners ≡ length game.now }
+    requires zero { IsStrategy game.now Zero solution.now.zero.choice }
+    requires one { IsStrategy game.now One solution.now.one.choice }
+    ensures wins { IfOk result (λ answer. IsTrue answer → WinsAsGiven game.now solution.now) }
+    ensures memory { IsOkUnless result Refusal.Memory }
+{
+    let shown = shows_given(alloc, game, solution, order)?;
+    Ok(shown)
+}
+
 /// Whether choices that are a strategy of the player win from each of the places.
 fn wins_from(
     alloc: Global,
@@ -106,7 +135,7 @@ fn wins_from(
     ensures wins { IfOk result (λ answer. IsTrue answer ↔ All (λ place. Wins game.now player choices.now place) places.now) }
 {
     game.keeps_limits();
-    let marks = reached_from(alloc, game, choices, u32::MAX, places)?;
+    let marks = followed_from(alloc, game, choices, places)?;
     let decision = decide(alloc, game, player, choices, &marks)?;
     Ok(decision.is_won())
 }
@@ -124,7 +153,7 @@ fn wins_fast(
     ensures wins { IfOk result (λ found. IfSome found (λ answer. IsTrue answer ↔ All (λ place. Wins game.now player choices.now place) places.now)) }
 {
     game.keeps_limits();
-    let marks = reached_from(alloc, game, choices, u32::MAX, places)?;
+    let marks = followed_from(alloc, game, choices, places)?;
     match decide_fast(alloc, game, player, choices, &marks)? {
         Some(decision) => Ok(Some(decision.is_won())),
         None => Ok(None),
@@ -145,7 +174,7 @@ fn shows_wins(
     ensures wins { IfOk result (λ answer. IsTrue answer → All (λ place. Wins game.now player choices.now place) places.now) }
 {
     game.keeps_limits();
-    let marks = reached_from(alloc, game, choices, u32::MAX, places)?;
+    let marks = followed_from(alloc, game, choices, places)?;
     let answer = shows_none(alloc, game, player, choices, &marks, order)?;
     Ok(answer)
 }

@@ -27,7 +27,9 @@ mod strategy;
 pub use arena::Arena;
 pub use bounds::bound;
 pub use builder::GameBuilder;
-pub use checking::{check_strategy, check_strategy_by_order, check_strategy_fast};
+pub use checking::{
+    check_solution_by_order, check_strategy, check_strategy_by_order, check_strategy_fast,
+};
 pub use game::Game;
 pub use lasso::Lasso;
 pub use laws::{

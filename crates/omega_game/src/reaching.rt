@@ -1,6 +1,6 @@
 //! The search for the places that are reached along edges that choices leave possible.
-ghost use Rattle.std.specs.Prelude.{◌≡◌, ℕ, ◌<◌, length, vec_len, All, IfOk, OnOk};
-ghost use Rattle.omega_game.specs.private.checking.Reaching.{left_at, LeadsInside, AreEntered, AreReached};
+ghost use Rattle.std.specs.Prelude.{◌≡◌, ℕ, ◌<◌, length, vec_len, All, Contains, IfOk, OnOk, IsTrue};
+ghost use Rattle.omega_game.specs.private.checking.Reaching.{left_at, mark_at, LeadsInside, AreClosed, AreEntered, AreMarked, AreReached};
 
 use crate::arena::Arena;
 use std::alloc::{AllocError, Global};
@@ -19,6 +19,70 @@ pub(crate) fn edges_left<'a>(game: &'a Arena, choices: &'a [Option<u32>], place:
         Some(Some(chosen)) => slice::from_ref(chosen),
         _ => game.successors(place),
     }
+}
+
+/// Marks the places that are reached from the given ones. Where no edge leads out of these, as out of what a strategy
+/// wins, they are not searched but looked at one by one. Linear in nodes and edges.
+pub(crate) fn followed_from(
+    alloc: Global,
+    game: &Arena,
+    choices: &[Option<u32>],
+    places: &[u32],
+) -> Result<Vec<bool>, AllocError>
+    requires inside { All (λ place. place < length game.now) places.now }
+    requires choices { LeadsInside game.now choices.now }
+    ensures count { IfOk result (λ marks. vec_len marks ≡ length game.now) }
+    ensures reached { IfOk result (λ marks. AreReached game.now choices.now 4294967295 places.now marks.items) }
+{
+    game.keeps_limits();
+    let marks = marked(alloc, game.len(), places)?;
+    if are_closed(game, choices, marks.as_slice()) {
+        return Ok(marks);
+    }
+    let marks = reached_from(alloc, game, choices, u32::MAX, places)?;
+    Ok(marks)
+}
+
+/// Marks the places.
+fn marked(alloc: Global, count: usize, places: &[u32]) -> Result<Vec<bool>, AllocError>
+    requires inside { All (λ place. place < count) places.now }
+    ensures count { IfOk result (λ marks. vec_len marks ≡ count) }
+    ensures marked { IfOk result (λ marks. AreMarked places.now marks.items) }
+{
+    let mut marks = vec![in alloc; false; count]?;
+    for place in places {
+        marks[*place as usize] = true;
+    }
+    Ok(marks)
+}
+
+/// Whether what is marked leads to what is marked.
+fn are_closed(game: &Arena, choices: &[Option<u32>], marks: &[bool]) -> bool
+    requires count { length marks.now ≡ length game.now }
+    requires choices { LeadsInside game.now choices.now }
+    ensures { IsTrue result → AreClosed game.now choices.now marks.now }
+{
+    for place in 0..game.len() as u32 {
+        if marks[place as usize] && !leads_to_marked(game, choices, marks, place) {
+            return false;
+        }
+    }
+    true
+}
+
+/// Whether each edge left possible at a place leads to a marked one.
+fn leads_to_marked(game: &Arena, choices: &[Option<u32>], marks: &[bool], place: u32) -> bool
+    requires place { place < length game.now }
+    requires count { length marks.now ≡ length game.now }
+    requires choices { LeadsInside game.now choices.now }
+    ensures { IsTrue result → (w : ℕ) → Contains (left_at game.now choices.now place) w → IsTrue (mark_at marks.now w) }
+{
+    for next in edges_left(game, choices, place) {
+        if !marks[*next as usize] {
+            return false;
+        }
+    }
+    true
 }
 
 /// Marks the places that are reached from the given ones through priorities at most `most`. Linear in nodes and edges.

@@ -14,7 +14,7 @@ use crate::checking::deciding::decide;
 use crate::checking::decision::Decision;
 use crate::lasso::Lasso;
 use crate::player::Player;
-use crate::reaching::{edges_left, reached_from};
+use crate::reaching::{edges_left, followed_from};
 use crate::strategy::Strategy;
 use omega_text::{Refusal, Seq};
 use std::alloc::{AllocError, Global};
@@ -59,7 +59,7 @@ fn lasso_against(
     ensures lasso { IfOk result (λ found. IfSome found (IsCounterexample game.now player choices.now places.now)) }
 {
     game.keeps_limits();
-    let marks = reached_from(alloc, game, choices, u32::MAX, places)?;
+    let marks = followed_from(alloc, game, choices, places)?;
     match decide(alloc, game, player, choices, &marks)? {
         Decision::Wins => Ok(None),
         Decision::Loses(place) => {

@@ -7,7 +7,7 @@ use Rattle.std.proofs.lemmas.List.Sums.{sum_by-set}
 use Rattle.omega_game.specs.Game.{Node, IsGame, priority_at}
 use Rattle.omega_game.specs.Part.{IsPath, Reaches}
 use Rattle.omega_game.specs.Winning.{end_of}
-use Rattle.omega_game.specs.private.checking.Reaching.{left_at, mark_at, IsLowPath, IsReachedFrom, AreReached, AreEntered, LeadsInside, AreClosed}
+use Rattle.omega_game.specs.private.checking.Reaching.{left_at, mark_at, IsLowPath, IsReachedFrom, AreReached, AreEntered, AreMarked, LeadsInside, AreClosed}
 use Rattle.omega_game.proofs.elements.Membership.{Contains-nothing}
 
 -- the mark that was set
@@ -261,6 +261,42 @@ pub reached_closed : (nodes : List Node) (choices : List (Option ℕ)) (most : �
     → AreReached nodes choices most places marks → AreClosed nodes choices marks
 reached_closed nodes choices most low places marks reached v w mark edge =
     (reached w).1 (reached_on nodes choices most places v w ((reached v).0 mark) edge (low w))
+
+-- marked places that lead to none but marked ones are those that are reached from them
+pub closed_reached : (nodes : List Node) (choices : List (Option ℕ)) (most : ℕ) → ((v : ℕ) → priority_at nodes v ≤ most) → (places : List ℕ) (marks : List Bool)
+    → AreMarked places marks → AreClosed nodes choices marks → AreReached nodes choices most places marks
+closed_reached nodes choices most low places marks are closed v = (
+  λ mark. record { start = v; listed = (are v).0 mark; after = []; path = low v; ends = refl },
+  λ reached. subst (λ u. IsTrue (mark_at marks u)) reached.ends (along reached.start reached.after ((are reached.start).1 reached.listed) reached.path),
+)
+  where
+    along : (u : ℕ) (ws : List ℕ) → IsTrue (mark_at marks u) → IsLowPath nodes choices most u ws → IsTrue (mark_at marks (end_of u ws))
+    along u [] mark path = mark
+    along u (w ∷ ws) mark path = along w ws (closed u w mark path.1) path.2
+
+-- no place is marked where no mark is set
+pub marked_none : (n : ℕ) → AreMarked [] (replicate n false)
+marked_none n v = (
+  λ mark. absurd (false≢true (sym (unmarked n v) ∙ mark)),
+  λ nothing. absurd (Contains-nothing v nothing),
+)
+
+-- the places before the i-th are marked, and then that one too
+pub marked_more : (xs : List ℕ) (i : ℕ) (marks m : List Bool) → i < length xs → AreMarked (take i xs) marks → get_or xs i 0 < length marks
+    → m ≡ set marks (get_or xs i 0) true → AreMarked (take (i + 1) xs) m
+marked_more xs i marks m within are below is v = rw (is, take_more xs i 0 within) (
+  λ mark. there mark (cases_eq v (get_or xs i 0)),
+  λ contained. back (Contains-push_cases (take i xs) (get_or xs i 0) v contained),
+)
+  where
+    there : IsTrue (mark_at (set marks (get_or xs i 0) true) v) → (v ≡ get_or xs i 0) ⊎ (v ≡ get_or xs i 0 → ⊥) → Contains (take i xs ++ get_or xs i 0 ∷ []) v
+    there mark (inl e) = subst (λ u. Contains (take i xs ++ get_or xs i 0 ∷ []) u) (sym e) (Contains-push (take i xs) (get_or xs i 0))
+    there mark (inr apart) =
+        Contains-append_left (take i xs) (get_or xs i 0 ∷ []) v ((are v).0 (sym (mark_other marks (get_or xs i 0) v apart) ∙ mark))
+
+    back : Contains (take i xs) v ⊎ (get_or xs i 0 ≡ v) → IsTrue (mark_at (set marks (get_or xs i 0) true) v)
+    back (inl earlier) = mark_kept marks (get_or xs i 0) v below ((are v).1 earlier)
+    back (inr e) = mark_set marks (get_or xs i 0) v below e
 
 -- entering goes on from the places before the i-th with it, by the state that it leaves
 pub step_skip : (nodes : List Node) (most : ℕ) (xs : List ℕ) (i : ℕ) (marks : List Bool) (stack : List ℕ) (marks' : List Bool) (stack' : List ℕ) (m : List Bool) (s : List ℕ)

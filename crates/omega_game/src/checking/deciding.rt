@@ -7,9 +7,11 @@ ghost use Rattle.omega_game.specs.private.checking.Reaching.{LeadsInside, AreClo
 use crate::arena::Arena;
 use crate::checking::components::Edge;
 use crate::checking::decision::Decision;
-use crate::checking::nesting::{Finding, search_nested};
+use crate::checking::finding::Finding;
+use crate::checking::nesting::search_nested;
 use crate::checking::ordering::shows_none;
 use crate::checking::recurring::{decide_plainly, recurs};
+use crate::checking::tops::search_by_tops;
 use crate::player::Player;
 use crate::reaching::edges_left;
 use std::alloc::{AllocError, Global};
@@ -47,7 +49,29 @@ pub(crate) fn decide_fast(
     requires closed { AreClosed game.now choices.now marks.now }
     ensures right { IfOk result (λ found. IfSome found (IsRightDecision game.now player choices.now marks.now)) }
 {
+    if let Some(finding) = search_by_tops(alloc, game, player, choices, marks)?
+        && let Some(decision) = confirmed(alloc, game, player, choices, marks, finding)?
+    {
+        return Ok(Some(decision));
+    }
     let finding = suggest(alloc, game, player, choices, marks)?;
+    confirmed(alloc, game, player, choices, marks, finding)
+}
+
+/// The decision that a search suggests, none where it is not confirmed.
+fn confirmed(
+    alloc: Global,
+    game: &Arena,
+    player: Player,
+    choices: &[Option<u32>],
+    marks: &[bool],
+    finding: Finding,
+) -> Result<Option<Decision>, AllocError>
+    requires count { length marks.now ≡ length game.now }
+    requires choices { LeadsInside game.now choices.now }
+    requires closed { AreClosed game.now choices.now marks.now }
+    ensures right { IfOk result (λ found. IfSome found (IsRightDecision game.now player choices.now marks.now)) }
+{
     match finding {
         Finding::Recurring(place) => {
             if loses_at(alloc, game, player, choices, marks, place)? {
@@ -86,7 +110,7 @@ fn loses_at(
     Ok(answer)
 }
 
-/// What the fast search finds among the marked places.
+/// What the search by nested components finds among the marked places.
 fn suggest(
     alloc: Global,
     game: &Arena,

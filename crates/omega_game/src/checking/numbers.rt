@@ -16,7 +16,13 @@ impl Numbers {
         Ok(Numbers { items })
     }
 
+    /// These numbers.
+    pub(crate) fn of(items: Vec<u32>) -> Numbers {
+        Numbers { items }
+    }
+
     /// The number at an index.
+    #[inline(always)]
     pub(crate) fn at(&self, index: u32) -> u32 {
         match self.items.get(index as usize) {
             Some(number) => *number,
@@ -25,9 +31,16 @@ impl Numbers {
     }
 
     /// Writes a number at an index.
+    #[inline(always)]
     pub(crate) fn put(&mut self, index: u32, number: u32) {
         if (index as usize) < self.items.len() {
             self.items[index as usize] = number;
         }
+    }
+
+    /// The numbers as they are kept.
+    pub(crate) fn into_items(self) -> Vec<u32> {
+        let Numbers { items } = self;
+        items
     }
 }

@@ -1,6 +1,6 @@
 //! A proof that a strategy wins, as an order of the places: each edge leads forward, or back to a place whose priority
 //! does not lose and is the greatest on the way. A closed walk passes its greatest priority by such a step back.
-ghost use Rattle.std.specs.Prelude.{◌≡◌, ℕ, ◌<◌, ◌≤◌, length, vec_len, All, IfOk, IsTrue, slice_index};
+ghost use Rattle.std.specs.Prelude.{◌≡◌, ℕ, ◌<◌, ◌≤◌, ◌+◌, ◌^◌, length, vec_len, All, IfOk, IsTrue, slice_index};
 ghost use Rattle.omega_game.specs.private.checking.Reaching.{mark_at, LeadsInside, AreClosed};
 ghost use Rattle.omega_game.specs.private.checking.Ordering.{AreEnds, IsInOrder, StandsInOrder};
 ghost use Rattle.omega_game.specs.private.checking.Recurring.{NoneRecurs};
@@ -24,6 +24,9 @@ pub(crate) fn shows_none(
     requires closed { AreClosed game.now choices.now marks.now }
     ensures none { IfOk result (λ answer. IsTrue answer → NoneRecurs game.now player choices.now marks.now) }
 {
+    if order.len() >= u32::MAX as usize {
+        return Ok(false);
+    }
     let numbers = numbers_in(alloc, game.len(), order)?;
     let ranks = ranks_along(alloc, game, order)?;
     let ends = ends_of(alloc, ranks.as_slice())?;
@@ -40,21 +43,28 @@ pub(crate) fn shows_none(
 }
 
 /// The position of each place in the order, 0 where it has none.
-fn numbers_in(alloc: Global, count: usize, order: &[u32]) -> Result<Vec<usize>, AllocError>
+pub(crate) fn numbers_in(alloc: Global, count: usize, order: &[u32]) -> Result<Vec<u32>, AllocError>
+    requires { length order.now < 2 ^ 32 }
     ensures { IfOk result (λ numbers. vec_len numbers ≡ count) }
 {
-    let mut numbers = vec![in alloc; 0; count]?;
-    for (number, place) in order.iter().enumerate() {
-        let index = *place as usize;
+    let mut numbers = vec![in alloc; 0u32; count]?;
+    for number in 0..order.len() {
+        let index = order[number] as usize;
         if index < count {
-            numbers[index] = number;
+            numbers[index] = number as u32;
         }
     }
     Ok(numbers)
 }
 
 /// The priorities of the places in the order.
-fn ranks_along(alloc: Global, game: &Arena, order: &[u32]) -> Result<Vec<u32>, AllocError> {
+pub(crate) fn ranks_along(
+    alloc: Global,
+    game: &Arena,
+    order: &[u32],
+) -> Result<Vec<u32>, AllocError>
+    ensures { IfOk result (λ ranks. vec_len ranks ≡ length order.now) }
+{
     let count = game.len();
     let mut ranks = Vec::with_capacity(alloc, order.len())?;
     for place in order {
@@ -69,22 +79,24 @@ fn ranks_along(alloc: Global, game: &Arena, order: &[u32]) -> Result<Vec<u32>, A
 }
 
 /// For each position the first one behind it with a greater rank, or the length.
-fn ends_of(alloc: Global, ranks: &[u32]) -> Result<Vec<usize>, AllocError>
+pub(crate) fn ends_of(alloc: Global, ranks: &[u32]) -> Result<Vec<u32>, AllocError>
+    requires few { length ranks.now + 1 < 2 ^ 32 }
     ensures count { IfOk result (λ ends. vec_len ends ≡ length ranks.now) }
     ensures ends { IfOk result (λ ends. AreEnds ranks.now ends.items) }
 {
-    let mut ends = vec![in alloc; 0; ranks.len()]?;
+    let mut ends = vec![in alloc; 0u32; ranks.len()]?;
     let mut index = ranks.len();
     while index > 0 {
         index -= 1;
-        let end = end_behind(ranks, ends.as_slice(), index);
+        let end = end_behind(ranks, ends.as_slice(), index as u32);
         ends[index] = end;
     }
     Ok(ends)
 }
 
 /// The first position behind `index` with a greater rank, found by the ends of the positions behind it.
-fn end_behind(ranks: &[u32], ends: &[usize], index: usize) -> usize
+fn end_behind(ranks: &[u32], ends: &[u32], index: u32) -> u32
+    requires few { length ranks.now + 1 < 2 ^ 32 }
     requires index { index < length ranks.now }
     requires count { length ends.now ≡ length ranks.now }
     requires onward { (i : ℕ) → index < i → i < length ranks.now → i < slice_index ends.now i }
@@ -92,9 +104,10 @@ fn end_behind(ranks: &[u32], ends: &[usize], index: usize) -> usize
     ensures behind { index < result }
     ensures ranks { (k : ℕ) → index ≤ k → k < result → slice_index ranks.now k ≤ slice_index ranks.now index }
 {
+    let rank = ranks[index as usize];
     let mut end = index + 1;
-    while end < ranks.len() && ranks[end] <= ranks[index] {
-        end = ends[end];
+    while (end as usize) < ranks.len() && ranks[end as usize] <= rank {
+        end = ends[end as usize];
     }
     end
 }
@@ -105,9 +118,9 @@ fn all_stand(
     player: Player,
     choices: &[Option<u32>],
     marks: &[bool],
-    numbers: &[usize],
+    numbers: &[u32],
     ranks: &[u32],
-    ends: &[usize],
+    ends: &[u32],
 ) -> bool
     requires count { length marks.now ≡ length game.now }
     requires choices { LeadsInside game.now choices.now }
@@ -130,9 +143,9 @@ fn stands(
     game: &Arena,
     player: Player,
     choices: &[Option<u32>],
-    numbers: &[usize],
+    numbers: &[u32],
     ranks: &[u32],
-    ends: &[usize],
+    ends: &[u32],
     place: u32,
 ) -> bool
     requires place { place < length game.now }
@@ -141,7 +154,7 @@ fn stands(
     requires ends { length ends.now ≡ length ranks.now }
     ensures { IsTrue result → StandsInOrder game.now player choices.now numbers.now ranks.now ends.now place }
 {
-    let number = numbers[place as usize];
+    let number = numbers[place as usize] as usize;
     if number >= ranks.len() || ranks[number] != game.priority(place) {
         return false;
     }
@@ -154,11 +167,11 @@ fn stands(
 }
 
 /// Whether an edge leads forward, or back to a place whose priority does not lose and is the greatest on the way.
-fn is_in_order(
+pub(crate) fn is_in_order(
     game: &Arena,
     player: Player,
-    numbers: &[usize],
-    ends: &[usize],
+    numbers: &[u32],
+    ends: &[u32],
     place: u32,
     next: u32,
 ) -> bool
@@ -173,5 +186,5 @@ fn is_in_order(
     if number < back {
         return true;
     }
-    !player.loses(game.priority(next)) && number < ends[back]
+    !player.loses(game.priority(next)) && number < ends[back as usize]
 }

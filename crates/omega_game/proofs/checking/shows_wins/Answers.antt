@@ -6,8 +6,8 @@ use Rattle.omega_game.proofs.walks.Marking.{reached_closed}
 use Rattle.omega_game.proofs.walks.Recurrence.{choices_of_strategy, priorities_low, wins_if_none}
 use Rattle.omega_game.proofs.checking.shows_wins.Goals as goal
 
-pub reached_from-requires-clause-choices : goal.reached_from-requires-clause-choices
-reached_from-requires-clause-choices c =
+pub followed_from-requires-clause-choices : goal.followed_from-requires-clause-choices
+followed_from-requires-clause-choices c =
     choices_of_strategy c.args.game.now c.args.player c.args.choices.now c.keeps_limits.ensures.game c.requires.strategy
 
 pub shows_none-requires-clause-choices : goal.shows_none-requires-clause-choices

@@ -10,8 +10,8 @@ use Rattle.omega_game.proofs.walks.Recurrence.{choices_of_strategy, priorities_l
 use Rattle.omega_game.proofs.walks.Deciding.{none_where_won, won_where_none}
 use Rattle.omega_game.proofs.checking.wins_fast.Goals as goal
 
-pub reached_from-requires-clause-choices : goal.reached_from-requires-clause-choices
-reached_from-requires-clause-choices c =
+pub followed_from-requires-clause-choices : goal.followed_from-requires-clause-choices
+followed_from-requires-clause-choices c =
     choices_of_strategy c.args.game.now c.args.player c.args.choices.now c.keeps_limits.ensures.game c.requires.strategy
 
 pub decide_fast-requires-clause-choices : goal.decide_fast-requires-clause-choices

@@ -10,8 +10,8 @@ use Rattle.omega_game.proofs.walks.Deciding.{lost_place}
 use Rattle.omega_game.proofs.walks.Lassos.{lasso_loses}
 use Rattle.omega_game.proofs.refuting.lasso_against.Goals as goal
 
-pub reached_from-requires-clause-choices : goal.reached_from-requires-clause-choices
-reached_from-requires-clause-choices c =
+pub followed_from-requires-clause-choices : goal.followed_from-requires-clause-choices
+followed_from-requires-clause-choices c =
     choices_of_strategy c.args.game.now c.args.player c.args.choices.now c.keeps_limits.ensures.game c.requires.strategy
 
 pub decide-requires-clause-choices : goal.decide-requires-clause-choices
