@@ -73,28 +73,34 @@ def implicit(states, propositions=4, seed=DEFAULT_SEED):
     )
 
 
-def parity_formula(sets):
-    """`parity max even` of so many sets."""
-    formula = "Inf(0)" if sets else "f"
-    for at in range(1, sets):
-        formula = f"{'Fin' if at % 2 else 'Inf'}({at}) {'&' if at % 2 else '|'} ({formula})"
+def parity_formula(sets, kind="max even"):
+    """The formula of a kind of parity acceptance, of so many sets: the set that decides stands outermost."""
+    side, wanted = kind.split()
+    if sets == 0:
+        return "f" if kind in ("max even", "min odd") else "t"
+    formula = None
+    for at in range(sets) if side == "max" else reversed(range(sets)):
+        good = at % 2 == (wanted == "odd")
+        atom = f"{'Inf' if good else 'Fin'}({at})"
+        formula = f"{atom} {'|' if good else '&'} ({formula})" if formula else atom
     return formula
 
 
-def parity(states, edges=4, sets=8, seed=DEFAULT_SEED):
+def parity(states, edges=4, sets=8, seed=DEFAULT_SEED, kind="max even"):
     """Parity acceptance, with up to two marks on each edge."""
     draw = random.Random(seed)
-    return header(states, 2, parity_formula(sets), sets, f"parity max even {sets}") + body(
+    return header(states, 2, parity_formula(sets, kind), sets, f"parity {kind} {sets}") + body(
         ([], [(valuation(draw, 2), draw.randrange(states),
                sorted({draw.randrange(sets) for _ in range(draw.randrange(3) if sets else 0)})) for _ in range(edges)])
         for _ in range(states)
     )
 
 
-def aliases(states, depth=15, seed=DEFAULT_SEED):
-    """Definitions each of which stands for twice the one before it."""
+def aliases(states, depth=15, chained=False, seed=DEFAULT_SEED):
+    """Definitions each of which stands for twice the one before it, or for its negation."""
     draw = random.Random(seed)
-    definitions = "Alias: @a0 0 & 1\n" + "".join(f"Alias: @a{at} @a{at - 1} & @a{at - 1}\n" for at in range(1, depth))
+    definitions = "Alias: @a0 0 & 1\n" + "".join(
+        f"Alias: @a{at} {f'!@a{at - 1}' if chained else f'@a{at - 1} & @a{at - 1}'}\n" for at in range(1, depth))
     text = header(states, 4, "Inf(0)", 1, "Buchi").replace("acc-name", f"{definitions}acc-name", 1)
     return text + body(([0], [(f"@a{depth - 1}", draw.randrange(states), [])]) for _ in range(states))
 
@@ -104,6 +110,22 @@ def stream(count, seed=DEFAULT_SEED):
     draw = random.Random(seed)
     return "".join(parity(1 + draw.randrange(6), 1 + draw.randrange(3), draw.randrange(5), draw.random())
                    for _ in range(count))
+
+
+def stream_with_aborts(limit=16_777_216, seed=DEFAULT_SEED):
+    """A stream of nearly the greatest length: small automata, comments between them, and beginnings that are
+    aborted."""
+    draw = random.Random(seed)
+    parts, length = [], 0
+    while length < limit - 8192:
+        kind = f"{draw.choice(('max', 'min'))} {draw.choice(('even', 'odd'))}"
+        parts.append(draw.choice((
+            "HOA: ( & 7 nonsense [ } --ABORT--\n",
+            "/* a comment /* nested */ here */\n",
+            *[parity(1 + draw.randrange(6), 1 + draw.randrange(3), draw.randrange(5), draw.random(), kind)] * 8,
+        )))
+        length += len(parts[-1])
+    return "".join(parts)
 
 
 def without_lasso(states, sets_of, acceptance, sets, name=None, seed=DEFAULT_SEED):
@@ -155,8 +177,13 @@ AUTOMATA = {
     "labels": ("emptiness", lambda: labels(1000), lambda: labels(8000)),
     "implicit": ("emptiness", lambda: implicit(2000), lambda: implicit(20000)),
     "parity": ("automata", lambda: parity(10000), lambda: parity(50000)),
+    "parity4": ("emptiness", lambda: parity(40, 3, 4), lambda: parity(80, 3, 4)),
+    "parity120": ("automata", lambda: parity(5000, 3, 120, kind="min odd"),
+                  lambda: parity(50000, 3, 120, kind="min odd")),
     "aliases": ("automata", lambda: aliases(20), lambda: aliases(100)),
+    "alias-chain": ("automata", lambda: aliases(1000, 120, True), lambda: aliases(10000, 120, True)),
     "stream": ("automata", lambda: stream(2000), lambda: stream(20000)),
+    "stream-with-aborts": ("automata", lambda: stream_with_aborts(2_097_152), lambda: stream_with_aborts()),
     "rabin": ("search", lambda: rabin(20000), lambda: rabin(200000)),
     "streett": ("search", lambda: streett(20000), lambda: streett(200000)),
     "generalized-rabin": ("search", lambda: generalized_rabin(20000), lambda: generalized_rabin(200000)),

@@ -3,13 +3,19 @@
 
     bench/bench.py --quick                                   omega alone, small games
     bench/bench.py                                           omega alone, large games
-    bench/bench.py --against old=path/to/another/omega       both, on the same inputs in one run
+    bench/bench.py --against before=path/to/another/omega    both, on the same inputs in one run
+    bench/bench.py --plain "solve=path/to/solver --nested"   beside a program that does one of the tasks alone
     bench/bench.py --only random2 --only sparse --runs 9
+    bench/bench.py --table --plain ... > table.md            all figures as a table in Markdown
 
 A command is called as `COMMAND solve --player 0`, `COMMAND check --format pg` and so on, with the text on standard
-input; the commands take turns. The first run of each warms up, and its output is compared with that of the first
+input; that behind --plain is called as it stands, for the task before the first `=`, which is printed beside each
+figure. The commands take turns. The first run of each warms up, and its output is compared with that of the first
 command: a difference is printed as DIFFERS, and like a refusal or a run that takes too long it makes the exit status
-1. Times differ from run to run and machine to machine, so that only the ratios within one run mean something.
+1. Of a search the winners alone are compared.
+
+Times differ from run to run and machine to machine, so that only the ratios within one run mean something. A plain
+loop of this interpreter is timed beside each row: where that takes longer than elsewhere, the machine was busy.
 """
 import argparse
 import math
@@ -42,6 +48,19 @@ TASKS = {
 }
 # Of these any right answer does, and two programs may give two.
 ANY_ANSWER = (["solve", "--search"], ["empty", "--search"])
+# Where it is told how far the run has come.
+SAID = sys.stdout
+# How often the loop goes round by which the machine is measured.
+ROUNDS = 2_000_000
+
+
+def calibration():
+    """How long a plain loop takes, in seconds: that is the same work in each run on each machine."""
+    start = time.perf_counter()
+    at = 0
+    while at < ROUNDS:
+        at += 1
+    return time.perf_counter() - start
 
 
 def measured(command, words, path, seconds):
@@ -83,12 +102,13 @@ def lifts_in(output):
 
 
 class Figures:
-    """What the runs of one command on one input gave."""
+    """What the runs of one command on one input gave. A plain command has the words of its task in it."""
 
-    def __init__(self, name, command, status=0):
+    def __init__(self, name, command, status=0, plain=False):
         self.name = name
         self.command = command
         self.status = status
+        self.plain = plain
         self.output = None
         self.fault = None
         self.times = []
@@ -97,7 +117,7 @@ class Figures:
         """One run more, unless one has failed; the first warms up and is not counted."""
         if self.fault:
             return
-        made = measured(self.command, words, path, seconds)
+        made = measured(self.command, self.words(words), path, seconds)
         if made is None:
             self.fault = f"over {seconds} s"
         elif made[1] != self.status:
@@ -107,12 +127,19 @@ class Figures:
         else:
             self.times.append(made[0])
 
+    def words(self, words):
+        """The words that follow the command."""
+        return [] if self.plain else words
+
+    def median(self):
+        return statistics.median(self.times)
+
     def line(self, words, path):
         """The figures as they are printed."""
         if self.fault:
             return f"    {self.name}: {self.fault}"
-        seconds = statistics.median(self.times)
-        memory = memory_of(self.command, words, path)
+        seconds = self.median()
+        memory = memory_of(self.command, self.words(words), path)
         lifts = lifts_in(self.output)
         line = f"    {self.name}: {seconds * 1000:.1f} ms, {os.path.getsize(path) / seconds / 1e6:.0f} MB/s"
         if memory is not None:
@@ -132,10 +159,19 @@ def compared(figures, words, path, options):
     wanted = figures[0].output
     for one in figures:
         there = one.output is not None and wanted is not None
-        if there and words not in ANY_ANSWER and without_lifts(one.output) != without_lifts(wanted):
+        if there and decided(words, one.output) != decided(words, wanted):
             one.fault = "DIFFERS"
-        print(one.line(words, path))
+        say(one.line(words, path))
     return [one for one in figures if not one.fault]
+
+
+def decided(words, output):
+    """What of an output two programs must agree on: of a search the winners, or whether there is a lasso."""
+    if words not in ANY_ANSWER:
+        return without_lifts(output)
+    if words[0] == "empty":
+        return output.split(b"\n", 1)[0].split()[:1]
+    return [line.rstrip(b";").split()[:2] for line in output.split(b"\n")]
 
 
 def without_lifts(output):
@@ -143,7 +179,12 @@ def without_lifts(output):
     return output.split(b"\n", 1)[-1] if lifts_in(output) is not None else output
 
 
-def explained(commands, options):
+def say(line):
+    """Tells how far the run has come: beside the table, if there is to be one."""
+    print(line, file=SAID, flush=True)
+
+
+def explained(commands, options, table):
     """Runs the commands on wrong solutions of games, which they explain. Whether all went well."""
     all_well = True
     for family, (quick, full) in EXPLAINED.items():
@@ -155,19 +196,100 @@ def explained(commands, options):
             file.flush()
             given.write(solution)
             given.flush()
-            print(f"{family}: {len(game):,} bytes, {game.count(';'):,} nodes, and a solution of {len(solution):,} bytes")
-            print("  verify --explain")
+            say(f"{family}: {len(game):,} bytes, {game.count(';'):,} nodes, and a solution of {len(solution):,} bytes")
             figures = [Figures(name, command, NOT_WON) for name, command in commands]
-            well = compared(figures, ["verify", "--explain", "--game", file.name], given.name, options)
-            all_well = all_well and len(well) == len(commands)
+            words = ["verify", "--explain", "--game", file.name]
+            all_well = row_of(family, "verify --explain", figures, words, given.name, options, table) and all_well
     return all_well
 
 
-def main():
+def row_of(family, task, figures, words, path, options, table):
+    """Runs commands on one input for a task, and enters a row into the table. Whether all went well."""
+    say(f"  {task}")
+    loop = calibration()
+    well = compared(figures, words, path, options)
+    say(f"    the loop: {loop:.3f} s")
+    table.append((family, task, os.path.getsize(path), loop, figures))
+    for other in well[1:] if well and well[0] is figures[0] else []:
+        say(f"    {figures[0].name} / {other.name}: {well[0].median() / other.median():.2f}")
+    return len(well) == len(figures)
+
+
+def ratios_of(table):
+    """By task and by what is compared with: the ratios of the first command to the other."""
+    ratios = {}
+    for _, task, _, _, figures in table:
+        for other in figures[1:]:
+            if not figures[0].fault and not other.fault:
+                ratios.setdefault((task, other.name), []).append(figures[0].median() / other.median())
+    return ratios
+
+
+def mean_of(ratios):
+    return math.exp(statistics.fmean(map(math.log, ratios)))
+
+
+def in_markdown(table):
+    """The table by tasks, with the geometric mean and the worst of each ratio below."""
+    lines = []
+    ratios = ratios_of(table)
+    for task in dict.fromkeys(row[1] for row in table):
+        rows = [row for row in table if row[1] == task]
+        names = list(dict.fromkeys(one.name for row in rows for one in row[4]))
+        heads = ["family", "MB", "the loop, s"]
+        for name in names:
+            heads += [f"{name}, ms"] + [f"/ {name}"] * (name != names[0])
+        lines += [f"`{task}`:", "", f"| {' | '.join(heads)} |", "|---" * len(heads) + "|"]
+        for family, _, size, loop, figures in rows:
+            cells = [family, f"{size / 1e6:.1f}", f"{loop:.3f}"]
+            by_name = {one.name: one for one in figures}
+            for name in names:
+                one = by_name.get(name)
+                cells.append("-" if one is None else one.fault or f"{one.median() * 1000:.1f}")
+                if name != names[0]:
+                    there = one is not None and not one.fault and not figures[0].fault
+                    cells.append(f"{figures[0].median() / one.median():.2f}" if there else "-")
+            lines.append(f"| {' | '.join(cells)} |")
+        for name in names[1:]:
+            of_task = ratios.get((task, name), [])
+            if of_task:
+                lines += ["", f"`{task}` took {mean_of(of_task):.2f} times as long as {name} in the geometric mean, "
+                              f"and {max(of_task):.2f} times at worst."]
+        lines.append("")
+    return "\n".join(lines)
+
+
+def plain_commands(pairs, parser):
+    """The plain commands by their tasks, from `TASK=COMMAND`; of one task there may be several."""
+    tasks = [" ".join(words) for kind in TASKS.values() for words in kind]
+    plain = {}
+    for pair in pairs:
+        task, found, command = pair.partition("=")
+        if not found or task not in tasks:
+            parser.error("the tasks are " + ", ".join(dict.fromkeys(tasks)))
+        plain.setdefault(task, []).append(command)
+    return plain
+
+
+def figures_of(task, commands, plain):
+    """Figures for each command that does a task. Plain commands of one task are numbered, if there are several."""
+    figures = [Figures(name, command) for name, command in commands]
+    given = plain.get(task, [])
+    for at, command in enumerate(given):
+        figures.append(Figures("plain" if len(given) == 1 else f"plain {at + 1}", shlex.split(command), plain=True))
+    return figures
+
+
+def asked():
+    """What the command line asks for."""
     parser = argparse.ArgumentParser(description=__doc__, formatter_class=argparse.RawDescriptionHelpFormatter)
     parser.add_argument("--quick", action="store_true", help="small games")
     parser.add_argument("--only", action="append", help="this family alone; may be given again")
+    parser.add_argument("--task", action="append", help="this task alone, as `solve --search`; may be given again")
     parser.add_argument("--against", action="append", default=[], metavar="NAME=COMMAND", help="another command")
+    parser.add_argument("--plain", action="append", default=[], metavar="TASK=COMMAND",
+                        help="a command for one task alone, called as it stands; may be given again")
+    parser.add_argument("--table", action="store_true", help="write a table in Markdown, and all else beside it")
     parser.add_argument("--omega", help="the command that is measured, if not the built program")
     parser.add_argument("--runs", type=int, default=5, help="runs of which the median is taken")
     parser.add_argument("--seconds", type=float, default=120, help="the most time for one run")
@@ -179,37 +301,43 @@ def main():
         parser.error("the families are " + ", ".join(names))
     if not options.omega and not os.path.exists(OMEGA):
         parser.error("the program is not built: ./omega --help builds it")
+    if not all("=" in pair for pair in options.against):
+        parser.error("--against takes NAME=COMMAND")
+    options.plain = plain_commands(options.plain, parser)
+    return options
+
+
+def main():
+    options = asked()
+    global SAID
+    SAID = sys.stderr if options.table else sys.stdout
     commands = [("omega", shlex.split(options.omega or OMEGA))]
     commands += [(name, shlex.split(words)) for name, words in (pair.split("=", 1) for pair in options.against)]
-    ratios = {name: [] for name, _ in commands[1:]}
+    table = []
     all_well = True
-    for family, (kind, quick, full) in [*FAMILIES.items(), *AUTOMATA.items()]:
+    for family, (kinds, quick, full) in [*FAMILIES.items(), *AUTOMATA.items()]:
         if options.only and family not in options.only:
+            continue
+        tasks = [words for kind in kinds.split() for words in TASKS[kind]]
+        tasks = [words for words in tasks if not options.task or " ".join(words) in options.task]
+        if not tasks:
             continue
         text = (quick if options.quick else full)()
         with tempfile.NamedTemporaryFile("w") as file:
             file.write(text)
             file.flush()
             size = f"{text.count('State:'):,} states" if family in AUTOMATA else f"{text.count(';'):,} nodes"
-            print(f"{family}: {len(text):,} bytes, {size}")
-            for words in TASKS[kind]:
-                print(f"  {' '.join(words)}")
-                figures = compared([Figures(name, command) for name, command in commands], words, file.name, options)
-                all_well = all_well and len(figures) == len(commands)
-                if len(figures) < 2 or figures[0].name != "omega":
-                    continue
-                ours = statistics.median(figures[0].times)
-                task = words[0] if "--search" not in words else " ".join(words)
-                for other in figures[1:]:
-                    ratio = ours / statistics.median(other.times)
-                    ratios[other.name].append((task, ratio))
-                    print(f"    omega / {other.name}: {ratio:.2f}")
-    all_well = explained(commands, options) and all_well
-    for name, found in ratios.items():
-        for task in sorted({task for task, _ in found}):
-            of_task = [ratio for its, ratio in found if its == task]
-            mean = math.exp(statistics.fmean(math.log(ratio) for ratio in of_task))
-            print(f"omega / {name}, {task}: {mean:.2f} in the geometric mean, {max(of_task):.2f} at worst")
+            say(f"{family}: {len(text):,} bytes, {size}")
+            for words in tasks:
+                task = " ".join(words)
+                figures = figures_of(task, commands, options.plain)
+                all_well = row_of(family, task, figures, words, file.name, options, table) and all_well
+    if not options.task or "verify --explain" in options.task:
+        all_well = explained(commands, options, table) and all_well
+    for (task, name), found in ratios_of(table).items():
+        say(f"omega / {name}, {task}: {mean_of(found):.2f} in the geometric mean, {max(found):.2f} at worst")
+    if options.table:
+        print(in_markdown(table), end="")
     return 0 if all_well else 1
 
 

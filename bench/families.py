@@ -21,6 +21,16 @@ def random_game(nodes, priorities, degree=2, seed=DEFAULT_SEED):
     )
 
 
+def drawn_game(nodes, priorities, degree=3, seed=DEFAULT_SEED):
+    """The same with up to so many successors a node, so that some nodes have one alone."""
+    draw = random.Random(seed)
+    return text_of(
+        (v, draw.randrange(priorities), draw.randrange(2),
+         [draw.randrange(nodes) for _ in range(1 + draw.randrange(degree))])
+        for v in range(nodes)
+    )
+
+
 def ladder(steps):
     """Two rails with rungs: owners and priorities 0 and 1 alternate, each node leads on along both rails."""
     nodes = 2 * steps
@@ -40,6 +50,15 @@ def chain_up(nodes):
 def chain_down(nodes):
     """The same chain with its identifiers turned round, so that the loop is lifted first."""
     return text_of((v, 1 if v == 0 else 0, 0, [max(v - 1, 0)]) for v in range(nodes))
+
+
+def odd_chain(nodes, down=False, seed=DEFAULT_SEED):
+    """A chain of odd priorities to an even loop: player 0 wins, and the measure of a node counts how far the loop is.
+    Its identifiers rise towards the loop, or fall."""
+    draw = random.Random(seed)
+    end = 0 if down else nodes - 1
+    step = -1 if down else 1
+    return text_of((v, int(v != end), draw.randrange(2), [v if v == end else v + step]) for v in range(nodes))
 
 
 def component(nodes, priorities, stretch=4096, seed=DEFAULT_SEED):
@@ -67,16 +86,17 @@ def solitaire(nodes, priorities, degree=3, seed=DEFAULT_SEED):
     )
 
 
-def counting(levels, size):
-    """A ring of each odd priority, which player 0 may leave for the next ring, and after the last a path to an even
-    loop. Player 0 wins everywhere, and a measure counts up to that of the way out (after Jurdziński 2000)."""
+def counting(levels, size, player=0):
+    """A ring of each priority that the player loses, which the player may leave for the next ring, and after the last a
+    path to a loop that the player wins. The player wins everywhere, and a measure counts up to that of the way out
+    (after Jurdziński 2000)."""
     nodes = []
     for level in range(levels):
         base = level * size
         for at in range(size):
             ahead = [base + at + 1] if level + 1 == levels else [base + (at + 1) % size, base + size]
-            nodes.append((base + at, 2 * level + 1, 0, ahead))
-    return text_of(nodes + [(levels * size, 0, 1, [levels * size])])
+            nodes.append((base + at, 2 * level + 1 + player, player, ahead))
+    return text_of(nodes + [(levels * size, player, 1 - player, [levels * size])])
 
 
 def lost_loop(levels, size):
@@ -106,8 +126,8 @@ def model_checking(rungs, depth):
 
 
 def pursuit(width, goal):
-    """One who flees and one who pursues move in turn on a square of cells. Player 0 flees: for ever, to a corner, or
-    there again and again."""
+    """One who flees and one who pursues move in turn on a square of cells. Player 0 flees: for ever, to a corner, there
+    again and again, or so that it is caught no more from some time on."""
     cells = width * width
 
     def steps(cell):
@@ -128,24 +148,45 @@ def pursuit(width, goal):
                 ahead = ([place(flees, to, 0) for to in steps(pursues)] if turn
                          else [place(to, pursues, 1) for to in [flees, *steps(flees)]])
                 ends = caught if goal == "safety" else goal == "reach" and home
-                priority = {"safety": caught, "reach": 1 + home, "buchi": 1 + (home and not caught)}[goal]
+                priority = {"safety": caught, "reach": 1 + home, "buchi": 1 + (home and not caught),
+                            "cobuchi": caught}[goal]
                 nodes.append((here, int(priority), turn, [here] if ends else ahead))
     return text_of(nodes)
 
 
-def layered(nodes, width=64, priorities=4, seed=DEFAULT_SEED):
-    """Layers whose edges lead to the layer below; the first bears the two greatest priorities and leads to the last."""
-    draw = random.Random(seed)
+def layered_rows(nodes, width, priorities, up, draw):
+    """The rows of a layered game, by place."""
     layers, greatest = nodes // width, priorities + priorities % 2
-    return text_of(
+    crown, step = (layers - 1, 1) if up else (0, -1)
+    return [
         (
             layer * width + at,
-            draw.randrange(priorities) if layer else greatest + draw.randrange(2),
+            greatest + draw.randrange(2) if layer == crown else draw.randrange(priorities),
             draw.randrange(2),
-            [(layer - 1) % layers * width + draw.randrange(width) for _ in range(2)],
+            [(layer + step) % layers * width + draw.randrange(width) for _ in range(2)],
         )
         for layer in range(layers)
         for at in range(width)
+    ]
+
+
+def layered(nodes, width=64, priorities=4, up=False, seed=DEFAULT_SEED):
+    """Layers whose edges lead to the layer below, or above; the layer that leads round to the other end bears the two
+    greatest priorities."""
+    return text_of(layered_rows(nodes, width, priorities, up, random.Random(seed)))
+
+
+def gaps(nodes, width=64, priorities=4, seed=DEFAULT_SEED):
+    """A layered game whose identifiers have gaps and are drawn evenly, as is the order of its nodes; priorities are far
+    apart."""
+    draw = random.Random(seed)
+    rows = layered_rows(nodes, width, priorities, False, draw)
+    identifiers = draw.sample(range(2**31 - 1), len(rows))
+    draw.shuffle(rows)
+    return text_of(
+        (identifiers[v], 1_000_000_000 + 20_000_000 * (priority // 2) + priority % 2, owner,
+         [identifiers[w] for w in ahead])
+        for v, priority, owner, ahead in rows
     )
 
 
@@ -158,6 +199,22 @@ def grid(width, height, seed=DEFAULT_SEED):
             1 if draw.random() < 0.3 else 2,
             (x + y) % 2,
             [y * width + (x + 1) % width, ((y + 1) % height) * width + x],
+        )
+        for y in range(height)
+        for x in range(width)
+    )
+
+
+def torus(width, height, priorities, seed=DEFAULT_SEED):
+    """A torus with steps in all four directions; owners and priorities are drawn."""
+    draw = random.Random(seed)
+    return text_of(
+        (
+            y * width + x,
+            draw.randrange(priorities),
+            draw.randrange(2),
+            [y * width + (x + 1) % width, y * width + (x - 1) % width,
+             (y + 1) % height * width + x, (y - 1) % height * width + x],
         )
         for y in range(height)
         for x in range(width)
@@ -192,28 +249,54 @@ def most_bytes(limit=16_777_216):
     return "".join(f"{v} 0 {v % 2} {','.join(['3'] * each)};\n" for v in range(10))
 
 
+def backward(limit=16_777_216, seed=DEFAULT_SEED):
+    """A text of nearly the greatest length: nodes with two successors among those before them."""
+    draw = random.Random(seed)
+    lines, length, v = [], 0, 0
+    while length < limit - 64:
+        ahead = f"{draw.randrange(v + 1)},{draw.randrange(v + 1)}"
+        lines.append(f"{v} {draw.randrange(3)} {draw.randrange(2)} {ahead};\n")
+        length += len(lines[-1])
+        v += 1
+    return "".join(lines)
+
+
 # name: (what is measured with it, the text of a quick run, the text of a full run)
 FAMILIES = {
+    "start": ("solve", lambda: chain_up(2), lambda: chain_up(2)),
     "random2": ("solve", lambda: random_game(2000, 2), lambda: random_game(8000, 2)),
     "random3": ("solve", lambda: random_game(1000, 3), lambda: random_game(4000, 3)),
     "random8": ("solve", lambda: random_game(300, 8), lambda: random_game(1000, 8)),
+    "drawn2": ("solve", lambda: drawn_game(2000, 2), lambda: drawn_game(8000, 2)),
+    "drawn3": ("solve", lambda: drawn_game(1000, 3), lambda: drawn_game(4000, 3)),
+    "drawn4": ("solve", lambda: drawn_game(300, 4), lambda: drawn_game(800, 4)),
     "ladder": ("solve", lambda: ladder(1000), lambda: ladder(4000)),
     "clique": ("solve", lambda: clique(400), lambda: clique(1200)),
     "chain-up": ("solve", lambda: chain_up(2000), lambda: chain_up(16000)),
     "chain-down": ("solve", lambda: chain_down(50000), lambda: chain_down(400000)),
+    "odd-chain-up": ("solve", lambda: odd_chain(4000), lambda: odd_chain(16000)),
+    "odd-chain-down": ("solve", lambda: odd_chain(50000, True), lambda: odd_chain(400000, True)),
     "component": ("solve", lambda: component(8192, 32), lambda: component(65536, 64)),
+    "component1000": ("solve", lambda: component(4096, 1000, 1024), lambda: component(32768, 1000, 1024)),
     "solitaire": ("solve", lambda: solitaire(10000, 2), lambda: solitaire(40000, 2)),
     "counting3": ("solve", lambda: counting(3, 40), lambda: counting(3, 160)),
     "counting5": ("solve", lambda: counting(5, 6), lambda: counting(5, 13)),
+    "counting3-other": ("solve", lambda: counting(3, 40, 1), lambda: counting(3, 160, 1)),
     "lost-loop": ("solve", lambda: lost_loop(3, 100), lambda: lost_loop(3, 400)),
     "checking2": ("solve", lambda: model_checking(300, 2), lambda: model_checking(1200, 2)),
     "checking3": ("solve", lambda: model_checking(100, 3), lambda: model_checking(400, 3)),
     "pursuit": ("solve", lambda: pursuit(5, "safety"), lambda: pursuit(7, "safety")),
     "pursuit-home": ("solve", lambda: pursuit(6, "reach"), lambda: pursuit(10, "reach")),
     "pursuit-again": ("solve", lambda: pursuit(6, "buchi"), lambda: pursuit(10, "buchi")),
-    "layered": ("solve", lambda: layered(40000), lambda: layered(600000)),
+    "pursuit-never": ("solve", lambda: pursuit(5, "cobuchi"), lambda: pursuit(7, "cobuchi")),
+    "layered": ("solve read", lambda: layered(40000), lambda: layered(600000)),
+    "layered-up": ("solve", lambda: layered(10000, up=True), lambda: layered(80000, up=True)),
+    "gaps": ("solve read", lambda: gaps(20000), lambda: gaps(320000)),
     "grid": ("solve", lambda: grid(60, 30), lambda: grid(240, 60)),
+    "torus2": ("solve", lambda: torus(60, 60, 2), lambda: torus(240, 60, 2)),
+    "torus3": ("solve", lambda: torus(20, 40, 3), lambda: torus(80, 40, 3)),
     "sparse": ("read", lambda: sparse(40000), lambda: sparse(320000)),
     "most-nodes": ("read", lambda: most_nodes(131072), lambda: most_nodes()),
-    "most-bytes": ("read", lambda: most_bytes(2_097_152), lambda: most_bytes()),
+    "most-bytes": ("solve read", lambda: most_bytes(2_097_152), lambda: most_bytes()),
+    "backward": ("read", lambda: backward(2_097_152), lambda: backward()),
 }

@@ -5,6 +5,7 @@ pub mod Raising
 pub mod RowWrites
 pub mod Shapes
 pub mod Measures
+pub mod OneWord
 pub mod Allowances
 pub mod Contents
 pub mod PlainCalls

@@ -1,4 +1,4 @@
-ghost use Rattle.std.specs.Prelude.{◌≡◌, ◌≢◌, ◌↔◌, ℕ, ◌+◌, ◌-◌, ◌*◌, ◌/◌, ◌<◌, ◌≤◌, ◌^◌, ◌∷◌, ◌++◌, suc, length, take, replicate, slice_index, slice_index_or, IsTrue};
+ghost use Rattle.std.specs.Prelude.{◌≡◌, ◌≢◌, ◌↔◌, ℕ, ◌+◌, ◌-◌, ◌*◌, ◌/◌, ◌<◌, ◌≤◌, ◌^◌, [], ◌∷◌, ◌++◌, suc, length, take, replicate, slice_index, slice_index_or, IsTrue};
 ghost use Rattle.omega_measure.specs.private.layout.Field.{AreFields, IsInside, IsPackedRow, digit_in, digits_in, flag_in, front_order, limits_in};
 ghost use Rattle.omega_measure.specs.private.layout.Packed.{HoldsAllowance};
 ghost use Rattle.omega_measure.specs.private.layout.Rows.{IsLastBelow, WritesRow, row_of};
@@ -55,6 +55,15 @@ fn last_below(row: &[u64], fields: &[Field], kept: usize) -> usize
     0
 }
 
+/// The word of a field in a row, added to from the field up, and cleared behind it.
+fn front(row: &[u64], field: Field, by: u64) -> u64
+    requires field { IsInside (length row.now) field }
+    requires fits { (slice_index row.now field.word / 2 ^ field.shift + by) * 2 ^ field.shift < 2 ^ 64 }
+    ensures { result ≡ (slice_index row.now field.word / 2 ^ field.shift + by) * 2 ^ field.shift }
+{
+    ((row[field.word as usize] >> field.shift) + by) << field.shift
+}
+
 /// Adds to a row from a field up, and clears all behind that field.
 fn raise_front(row: &mut [u64], field: Field, by: u64)
     requires field { IsInside (length row.old) field }
@@ -63,7 +72,7 @@ fn raise_front(row: &mut [u64], field: Field, by: u64)
         row.new ≡ take field.word row.old ++ (front * 2 ^ field.shift) ∷ replicate (length row.old - suc field.word) 0 }
 {
     let word = field.word as usize;
-    row[word] = ((row[word] >> field.shift) + by) << field.shift;
+    row[word] = front(row, field, by);
     row[word + 1..].fill(0);
 }
 
@@ -83,6 +92,23 @@ fn allow_words(row: &mut [u64], fields: &[Field], kept: usize, strict: bool)
     }
 }
 
+/// The word that is the least row that suffices towards a row of one word below top, on its first `kept` entries.
+fn allowed_word(row: &[u64], fields: &[Field], kept: usize, strict: bool) -> u64
+    requires one { length row.now ≡ 1 }
+    requires fields { AreFields (length row.now) fields.now }
+    requires within { kept < length fields.now }
+    requires packed { IsPackedRow fields.now row.now }
+    requires below { flag_in fields.now row.now ≡ 0 }
+    ensures { HoldsAllowance fields.now kept strict row.now (result ∷ []) }
+{
+    if strict {
+        let at = last_below(row, fields, kept);
+        front(row, fields[at], 1)
+    } else {
+        front(row, fields[kept], 0)
+    }
+}
+
 /// Whether the flag for top is set in the row of a place.
 pub(crate) fn is_top_at(words: &[u64], size: usize, fields: &[Field], place: usize) -> bool
     requires row { place * size + size ≤ length words.now }
@@ -99,6 +125,9 @@ pub(crate) fn compare_at(words: &[u64], size: usize, field: Field, a: usize, b: 
     requires field { IsInside size field }
     ensures { result ≡ front_order field.word field.shift (row_of size words.now a) (row_of size words.now b) }
 {
+    if size == 1 {
+        return (words[a] >> field.shift).cmp(&(words[b] >> field.shift));
+    }
     compare_rows(row(words, size, a), row(words, size, b), field)
 }
 
@@ -124,7 +153,41 @@ fn allow_at(
 }
 
 /// Gives `v` the least measure that suffices towards that of `w`.
+// The rows of most tables have one word: they have a path of their own, and the other is called.
+#[inline(always)]
 pub(crate) fn raise_at(
+    words: &mut [u64],
+    size: usize,
+    fields: &[Field],
+    kept: usize,
+    strict: bool,
+    v: usize,
+    w: usize,
+)
+    requires lifted { v * size + size ≤ length words.old }
+    requires towards { w * size + size ≤ length words.old }
+    requires fields { AreFields size fields.now }
+    requires within { kept < length fields.now }
+    requires packed { IsPackedRow fields.now (row_of size words.old w) }
+    ensures others { WritesRow size words.old words.new v (row_of size words.new v) }
+    ensures allowance { HoldsAllowance fields.now kept strict (row_of size words.old w) (row_of size words.new v) }
+{
+    if size == 1 {
+        let towards = row(words, size, w);
+        let word = if digit(towards, TOP) == 0 {
+            allowed_word(towards, fields, kept, strict)
+        } else {
+            towards[0]
+        };
+        words[v] = word;
+    } else {
+        raise_row_at(words, size, fields, kept, strict, v, w);
+    }
+}
+
+/// The same for rows of any number of words.
+#[inline(never)]
+fn raise_row_at(
     words: &mut [u64],
     size: usize,
     fields: &[Field],
