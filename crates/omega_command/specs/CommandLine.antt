@@ -4,6 +4,7 @@ use Rattle.std.specs.Str.Parse.{IsNumeral, digits_value}
 use Rattle.omega_game.specs.declared.player.Player.{Player}
 use Rattle.omega_game.specs.Player.{player_number}
 use Rattle.omega_command.specs.Limits.{most_budget}
+use Rattle.omega_command.specs.Reason.{IsReason}
 use Rattle.omega_text.specs.Limits.{most_number}
 use Rattle.omega_command.specs.declared.command.Command.{Command}
 use Rattle.omega_command.specs.declared.command.Command.TheVariants as command
@@ -231,11 +232,11 @@ StandsForNothing name.Depth text = (number : ℕ) → IsNumberText most_number t
 StandsForNothing name.Progress text = (flag : Bool) → IsTruthText text flag → ⊥
 StandsForNothing name.File text = ⊥
 
--- the mistake is that the option is missing, or that its text stands for nothing
+-- the mistake is that the option is missing, or that its text stands for nothing, with the reason why
 abbrev pub IsFaulty : OptionName → Options → Mistake → Type 0
 IsFaulty option options (mistake.Missing other) = (other ≡ option) × IsRequired option options × (text_of option options ≡ None)
 IsFaulty option options (mistake.Value other text reason) =
-    (other ≡ option) × (text_of option options ≡ Some text.now) × StandsForNothing option text.now
+    (other ≡ option) × (text_of option options ≡ Some text.now) × StandsForNothing option text.now × IsReason option text.now reason
 IsFaulty option options mistake.Unknown = ⊥
 IsFaulty option options (mistake.Conflict one other) = ⊥
 IsFaulty option options (mistake.OnlyWith other format) = ⊥

@@ -1,5 +1,7 @@
 -- What contracts of the command line cite.
 pub use Rattle.omega_game.specs.Player
-pub mod CommandLine
 pub mod Limits
+pub mod Reason
+pub mod CommandLine
 pub mod Line
+pub mod private

@@ -1,5 +1,7 @@
-ghost use Rattle.std.specs.Prelude.{ℕ, IfOk, IfErr};
+ghost use Rattle.std.specs.Prelude.{◌≡◌, ℕ, IfOk, IfErr};
 ghost use Rattle.omega_command.specs.CommandLine.{IsNumberText};
+ghost use Rattle.omega_command.specs.Reason.{IsNumberReason};
+ghost use Rattle.omega_command.specs.private.Numbers.{reason_for};
 
 use crate::mistake::Reason;
 use std::num::IntErrorKind;
@@ -8,6 +10,7 @@ use std::num::IntErrorKind;
 pub fn number_in(text: &str, most: u64) -> Result<u64, Reason>
     ensures number { IfOk result (IsNumberText most text.now) }
     ensures none { IfErr result (λ _. (number : ℕ) → IsNumberText most text.now number → ⊥) }
+    ensures reason { IfErr result (IsNumberReason most text.now) }
 {
     // The numbers of `std` may begin with a plus. A minus is told in the same words.
     if text.starts_with('+') || text.starts_with('-') {
@@ -25,7 +28,10 @@ pub fn number_in(text: &str, most: u64) -> Result<u64, Reason>
     }
 }
 
-fn reason_of(kind: &IntErrorKind) -> Reason {
+/// Why `std` reads no number of 64 bits.
+fn reason_of(kind: &IntErrorKind) -> Reason
+    ensures { result ≡ reason_for kind.now }
+{
     match kind {
         IntErrorKind::Empty => Reason::Empty,
         IntErrorKind::PosOverflow => Reason::TooLarge,

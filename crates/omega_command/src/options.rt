@@ -48,26 +48,36 @@ impl fmt::Display for OptionName {
 /// The texts of the options that are given, and of the operand.
 #[derive(Clone, Copy)]
 pub struct Options<'a> {
+    /// The kind of text, `pg` or `hoa`.
     pub format: Option<&'a str>,
+    /// The number of a player, 0 or 1.
     pub player: Option<&'a str>,
+    /// The identifier of a node, at most 2,147,483,647.
     pub from: Option<&'a str>,
+    /// The most lifts of each run, at most 1,099,511,627,776.
     pub budget: Option<&'a str>,
     /// `true` where the flag is given; `clap` may say `false` where it is not.
     pub search: Option<&'a str>,
+    /// The name of the file of a game.
     pub game: Option<&'a str>,
+    /// The name of the file of an automaton.
     pub automaton: Option<&'a str>,
     /// As `search`.
     pub explain: Option<&'a str>,
     /// As `search`.
     pub word: Option<&'a str>,
+    /// The name of the file of the second automaton.
     pub with: Option<&'a str>,
+    /// The name of the file of a solution.
     pub solution: Option<&'a str>,
     /// As `search`.
     pub legend: Option<&'a str>,
     /// As `search`.
     pub lasso: Option<&'a str>,
+    /// How many steps from the node of `from`, at most 2,147,483,647.
     pub depth: Option<&'a str>,
     /// As `search`.
     pub progress: Option<&'a str>,
+    /// The operand: the name of the file of the input.
     pub file: Option<&'a str>,
 }
