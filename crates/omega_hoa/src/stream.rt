@@ -192,10 +192,17 @@ fn read_piece(
     answer
 }
 
-/// The bytes without so many at their front.
+/// The bytes without so many at their front. Where the others are no more than those, they are copied at once.
 fn drop_front(bytes: &mut Vec<u8>, count: usize)
     requires { count ≤ vec_len bytes.old }
     ensures { bytes.new.items ≡ drop count bytes.old.items }
 {
-    let _front = bytes.drain(..count);
+    let left = bytes.len() - count;
+    if count < left {
+        let _front = bytes.drain(..count);
+    } else {
+        let (front, rest) = bytes.as_mut_slice().split_at_mut(count);
+        front[..left].copy_from_slice(rest);
+        bytes.truncate(left);
+    }
 }
