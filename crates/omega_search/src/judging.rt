@@ -1,12 +1,11 @@
-//! Whether what a search suggests is right. Each player's choices are judged by the checker of strategies, by an order
-//! of the places that the search suggests too; since no node is in the regions of both players, winners that are
+//! Whether what a search suggests is right. Both players' choices are judged at once by the checker of strategies, by an
+//! order of the places that the search suggests too; since no node is in the regions of both players, winners that are
 //! accepted are exact.
 ghost use Rattle.std.specs.Prelude.{◌≡◌, ◌<◌, ◌^◌, length, IfOk, IfSome, IsOkUnless, IsTrue};
-ghost use Rattle.omega_game.specs.Solution.{IsExactSolution, WinsGiven, choices_of};
-ghost use Rattle.omega_game.specs.Winning.{IsStrategy};
-ghost use Rattle.omega_search.specs.private.judging.Judging.{ChoosesWhereWon, IsAcceptedFor};
+ghost use Rattle.omega_game.specs.Solution.{IsExactSolution};
+ghost use Rattle.omega_search.specs.private.judging.Judging.{ChoosesWhereWon, IsAccepted};
 
-use omega_game::{Game, Player, Refusal, Seq, Solution, Strategy, check_strategy_by_order};
+use omega_game::{Game, Player, Refusal, Seq, Solution, Strategy, check_solution_by_order};
 use omega_region::regions_are_apart;
 use omega_zielonka::Suggestion;
 use std::alloc::Global;
@@ -49,10 +48,7 @@ pub(crate) fn judged(
         zero,
         one,
     };
-    if !is_accepted(alloc, game, &solution, Player::Zero, order.as_slice())? {
-        return Ok(None);
-    }
-    if !is_accepted(alloc, game, &solution, Player::One, order.as_slice())? {
+    if !is_accepted(alloc, game, &solution, order.as_slice())? {
         return Ok(None);
     }
     Ok(Some(solution))
@@ -82,46 +78,22 @@ fn strategy_of(
     })
 }
 
-/// Whether the player's choices are a strategy which an order shows to win from all nodes given to the player.
+/// Whether each player's choices are a strategy which an order shows to win from all nodes given to the player.
 fn is_accepted(
     alloc: Global,
     game: &Game,
     solution: &Solution,
-    player: Player,
     order: &[u32],
 ) -> Result<bool, Refusal>
     requires { length solution.now.winners ≡ length game.now }
-    ensures accepted { IfOk result (λ answer. IsTrue answer → IsAcceptedFor game.now solution.now player) }
+    ensures accepted { IfOk result (λ answer. IsTrue answer → IsAccepted game.now solution.now) }
     ensures memory { IsOkUnless result Refusal.Memory }
 {
-    if !solution.strategy(player).fits(game.arena(), player) {
+    if !solution.zero.fits(game.arena(), Player::Zero) {
         return Ok(false);
     }
-    wins_given(alloc, game, solution, player, order)
-}
-
-/// Whether an order shows that the player's choices win from all nodes given to the player.
-fn wins_given(
-    alloc: Global,
-    game: &Game,
-    solution: &Solution,
-    player: Player,
-    order: &[u32],
-) -> Result<bool, Refusal>
-    requires winners { length solution.now.winners ≡ length game.now }
-    requires strategy { IsStrategy game.now player (choices_of solution.now player) }
-    ensures wins { IfOk result (λ answer. IsTrue answer → WinsGiven game.now solution.now player) }
-    ensures memory { IsOkUnless result Refusal.Memory }
-{
-    game.keeps_limits();
-    let places = solution.places_given(alloc, player)?;
-    let strategy = solution.strategy(player);
-    check_strategy_by_order(
-        alloc,
-        game.arena(),
-        player,
-        places.as_slice(),
-        strategy,
-        order,
-    )
+    if !solution.one.fits(game.arena(), Player::One) {
+        return Ok(false);
+    }
+    check_solution_by_order(alloc, game.arena(), solution, order)
 }

@@ -1,5 +1,5 @@
 -- `followed_from`: marks the places that are reached from the given ones.
-use Rattle.std.proofs.Common.{List, Bool, subst, sym, arith}
+use Rattle.std.proofs.Common.{List, Bool, subst, arith}
 use Rattle.omega_game.specs.private.checking.Reaching.{AreClosed}
 use Rattle.omega_game.proofs.walks.Marking.{closed_reached}
 use Rattle.omega_game.proofs.walks.Recurrence.{priorities_low}

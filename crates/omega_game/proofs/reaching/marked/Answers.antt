@@ -1,5 +1,5 @@
 -- `marked`: marks the places.
-use Rattle.std.proofs.Common.{◌≡◌, ◌<◌, ℕ, get_or, [], false, replicate, refl, rules, sym, subst, arith}
+use Rattle.std.proofs.Common.{◌≡◌, ◌<◌, get_or, [], false, replicate, refl, rules, sym, subst, arith}
 use Rattle.std.proofs.lemmas.Grind.{common_steps}
 use Rattle.omega_game.specs.private.checking.Reaching.{AreMarked}
 use Rattle.omega_game.proofs.walks.Marking.{marked_none, marked_more}

@@ -1,4 +1,4 @@
--- `judged`: what is accepted for both players is exact.
+-- `judged`: what is accepted is exact.
 use Rattle.std.proofs.Common.{rules, ◌≡◌, length}
 use Rattle.omega_search.proofs.Accepting.{is_exact}
 use Rattle.omega_search.proofs.judging.judged.Goals as goal
@@ -10,4 +10,4 @@ returns-clause-exact c =
     let given_one : c.from_vec.result ≡ c.as_slice-3.result.now = search rules in
     is_exact c.args.game.now _ c.regions_are_apart.ensures c.keeps_limits.ensures.game entries
     (rw given_zero c.in_ok-zero.ensures.chosen) (rw given_one c.in_ok-one.ensures.chosen)
-    (c.in_ok-is_accepted.ensures.accepted c.if-not-branch.false) (c.in_ok-is_accepted-2.ensures.accepted c.if-not-branch-2.false)
+    (c.in_ok-is_accepted.ensures.accepted c.if-not-branch.false)

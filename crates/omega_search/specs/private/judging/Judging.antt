@@ -1,10 +1,10 @@
 -- The winners and choices that are judged, as lists by place.
 use Rattle.std.specs.Prelude.{◌≡◌, ◌↔◌, ℕ, ◌<◌, Option, List, length, IsSome, slice_index_or}
 use Rattle.omega_game.specs.declared.player.Player.{Player}
-use Rattle.omega_game.specs.declared.player.Player.TheVariants.{Zero}
+use Rattle.omega_game.specs.declared.player.Player.TheVariants.{One, Zero}
 use Rattle.omega_game.specs.declared.solution.Solution.{Solution}
 use Rattle.omega_game.specs.Game.{Node, owner_at}
-use Rattle.omega_game.specs.Solution.{WinsGiven, choices_of}
+use Rattle.omega_game.specs.Solution.{WinsAsGiven}
 use Rattle.omega_game.specs.Winning.{IsStrategy, choice_at}
 
 -- there is an entry for each node, and a choice exactly where the player is the owner and the winner
@@ -12,7 +12,8 @@ pub record ChoosesWhereWon (nodes : List Node) (player : Player) (winners : List
   pub entries : length choices ≡ length nodes
   pub chosen : (v : ℕ) → v < length nodes → IsSome (choice_at choices v) ↔ ((owner_at nodes v ≡ player) × (slice_index_or winners v Zero ≡ player))
 
--- the player's choices are a strategy that wins from all nodes given to the player
-pub record IsAcceptedFor (nodes : List Node) (solution : Solution) (player : Player) : Type 0 where
-  pub strategy : IsStrategy nodes player (choices_of solution player)
-  pub wins : WinsGiven nodes solution player
+-- each player's choices are a strategy, and win from all nodes given to the player
+pub record IsAccepted (nodes : List Node) (solution : Solution) : Type 0 where
+  pub zero : IsStrategy nodes Zero solution.zero.choice
+  pub one : IsStrategy nodes One solution.one.choice
+  pub wins : WinsAsGiven nodes solution
