@@ -3,7 +3,7 @@ ghost use Rattle.std.specs.Prelude.{◌≡◌, ◌<◌, ◌+◌, ◌++◌, ◌�
 ghost use Rattle.omega_acc.specs.formula.Acceptance.{occurs};
 ghost use Rattle.omega_walk.specs.Rules.{IsConnected};
 ghost use Rattle.omega_walk.specs.Walks.{IsClosedEdgeWalk, IsEdgeWalk, marks_on};
-ghost use Rattle.omega_components.specs.Graph.{AreEdges, edge_at, listed, marked};
+ghost use Rattle.omega_components.specs.Graph.{AreEdges, ends_at, listed, marked};
 ghost use Rattle.omega_accepting.specs.Rows.{row_at};
 ghost use Rattle.omega_accepting.specs.private.Formulas.{tree_at};
 ghost use Rattle.omega_accepting.specs.private.Walks.{IsReady, ShowsAll, ShowsAtom, ShowsInf};
@@ -164,7 +164,7 @@ fn add_way(
     requires edge { Contains edges.now edge }
     requires next { Contains edges.now next }
     ensures way { OnOk result ((way : List ℕ) × (walk.new.items ≡ walk.old.items ++ edge ∷ way)
-        × ((marks : ℕ → List ℕ) → IsEdgeWalk (marked graph.now marks) (listed edges.now) (edge_at graph.now edge).to way (edge_at graph.now next).from)) }
+        × ((marks : ℕ → List ℕ) → IsEdgeWalk (marked graph.now marks) (listed edges.now) (ends_at graph.now edge).to way (ends_at graph.now next).from)) }
     ensures memory { IsOkUnless result Refusal.Memory }
 {
     walk.push(edge)?;

@@ -16,9 +16,9 @@ use Rattle.omega_automaton.specs.Automaton.{Description}
 use Rattle.omega_automaton.specs.Branching.{has_branch}
 use Rattle.omega_automaton.specs.Faults.{automaton_fault_of}
 use Rattle.omega_raw.specs.declared.raw_automaton.RawAutomaton.{RawAutomaton}
-use Rattle.omega_complement.specs.Complement.{AreApartBelow, AreFittingBelow}
+use Rattle.omega_complement.specs.Complement.{AreExclusiveBelow, AreFittingBelow}
 use Rattle.omega_complement.specs.Dual.{dual}
-use Rattle.omega_complement.specs.Judged.{IsJudged, IsWritten}
+use Rattle.omega_complement.specs.Judged.{IsJudgedLabel, IsWrittenLabel}
 use Rattle.omega_complement.specs.Labels.{is_full, labels_at, state_at}
 use Rattle.omega_complement.specs.Refusing.{HasStart, IsComplementFault, IsFirstFault, IsStateFault, IsUncomplemented}
 use Rattle.omega_complement.specs.Written.{IsWrittenComplement}
@@ -30,19 +30,19 @@ use Rattle.omega_written.proofs.Refusals.{large_task, memory_task, task_weaker}
 
 module _ (full : Bool) (labels : List LabelTree) (number : ℕ) (label : LabelTree) where
   -- a label that is written and is no label, or is none in a text
-  pub unwritten_refused : (refusal : Refusal) → IsWritten labels label → IsLarge (FitsAText label → ⊥) refusal → IsStateRefusal full labels number refusal
+  pub unwritten_refused : (refusal : Refusal) → IsWrittenLabel labels label → IsLarge (FitsAText label → ⊥) refusal → IsStateRefusal full labels number refusal
   unwritten_refused refusal written is =
       large_task (FitsAText label → ⊥) (IsStateFault full labels number) (λ unfit. inr (label, written, unfit)) refusal is
 
-  pub unfit_refused : (refusal : Refusal) → IsWritten labels label → IsUnfit label refusal → IsStateRefusal full labels number refusal
+  pub unfit_refused : (refusal : Refusal) → IsWrittenLabel labels label → IsUnfit label refusal → IsStateRefusal full labels number refusal
   unfit_refused refusal written is =
       large_task (FitsALabel label → ⊥) (IsStateFault full labels number) (λ unfit. inr (label, written, unfit_text label unfit)) refusal is
 
-  pub deep_refused : (refusal : Refusal) → IsWritten labels label → IsLarge (most_depth < raw_depth (label_written label)) refusal → IsStateRefusal full labels number refusal
+  pub deep_refused : (refusal : Refusal) → IsWrittenLabel labels label → IsLarge (most_depth < raw_depth (label_written label)) refusal → IsStateRefusal full labels number refusal
   deep_refused refusal written is =
       large_task (most_depth < raw_depth (label_written label)) (IsStateFault full labels number) (λ deep. inr (label, written, deep_text label deep)) refusal is
 
-  pub unjudged_refused : (refusal : Refusal) → IsJudged full labels label → IsUnjudged label refusal → IsStateRefusal full labels number refusal
+  pub unjudged_refused : (refusal : Refusal) → IsJudgedLabel full labels label → IsUnjudged label refusal → IsStateRefusal full labels number refusal
   unjudged_refused refusal judged is =
       task_weaker (λ fault. ((fault ≡ TooLarge) × (FitsALabel label → ⊥)) ⊎ ((fault ≡ TooManyPropositions) × (most_mentioned < length (mentioned label))))
       (IsStateFault full labels number) go refusal is
@@ -63,7 +63,7 @@ formula_refused a plain refusal is =
     large_task (most_depth < raw_acc_depth (acc_written (dual a.acceptance))) (IsComplementFault a) (λ deep. inl (plain, deep_formula a (omega (arith, deep)))) refusal is
 
 -- the refusal of a state is that of the states, where those before it are deterministic and fit
-pub state_refused : (a : Description) (number : ℕ) → number < a.states → AreApartBelow a number → AreFittingBelow a number → (refusal : Refusal) → IsStateRefusal (is_full (length a.propositions) (state_at a number)) (labels_at a number) number refusal
+pub state_refused : (a : Description) (number : ℕ) → number < a.states → AreExclusiveBelow a number → AreFittingBelow a number → (refusal : Refusal) → IsStateRefusal (is_full (length a.propositions) (state_at a number)) (labels_at a number) number refusal
     → AreRefused a refusal
 state_refused a number below apart fitting refusal is =
     task_weaker (IsStateFault (is_full (length a.propositions) (state_at a number)) (labels_at a number) number) (IsFirstFault a)
@@ -84,7 +84,7 @@ fault_refused a start (NotDeterministic state) is = inr (start, is)
 pub states_refused : (a : Description) → HasStart a → (refusal : Refusal) → AreRefused a refusal → IsUncomplemented a refusal
 states_refused a start refusal is = task_weaker (IsFirstFault a) (IsComplementFault a) (fault_refused a start) refusal is
 
-pub writing_refused : (a : Description) → HasStart a → AreApartBelow a a.states → AreFittingBelow a a.states → (raw : RawAutomaton) → IsWrittenComplement a raw → (refusal : Refusal)
+pub writing_refused : (a : Description) → HasStart a → AreExclusiveBelow a a.states → AreFittingBelow a a.states → (raw : RawAutomaton) → IsWrittenComplement a raw → (refusal : Refusal)
     → IsUnformed raw refusal → IsUncomplemented a refusal
 writing_refused a start apart fitting raw written refusal is =
     large_task ((fault : AutomatonFault) × (automaton_fault_of raw ≡ Some fault)) (IsComplementFault a)

@@ -9,7 +9,7 @@ use Rattle.omega_acc.specs.label.Label.{LabelTree, truth}
 use Rattle.omega_automaton.specs.declared.edge.Edge.{Edge}
 use Rattle.omega_automaton.specs.declared.state.State.{State}
 use Rattle.omega_complement.specs.Labels.{is_full, labels_of}
-use Rattle.omega_complement.specs.Letters.{AreApart, LacksLetter}
+use Rattle.omega_complement.specs.Letters.{AreExclusive, LacksLetter}
 use Rattle.omega_complement.proofs.Bits.{and_parts, index_of, one_index, valuation_true}
 use Rattle.omega_complement.proofs.Rows.{each_at, each_there}
 use Rattle.omega_written.specs.Labels.{label_at, valuation_label}
@@ -67,7 +67,7 @@ label_there count state k label full e =
     let found = each_at (label_at count state) state.edges k label e in
     (subst (λ n. k < n) full.many (slice_get_within state.edges k found.0 found.1.0), found.1.1 ∙ edge_label count state k found.0 full found.1.0)
 
-pub full_apart : (count : ℕ) (state : State) → is_full count state ≡ true → AreApart (labels_of count state)
+pub full_apart : (count : ℕ) (state : State) → is_full count state ≡ true → AreExclusive (labels_of count state)
 full_apart count state is (one, (other, pair, (held, both))) =
     let full : IsFull count state = full_parts count state is in
     let first = label_there count state pair.first one full pair.first_is in

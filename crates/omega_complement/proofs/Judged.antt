@@ -7,8 +7,8 @@ use Rattle.std.proofs.lemmas.List.{length-drop, length-take, take-append-drop}
 use Rattle.std.proofs.lemmas.Option.{get_or_from_slice_get, slice_get_read, slice_get_within}
 use Rattle.omega_acc.specs.label.Label.{LabelTree, disjunction}
 use Rattle.omega_acc.specs.label.Shape.{FitsALabel}
-use Rattle.omega_complement.specs.Judged.{AreFitting, IsBoth, IsJudged, IsOne, IsWritten}
-use Rattle.omega_complement.specs.Letters.{AreApart, IsAnyOf, IsPair, IsRest, LacksLetter, alone, halves}
+use Rattle.omega_complement.specs.Judged.{AreFitting, IsBoth, IsJudgedLabel, IsOne, IsWrittenLabel}
+use Rattle.omega_complement.specs.Letters.{AreExclusive, IsAnyOf, IsPair, IsRestLabel, LacksLetter, alone, halves}
 use Rattle.omega_complement.specs.private.Apart.{AreApartTo, IsApart, IsApartFrom}
 use Rattle.omega_written.specs.Fitting.{FitsAText}
 
@@ -51,7 +51,7 @@ module _ (labels : List LabelTree) where
   all_judged at whole are one other pair =
       are pair.second (omega (arith, whole, slice_get_within labels pair.second other pair.second_is)) pair.first one other pair.in_order pair.first_is pair.second_is
 
-  pub all_apart : (at : ℕ) → length labels ≤ at → AreApartTo labels at → AreApart labels
+  pub all_apart : (at : ℕ) → length labels ≤ at → AreApartTo labels at → AreExclusive labels
   all_apart at whole are (one, (other, pair, sat)) = (all_judged at whole are one other pair).apart sat
 
   pub all_fit : (at : ℕ) → length labels ≤ at → AreApartTo labels at → (label : LabelTree) → IsBoth labels label → FitsALabel label
@@ -64,17 +64,17 @@ each_one P labels all label (index, is) =
 
 module _ (full : Bool) (labels : List LabelTree) where
   -- labels that are judged fit, where both of two do and the rest does
-  pub judged_fit : ((label : LabelTree) → IsBoth labels label → FitsALabel label) → ((label : LabelTree) → IsRest labels label → FitsALabel label)
-      → (label : LabelTree) → IsJudged full labels label → FitsALabel label
+  pub judged_fit : ((label : LabelTree) → IsBoth labels label → FitsALabel label) → ((label : LabelTree) → IsRestLabel labels label → FitsALabel label)
+      → (label : LabelTree) → IsJudgedLabel full labels label → FitsALabel label
   judged_fit both rest label (other, inl is) = both label is
   judged_fit both rest label (other, inr is) = rest label is
 
   -- and all fit, where each that is written does
-  pub all_fitting : ((label : LabelTree) → IsJudged full labels label → FitsALabel label)
-      → (LacksLetter labels → (label : LabelTree) → IsRest labels label → FitsAText label) → All FitsAText labels → AreFitting full labels
+  pub all_fitting : ((label : LabelTree) → IsJudgedLabel full labels label → FitsALabel label)
+      → (LacksLetter labels → (label : LabelTree) → IsRestLabel labels label → FitsAText label) → All FitsAText labels → AreFitting full labels
   all_fitting judged rest all = record { judged = judged; written = go }
     where
-      go : (label : LabelTree) → IsWritten labels label → FitsAText label
+      go : (label : LabelTree) → IsWrittenLabel labels label → FitsAText label
       go label (inl one) = each_one FitsAText labels all label one
       go label (inr (lacks, is)) = rest lacks label is
 

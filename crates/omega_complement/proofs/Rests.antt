@@ -6,7 +6,7 @@ use Rattle.std.proofs.lemmas.List.{length-append}
 use Rattle.std.proofs.lemmas.List.Folds.{list_any-append}
 use Rattle.omega_acc.specs.label.Label.{LabelTree, disjunction, negation, truth}
 use Rattle.omega_acc.specs.label.Satisfiable.{IsSatisfiable}
-use Rattle.omega_complement.specs.Letters.{IsAnyOf, IsRest, LacksLetter, alone, halves}
+use Rattle.omega_complement.specs.Letters.{IsAnyOf, IsRestLabel, LacksLetter, alone, halves}
 
 or_false : (b : Bool) → b ≡ (b || false)
 or_false true = refl
@@ -19,7 +19,7 @@ any_true held labels any (halves left right x y even first second) =
     ap₂ (λ a b. a || b) (any_true held left x first) (any_true held right y second) ∙ sym (list_any-append (truth held) left right)
 
 -- the rest is true where none is
-pub rest_true : (held : ℕ → Bool) (labels : List LabelTree) (rest : LabelTree) → IsRest labels rest → truth held rest ≡ not (list_any (truth held) labels)
+pub rest_true : (held : ℕ → Bool) (labels : List LabelTree) (rest : LabelTree) → IsRestLabel labels rest → truth held rest ≡ not (list_any (truth held) labels)
 rest_true held [] rest is = ap (truth held) is
 rest_true held (label ∷ labels) rest is = ap (truth held) is.2 ∙ ap not (any_true held (label ∷ labels) is.0 is.1)
 
@@ -28,10 +28,10 @@ not_true true e = sym e
 not_true false e = refl
 
 -- the rest can be true exactly where a letter is lacking
-pub rest_lacks : (labels : List LabelTree) (rest : LabelTree) → IsRest labels rest → IsSatisfiable rest → LacksLetter labels
+pub rest_lacks : (labels : List LabelTree) (rest : LabelTree) → IsRestLabel labels rest → IsSatisfiable rest → LacksLetter labels
 rest_lacks labels rest is (held, holds) = (held, not_true (list_any (truth held) labels) (sym (rest_true held labels rest is) ∙ holds))
 
-pub lacks_rest : (labels : List LabelTree) (rest : LabelTree) → IsRest labels rest → LacksLetter labels → IsSatisfiable rest
+pub lacks_rest : (labels : List LabelTree) (rest : LabelTree) → IsRestLabel labels rest → LacksLetter labels → IsSatisfiable rest
 lacks_rest labels rest is (held, none) = (held, rest_true held labels rest is ∙ ap not none)
 
 -- the alternative of labels is one, since its halves are
@@ -68,6 +68,6 @@ any_one labels others x y same (halves left right u v even first second) (halves
     backs = sym (drop-append_seam left right) ∙ ap₂ (λ (n : ℕ) (ls : List LabelTree). drop n ls) middle same ∙ drop-append_seam front back
 
 -- so is the rest
-pub rest_one : (labels : List LabelTree) (x y : LabelTree) → IsRest labels x → IsRest labels y → x ≡ y
+pub rest_one : (labels : List LabelTree) (x y : LabelTree) → IsRestLabel labels x → IsRestLabel labels y → x ≡ y
 rest_one [] x y one other = one ∙ sym other
 rest_one (l ∷ labels) x y one other = one.2 ∙ ap negation (any_one (l ∷ labels) (l ∷ labels) one.0 other.0 refl one.1 other.1) ∙ sym other.2

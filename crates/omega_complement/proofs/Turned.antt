@@ -7,7 +7,7 @@ use Rattle.omega_automaton.specs.Automaton.{Description}
 use Rattle.omega_raw.specs.declared.raw_state.RawState.{RawState}
 use Rattle.omega_complement.specs.Judged.{AreFitting}
 use Rattle.omega_complement.specs.Labels.{is_full, labels_at, state_at}
-use Rattle.omega_complement.specs.Letters.{AreApart, LacksLetter}
+use Rattle.omega_complement.specs.Letters.{AreExclusive, LacksLetter}
 use Rattle.omega_complement.specs.Written.{IsTurned}
 use Rattle.omega_complement.specs.private.Turned.{AreTurned}
 
@@ -46,7 +46,7 @@ module _ (a : Description) where
   }
 
   pub turned_more : (count : ℕ) (states : List RawState) (lacks : Bool) (raw : RawState) (more : Bool) → AreTurned a count states lacks
-      → IsTurned (length a.propositions) a.states (state_at a count) raw → AreApart (labels_at a count)
+      → IsTurned (length a.propositions) a.states (state_at a count) raw → AreExclusive (labels_at a count)
       → AreFitting (is_full (length a.propositions) (state_at a count)) (labels_at a count) → IsTrue more ↔ LacksLetter (labels_at a count)
       → AreTurned a (count + 1) (states ++ raw ∷ []) (lacks || more)
   turned_more count states lacks raw more are turned apart fitting lacking = record {
@@ -66,9 +66,9 @@ module _ (a : Description) where
       more_is : count + 1 ≡ suc count
       more_is = omega arith
 
-      at : (number : ℕ) → (number < count) ⊎ (count ≤ number) → number < count + 1 → AreApart (labels_at a number)
+      at : (number : ℕ) → (number < count) ⊎ (count ≤ number) → number < count + 1 → AreExclusive (labels_at a number)
       at number (inl before) below = are.apart number before
-      at number (inr past) below = let last : number ≡ count = omega arith in subst (λ n. AreApart (labels_at a n)) (sym last) apart
+      at number (inr past) below = let last : number ≡ count = omega arith in subst (λ n. AreExclusive (labels_at a n)) (sym last) apart
 
       Fitting : ℕ → Type 0
       Fitting n = AreFitting (is_full (length a.propositions) (state_at a n)) (labels_at a n)

@@ -12,7 +12,7 @@ use Rattle.omega_raw.specs.declared.raw_automaton.RawAutomaton.{RawAutomaton}
 use Rattle.omega_complement.specs.Dual.{dual}
 use Rattle.omega_complement.specs.Judged.{AreFitting}
 use Rattle.omega_complement.specs.Labels.{is_full, labels_at, state_at}
-use Rattle.omega_complement.specs.Letters.{AreApart}
+use Rattle.omega_complement.specs.Letters.{AreExclusive}
 use Rattle.omega_complement.specs.Written.{IsWrittenComplement}
 use Rattle.omega_written.specs.Limits.{most_edges, most_states}
 
@@ -28,14 +28,14 @@ has_no_room a =
     || nat_le most_depth (raw_acc_depth (acc_written (dual a.acceptance)))
 
 -- at each letter one edge at most of each state with a number below this one can be taken
-abbrev pub AreApartBelow : Description → ℕ → Type 0
-AreApartBelow a count = (number : ℕ) → number < count → AreApart (labels_at a number)
+abbrev pub AreExclusiveBelow : Description → ℕ → Type 0
+AreExclusiveBelow a count = (number : ℕ) → number < count → AreExclusive (labels_at a number)
 
 -- an automaton is deterministic: one start at most, and at each letter one edge at most of each state
 pub record IsDeterministic (a : Description) : Type 0 where
   pub plain : has_branch a ≡ false
   pub one_start : length a.starts ≤ 1
-  pub apart : AreApartBelow a a.states
+  pub apart : AreExclusiveBelow a a.states
 
 -- of each state with a number below this one the labels that are judged fit, and those that are written do
 abbrev pub AreFittingBelow : Description → ℕ → Type 0
@@ -43,7 +43,7 @@ AreFittingBelow a count =
     (number : ℕ) → number < count → AreFitting (is_full (length a.propositions) (state_at a number)) (labels_at a number)
 
 -- no refusal is due
-pub record IsGiven (a : Description) : Type 0 where
+pub record HasComplement (a : Description) : Type 0 where
   pub deterministic : IsDeterministic a
   pub room : has_no_room a ≡ false
   pub fitting : AreFittingBelow a a.states

@@ -4,7 +4,7 @@ use Rattle.omega_acc.specs.Limits.{most_mentioned}
 use Rattle.omega_acc.specs.label.Label.{LabelTree, conjunction}
 use Rattle.omega_acc.specs.label.Satisfiable.{mentioned}
 use Rattle.omega_acc.specs.label.Shape.{FitsALabel}
-use Rattle.omega_complement.specs.Letters.{IsPair, IsRest, LacksLetter}
+use Rattle.omega_complement.specs.Letters.{IsPair, IsRestLabel, LacksLetter}
 use Rattle.omega_written.specs.Fitting.{FitsAText}
 
 -- the label of an edge
@@ -17,25 +17,25 @@ IsBoth labels label = (one : LabelTree) × ((other : LabelTree) × IsPair labels
 
 -- a label that is judged of a state, where there is not an edge for each valuation: that of two edges together, and
 -- that of the rest of the letters
-abbrev pub IsJudged : Bool → List LabelTree → LabelTree → Type 0
-IsJudged full labels label = (full ≡ false) × (IsBoth labels label ⊎ IsRest labels label)
+abbrev pub IsJudgedLabel : Bool → List LabelTree → LabelTree → Type 0
+IsJudgedLabel full labels label = (full ≡ false) × (IsBoth labels label ⊎ IsRestLabel labels label)
 
 -- a label that is written of a state: that of an edge, and that of the rest of the letters, where it has some
-abbrev pub IsWritten : List LabelTree → LabelTree → Type 0
-IsWritten labels label = IsOne labels label ⊎ (LacksLetter labels × IsRest labels label)
+abbrev pub IsWrittenLabel : List LabelTree → LabelTree → Type 0
+IsWrittenLabel labels label = IsOne labels label ⊎ (LacksLetter labels × IsRestLabel labels label)
 
 -- the labels that are judged are neither too deep nor too large, and those that are written are not with the
 -- parentheses that they need
 pub record AreFitting (full : Bool) (labels : List LabelTree) : Type 0 where
-  pub judged : (label : LabelTree) → IsJudged full labels label → FitsALabel label
-  pub written : (label : LabelTree) → IsWritten labels label → FitsAText label
+  pub judged : (label : LabelTree) → IsJudgedLabel full labels label → FitsALabel label
+  pub written : (label : LabelTree) → IsWrittenLabel labels label → FitsAText label
 
 -- a label that is judged mentions more propositions than the limit
-abbrev pub HasWide : Bool → List LabelTree → Type 0
-HasWide full labels = (label : LabelTree) × IsJudged full labels label × (most_mentioned < length (mentioned label))
+abbrev pub HasWideJudged : Bool → List LabelTree → Type 0
+HasWideJudged full labels = (label : LabelTree) × IsJudgedLabel full labels label × (most_mentioned < length (mentioned label))
 
 -- a label that is judged, or one that is written with its parentheses, is too deep or too large
-abbrev pub HasLarge : Bool → List LabelTree → Type 0
-HasLarge full labels =
-    ((label : LabelTree) × IsJudged full labels label × (FitsALabel label → ⊥))
-    ⊎ ((label : LabelTree) × IsWritten labels label × (FitsAText label → ⊥))
+abbrev pub HasLargeJudged : Bool → List LabelTree → Type 0
+HasLargeJudged full labels =
+    ((label : LabelTree) × IsJudgedLabel full labels label × (FitsALabel label → ⊥))
+    ⊎ ((label : LabelTree) × IsWrittenLabel labels label × (FitsAText label → ⊥))

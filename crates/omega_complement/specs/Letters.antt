@@ -18,8 +18,8 @@ abbrev pub HasClash : List LabelTree → Type 0
 HasClash labels = (one : LabelTree) × ((other : LabelTree) × IsPair labels one other × IsSatisfiable (conjunction one other))
 
 -- at each letter one edge at most can be taken
-abbrev pub AreApart : List LabelTree → Type 0
-AreApart labels = HasClash labels → ⊥
+abbrev pub AreExclusive : List LabelTree → Type 0
+AreExclusive labels = HasClash labels → ⊥
 
 -- at some letter no edge can be taken
 abbrev pub LacksLetter : List LabelTree → Type 0
@@ -32,6 +32,6 @@ pub data IsAnyOf : List LabelTree → LabelTree → Type 0 where
       → IsAnyOf left one → IsAnyOf right other → IsAnyOf (left ++ right) (disjunction one other)
 
 -- the label of the letters at which no edge can be taken: `t` where there is none, else `!` before any of the labels
-abbrev pub IsRest : List LabelTree → LabelTree → Type 0
-IsRest [] rest = rest ≡ constant true
-IsRest (label ∷ labels) rest = (any : LabelTree) × IsAnyOf (label ∷ labels) any × (rest ≡ negation any)
+abbrev pub IsRestLabel : List LabelTree → LabelTree → Type 0
+IsRestLabel [] rest = rest ≡ constant true
+IsRestLabel (label ∷ labels) rest = (any : LabelTree) × IsAnyOf (label ∷ labels) any × (rest ≡ negation any)

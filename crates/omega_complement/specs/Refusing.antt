@@ -11,8 +11,8 @@ use Rattle.omega_automaton.specs.Automaton.{Description}
 use Rattle.omega_automaton.specs.Branching.{has_branch}
 use Rattle.omega_automaton.specs.Faults.{automaton_fault_of}
 use Rattle.omega_raw.specs.declared.raw_automaton.RawAutomaton.{RawAutomaton}
-use Rattle.omega_complement.specs.Complement.{AreApartBelow, AreFittingBelow, has_no_room}
-use Rattle.omega_complement.specs.Judged.{HasLarge, HasWide}
+use Rattle.omega_complement.specs.Complement.{AreExclusiveBelow, AreFittingBelow, has_no_room}
+use Rattle.omega_complement.specs.Judged.{HasLargeJudged, HasWideJudged}
 use Rattle.omega_complement.specs.Labels.{is_full, labels_at, state_at}
 use Rattle.omega_complement.specs.Letters.{HasClash}
 use Rattle.omega_complement.specs.Written.{IsWrittenComplement}
@@ -25,34 +25,34 @@ IsSecondStart a state = (start : List ℕ) × (slice_get a.starts 1 ≡ Some sta
 abbrev pub IsStateFault : Bool → List LabelTree → ℕ → TaskFault → Type 0
 IsStateFault full labels number NotParity = ⊥
 IsStateFault full labels number UniversalBranch = ⊥
-IsStateFault full labels number TooManyPropositions = HasWide full labels
+IsStateFault full labels number TooManyPropositions = HasWideJudged full labels
 IsStateFault full labels number TooWide = ⊥
 IsStateFault full labels number Budget = ⊥
 IsStateFault full labels number BadSolution = ⊥
 IsStateFault full labels number UnknownNode = ⊥
-IsStateFault full labels number TooLarge = HasLarge full labels
+IsStateFault full labels number TooLarge = HasLargeJudged full labels
 IsStateFault full labels number (NotDeterministic state) = (state ≡ number) × HasClash labels
 
 -- a fault of a state, before which by number each state is deterministic and its labels fit
 abbrev pub IsFirstFault : Description → TaskFault → Type 0
 IsFirstFault a fault =
-    (number : ℕ) × (number < a.states) × AreApartBelow a number × AreFittingBelow a number
+    (number : ℕ) × (number < a.states) × AreExclusiveBelow a number × AreFittingBelow a number
     × IsStateFault (is_full (length a.propositions) (state_at a number)) (labels_at a number) number fault
 
 -- what is written breaks a limit of automata
 abbrev pub IsUnwritable : Description → Type 0
 IsUnwritable a =
-    AreApartBelow a a.states × AreFittingBelow a a.states
+    AreExclusiveBelow a a.states × AreFittingBelow a a.states
     × ((raw : RawAutomaton) × IsWrittenComplement a raw × ((fault : AutomatonFault) × (automaton_fault_of raw ≡ Some fault)))
 
 -- neither 41 nor 55 by the counts applies
-pub record HasRoom (a : Description) : Type 0 where
+pub record HasComplementRoom (a : Description) : Type 0 where
   pub plain : has_branch a ≡ false
   pub room : has_no_room a ≡ false
 
 -- nor does 56 by the starts
 pub record HasStart (a : Description) : Type 0 where
-  pub room : HasRoom a
+  pub room : HasComplementRoom a
   pub one_start : length a.starts ≤ 1
 
 -- a fault of the complement
@@ -67,7 +67,7 @@ IsComplementFault a UnknownNode = ⊥
 IsComplementFault a TooLarge =
     ((has_branch a ≡ false) × (has_no_room a ≡ true)) ⊎ (HasStart a × (IsFirstFault a TooLarge ⊎ IsUnwritable a))
 IsComplementFault a (NotDeterministic state) =
-    (HasRoom a × IsSecondStart a state) ⊎ (HasStart a × IsFirstFault a (NotDeterministic state))
+    (HasComplementRoom a × IsSecondStart a state) ⊎ (HasStart a × IsFirstFault a (NotDeterministic state))
 
 -- the refusal of the complement
 abbrev pub IsUncomplemented : Description → Refusal → Type 0

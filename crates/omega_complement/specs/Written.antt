@@ -18,7 +18,7 @@ use Rattle.omega_raw.specs.declared.raw_item.RawItem.TheVariants as item
 use Rattle.omega_raw.specs.declared.raw_state.RawState.{RawState}
 use Rattle.omega_complement.specs.Dual.{dual}
 use Rattle.omega_complement.specs.Labels.{each_by_index, labels_at, labels_of, state_at}
-use Rattle.omega_complement.specs.Letters.{IsRest, LacksLetter}
+use Rattle.omega_complement.specs.Letters.{IsRestLabel, LacksLetter}
 use Rattle.omega_written.specs.Labels.{label_at}
 
 -- an edge of a state by its index, to which label and marks of the state have moved
@@ -36,7 +36,7 @@ turned_edges count state = each_by_index (turned_edge count state) 0 state.edges
 -- the letters at which no edge can be taken, as they are written; none where there is an edge for each letter
 abbrev pub IsMissing : List LabelTree → Option RawLabelTree → Type 0
 IsMissing labels None = LacksLetter labels → ⊥
-IsMissing labels (Some written) = LacksLetter labels × ((rest : LabelTree) × IsRest labels rest × (written ≡ label_written rest))
+IsMissing labels (Some written) = LacksLetter labels × ((rest : LabelTree) × IsRestLabel labels rest × (written ≡ label_written rest))
 
 -- the further edge to the sink for the letters that are missing
 abbrev pub further_edges : ℕ → Option RawLabelTree → List RawEdge

@@ -3,7 +3,7 @@
 ghost use Rattle.std.specs.Prelude.{◌≡◌, ◌≤◌, ℕ, length, IfErr, IfOk, OnOk};
 ghost use Rattle.omega_text.specs.Cases.{never, or_memory, or_task};
 ghost use Rattle.omega_text.specs.declared.refusal.task.TaskFault.TheVariants.{NotDeterministic};
-ghost use Rattle.omega_complement.specs.Complement.{IsComplement, IsGiven};
+ghost use Rattle.omega_complement.specs.Complement.{HasComplement, IsComplement};
 ghost use Rattle.omega_complement.specs.Refusing.{IsUncomplemented, IsSecondStart};
 
 use crate::acceptance::dual_acceptance;
@@ -35,7 +35,7 @@ use std::alloc::Global;
 /// each valuation nothing.
 pub fn complement(alloc: Global, automaton: &Automaton) -> Result<Automaton, Refusal>
     ensures complement { IfOk result (IsComplement automaton.now) }
-    ensures given { OnOk result (IsGiven automaton.now) }
+    ensures given { OnOk result (HasComplement automaton.now) }
     ensures refused { IfErr result (IsUncomplemented automaton.now) }
 {
     if has_branch(automaton) {

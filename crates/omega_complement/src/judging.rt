@@ -5,7 +5,7 @@ ghost use Rattle.omega_acc.specs.label.Label.{LabelTree, conjunction};
 ghost use Rattle.omega_acc.specs.label.Satisfiable.{IsSatisfiable};
 ghost use Rattle.omega_acc.specs.label.Shape.{FitsALabel, label_tree_of_shape};
 ghost use Rattle.omega_complement.specs.Judged.{IsBoth};
-ghost use Rattle.omega_complement.specs.Letters.{AreApart};
+ghost use Rattle.omega_complement.specs.Letters.{AreExclusive};
 ghost use Rattle.omega_complement.specs.private.Apart.{IsApartFrom};
 ghost use Rattle.omega_complement.specs.private.Turned.{IsStateRefusal, IsUnjudged};
 
@@ -29,7 +29,7 @@ pub(crate) fn can_hold(alloc: Global, shape: &LabelShape) -> Result<bool, Refusa
 /// Nothing where at each letter one edge at most can be taken. 56 where at some letter two can be, with the number of
 /// the state, or else 42, 55 or 60. Judges each two labels together.
 pub(crate) fn judge_apart(alloc: Global, labels: &[Label], number: u32) -> Result<(), Refusal>
-    ensures apart { OnOk result (AreApart labels.now) }
+    ensures apart { OnOk result (AreExclusive labels.now) }
     ensures fits { OnOk result ((label : LabelTree) → IsBoth labels.now label → FitsALabel label) }
     ensures err { IfErr result (IsStateRefusal false labels.now number) }
 {

@@ -4,7 +4,7 @@ ghost use Rattle.std.specs.Prelude.{◌<◌, false, length, IfErr, IfOk, OnOk};
 ghost use Rattle.omega_text.specs.Cases.{IsMemory};
 ghost use Rattle.omega_acc.specs.label.Label.{LabelTree};
 ghost use Rattle.omega_acc.specs.label.Shape.{FitsALabel, label_tree_of_shape};
-ghost use Rattle.omega_complement.specs.Letters.{IsAnyOf, IsRest, LacksLetter};
+ghost use Rattle.omega_complement.specs.Letters.{IsAnyOf, IsRestLabel, LacksLetter};
 ghost use Rattle.omega_complement.specs.Written.{IsMissing};
 ghost use Rattle.omega_complement.specs.private.Turned.{IsStateRefusal};
 ghost use Rattle.omega_written.specs.Fitting.{FitsAText};
@@ -22,8 +22,8 @@ pub(crate) fn missing(
     _number: u32,
 ) -> Result<Option<RawLabel>, Refusal>
     ensures missing { IfOk result (IsMissing labels.now) }
-    ensures judged { OnOk result ((label : LabelTree) → IsRest labels.now label → FitsALabel label) }
-    ensures written { OnOk result (LacksLetter labels.now → (label : LabelTree) → IsRest labels.now label → FitsAText label) }
+    ensures judged { OnOk result ((label : LabelTree) → IsRestLabel labels.now label → FitsALabel label) }
+    ensures written { OnOk result (LacksLetter labels.now → (label : LabelTree) → IsRestLabel labels.now label → FitsAText label) }
     ensures err { IfErr result (IsStateRefusal false labels.now _number) }
 {
     let rest = rest_of(alloc, labels)?;
@@ -36,7 +36,7 @@ pub(crate) fn missing(
 
 /// The label of the letters at which no edge can be taken. 60 alone.
 fn rest_of(alloc: Global, labels: &[Label]) -> Result<LabelShape, Refusal>
-    ensures rest { IfOk result (λ shape. IsRest labels.now (label_tree_of_shape shape)) }
+    ensures rest { IfOk result (λ shape. IsRestLabel labels.now (label_tree_of_shape shape)) }
     ensures err { IfErr result IsMemory }
 {
     if labels.is_empty() {

@@ -3,7 +3,7 @@
 ghost use Rattle.std.specs.Prelude.{◌≡◌, ◌↔◌, ◌||◌, length, map, IsTrue, IfErr, IfOk, OnOk};
 ghost use Rattle.omega_complement.specs.Judged.{AreFitting};
 ghost use Rattle.omega_complement.specs.Labels.{is_full, labels_at, state_at, undefined as undefined_state};
-ghost use Rattle.omega_complement.specs.Letters.{AreApart, LacksLetter};
+ghost use Rattle.omega_complement.specs.Letters.{AreExclusive, LacksLetter};
 ghost use Rattle.omega_complement.specs.Written.{IsTurned};
 ghost use Rattle.omega_complement.specs.private.Turned.{AreRefused, AreTurned, IsStateRefusal};
 
@@ -56,7 +56,7 @@ fn turned_at(
     requires { places.now.keys ≡ map (λ state. state.number) automaton.now.defined }
     ensures turned { IfOk result (λ turned. IsTurned (length automaton.now.propositions) automaton.now.states (state_at automaton.now number) turned.state) }
     ensures lacks { IfOk result (λ turned. IsTrue turned.lacks ↔ LacksLetter (labels_at automaton.now number)) }
-    ensures apart { OnOk result (AreApart (labels_at automaton.now number)) }
+    ensures apart { OnOk result (AreExclusive (labels_at automaton.now number)) }
     ensures fitting { OnOk result (AreFitting (is_full (length automaton.now.propositions) (state_at automaton.now number)) (labels_at automaton.now number)) }
     ensures err { IfErr result (IsStateRefusal (is_full (length automaton.now.propositions) (state_at automaton.now number)) (labels_at automaton.now number) number) }
 {

@@ -5,9 +5,9 @@ ghost use Rattle.std.specs.List.{All, list_all};
 ghost use Rattle.omega_text.specs.Cases.{IsMemory};
 ghost use Rattle.omega_acc.specs.label.Label.{LabelTree};
 ghost use Rattle.omega_acc.specs.label.Shape.{FitsALabel};
-ghost use Rattle.omega_complement.specs.Judged.{AreFitting, IsJudged};
+ghost use Rattle.omega_complement.specs.Judged.{AreFitting, IsJudgedLabel};
 ghost use Rattle.omega_complement.specs.Labels.{is_full as has_all_edges, labels_of as labels_of_state};
-ghost use Rattle.omega_complement.specs.Letters.{AreApart, IsRest, LacksLetter};
+ghost use Rattle.omega_complement.specs.Letters.{AreExclusive, IsRestLabel, LacksLetter};
 ghost use Rattle.omega_complement.specs.Written.{IsMissing, IsTurned, further_edges, turned_edge as edge_turned, turned_edges as edges_turned};
 ghost use Rattle.omega_complement.specs.private.Turned.{IsStateRefusal};
 ghost use Rattle.omega_written.specs.Fitting.{FitsAText, IsLarge};
@@ -39,7 +39,7 @@ pub(crate) fn turned_state(
 ) -> Result<Turned, Refusal>
     ensures turned { IfOk result (λ turned. IsTurned count sink state.now turned.state) }
     ensures lacks { IfOk result (λ turned. IsTrue turned.lacks ↔ LacksLetter (labels_of_state count state.now)) }
-    ensures apart { OnOk result (AreApart (labels_of_state count state.now)) }
+    ensures apart { OnOk result (AreExclusive (labels_of_state count state.now)) }
     ensures fitting { OnOk result (AreFitting (has_all_edges count state.now) (labels_of_state count state.now)) }
     ensures err { IfErr result (IsStateRefusal (has_all_edges count state.now) (labels_of_state count state.now) state.now.number) }
 {
@@ -71,9 +71,9 @@ fn judged(
 ) -> Result<Option<RawLabel>, Refusal>
     requires { labels.now ≡ labels_of_state count state.now }
     ensures missing { IfOk result (IsMissing labels.now) }
-    ensures apart { OnOk result (AreApart labels.now) }
-    ensures judged { OnOk result ((label : LabelTree) → IsJudged (has_all_edges count state.now) labels.now label → FitsALabel label) }
-    ensures written { OnOk result (LacksLetter labels.now → (label : LabelTree) → IsRest labels.now label → FitsAText label) }
+    ensures apart { OnOk result (AreExclusive labels.now) }
+    ensures judged { OnOk result ((label : LabelTree) → IsJudgedLabel (has_all_edges count state.now) labels.now label → FitsALabel label) }
+    ensures written { OnOk result (LacksLetter labels.now → (label : LabelTree) → IsRestLabel labels.now label → FitsAText label) }
     ensures err { IfErr result (IsStateRefusal (has_all_edges count state.now) labels.now state.now.number) }
 {
     if is_full(count, state) {

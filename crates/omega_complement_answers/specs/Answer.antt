@@ -3,7 +3,7 @@ use Rattle.std.specs.Prelude.{◌≡◌, ◌⊎◌, List, ℕ}
 use Rattle.omega_text.specs.declared.refusal.Refusal.{Refusal}
 use Rattle.omega_automaton.specs.Automaton.{Description}
 use Rattle.omega_canon.specs.Canonical.{canonical_automaton}
-use Rattle.omega_complement.specs.Complement.{IsComplement, IsGiven}
+use Rattle.omega_complement.specs.Complement.{HasComplement, IsComplement}
 use Rattle.omega_complement.specs.Refusing.{IsUncomplemented}
 use Rattle.omega_hoa.specs.Alone.{IsAutomatonRefusal, IsAutomatonText}
 
@@ -12,7 +12,7 @@ use Rattle.omega_hoa.specs.Alone.{IsAutomatonRefusal, IsAutomatonText}
 pub record IsComplementAnswer (text output : List ℕ) : Type 0 where
   pub automaton : Description
   pub read : IsAutomatonText text automaton
-  pub given : IsGiven automaton
+  pub given : HasComplement automaton
   pub complement : Description
   pub right : IsComplement automaton complement
   pub written : output ≡ canonical_automaton complement

@@ -1,5 +1,5 @@
 ghost use Rattle.std.specs.Prelude.{IfErr, IfOk, OnOk};
-ghost use Rattle.omega_complement.specs.Complement.{IsComplement, IsGiven};
+ghost use Rattle.omega_complement.specs.Complement.{HasComplement, IsComplement};
 ghost use Rattle.omega_complement.specs.Refusing.{IsUncomplemented};
 ghost use Rattle.omega_complement_answers.specs.Answer.{IsComplementAnswer, IsComplementRefusal};
 ghost use Rattle.omega_text.specs.Cases.{or_memory};
@@ -25,7 +25,7 @@ pub fn complement_text(alloc: Global, text: &[u8]) -> Result<Vec<u8>, Refusal>
 /// The complement of an automaton, which is let go. 41, 42, 55, 56 or 60.
 fn complemented(alloc: Global, automaton: Automaton) -> Result<Automaton, Refusal>
     ensures complement { IfOk result (IsComplement automaton) }
-    ensures given { OnOk result (IsGiven automaton) }
+    ensures given { OnOk result (HasComplement automaton) }
     ensures refused { IfErr result (IsUncomplemented automaton) }
 {
     complement(alloc, &automaton)

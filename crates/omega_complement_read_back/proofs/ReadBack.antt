@@ -14,7 +14,7 @@ use Rattle.omega_automaton.specs.Laws.{MeaningsAreAutomata}
 use Rattle.omega_automaton.specs.declared.edge.Edge.{Edge}
 use Rattle.omega_automaton.specs.declared.state.State.{State}
 use Rattle.omega_canon.specs.Canonical.{canonical_automaton}
-use Rattle.omega_complement.specs.Complement.{IsComplement, IsGiven}
+use Rattle.omega_complement.specs.Complement.{HasComplement, IsComplement}
 use Rattle.omega_complement.specs.Labels.{each_by_index, labels_of, state_among, state_at}
 use Rattle.omega_complement.specs.Written.{IsMissing, IsTurned, complement_acceptance, further_edges, header, one_if, sinks, turned_edge, turned_edges}
 use Rattle.omega_complement.proofs.RoomTests.{fits}
@@ -84,7 +84,7 @@ one_more true count small = omega (arith, small)
 one_more false count small = omega (arith, small)
 
 -- the header
-module _ (formulas : WrittenFormulasMean) (a : Description) (writable : IsWritableAutomaton a) (given : IsGiven a) (sink : Bool) where
+module _ (formulas : WrittenFormulasMean) (a : Description) (writable : IsWritableAutomaton a) (given : HasComplement a) (sink : Bool) where
   start : AreJoined (slice_index_or a.starts 0 (a.states ∷ []))
   start = start_joined a.starts a.states writable.states writable.starts
 
@@ -103,7 +103,7 @@ module _ (formulas : WrittenFormulasMean) (a : Description) (writable : IsWritab
   items_raw : AllByRecursion IsRawItem (header a sink)
   items_raw = (tt, (start.listed, (tt, (tt, tt))))
 
-pub complement-read : Known → Meanings → MeaningsAreAutomata → AutomataFillSegments → ReadAutomataAreWritable → (a complement : Description) → WasRead a → IsGiven a
+pub complement-read : Known → Meanings → MeaningsAreAutomata → AutomataFillSegments → ReadAutomataAreWritable → (a complement : Description) → WasRead a → HasComplement a
     → IsComplement a complement → length (canonical_automaton complement) ≤ most_text → IsAutomatonText (canonical_automaton complement) complement
 complement-read known meanings automata fill writable a complement was given (raw, written, means) short =
     let can : IsWritableAutomaton a = writable a was in

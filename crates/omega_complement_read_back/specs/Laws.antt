@@ -3,7 +3,7 @@ use Rattle.std.specs.Prelude.{◌≤◌, length}
 use Rattle.omega_text.specs.Limits.{most_text}
 use Rattle.omega_automaton.specs.Automaton.{Description}
 use Rattle.omega_canon.specs.Canonical.{canonical_automaton}
-use Rattle.omega_complement.specs.Complement.{IsComplement, IsGiven}
+use Rattle.omega_complement.specs.Complement.{HasComplement, IsComplement}
 use Rattle.omega_hoa.specs.Alone.{IsAutomatonText}
 use Rattle.omega_read_back.specs.Laws.{WasRead}
 
@@ -11,5 +11,5 @@ use Rattle.omega_read_back.specs.Laws.{WasRead}
 -- complement
 abbrev pub ComplementsAreReadBack : Type 0
 ComplementsAreReadBack =
-    (a complement : Description) → WasRead a → IsGiven a → IsComplement a complement
+    (a complement : Description) → WasRead a → HasComplement a → IsComplement a complement
     → length (canonical_automaton complement) ≤ most_text → IsAutomatonText (canonical_automaton complement) complement

@@ -14,17 +14,17 @@ abbrev pub IsInside : ℕ → Edge → Type 0
 IsInside states edge = (edge.from < states) × (edge.to < states)
 
 -- each edge is inside, and has a number
-pub record IsShape (shape : Shape) : Type 0 where
+pub record IsGraphShape (shape : Shape) : Type 0 where
   pub inside : All (IsInside shape.states) shape.edges
   pub numbered : length shape.edges < 2 ^ 32
 
 -- the edge of a number
-abbrev pub edge_at : Shape → ℕ → Edge
-edge_at shape number = slice_index_or shape.edges number (record { from = 0; to = 0 })
+abbrev pub ends_at : Shape → ℕ → Edge
+ends_at shape number = slice_index_or shape.edges number (record { from = 0; to = 0 })
 
 -- the graph with marks at its edges
 abbrev pub marked : Shape → (ℕ → List ℕ) → MarkedGraph
-marked shape marks number = record { from = (edge_at shape number).from; to = (edge_at shape number).to; marks = marks number }
+marked shape marks number = record { from = (ends_at shape number).from; to = (ends_at shape number).to; marks = marks number }
 
 -- the set of the edges of a list
 abbrev pub listed : List ℕ → EdgeSet

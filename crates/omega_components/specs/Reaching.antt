@@ -9,5 +9,5 @@ pub record IsWalkFrom (graph : MarkedGraph) (edges : EdgeSet) (sources : List �
   pub leads : IsEdgeWalk graph edges source walk state
 
 -- there is one
-abbrev pub IsReached : MarkedGraph → EdgeSet → List ℕ → ℕ → Type 0
-IsReached graph edges sources state = (walk : List ℕ) × IsWalkFrom graph edges sources walk state
+abbrev pub IsReachedAlong : MarkedGraph → EdgeSet → List ℕ → ℕ → Type 0
+IsReachedAlong graph edges sources state = (walk : List ℕ) × IsWalkFrom graph edges sources walk state

@@ -1,6 +1,6 @@
 //! The ends of the edges of a list.
 ghost use Rattle.std.specs.Prelude.{◌≡◌, ◌<◌, All, IfOk, map};
-ghost use Rattle.omega_components.specs.Graph.{AreEdges, edge_at};
+ghost use Rattle.omega_components.specs.Graph.{AreEdges, ends_at};
 
 use crate::graph::Graph;
 use std::alloc::{AllocError, Global};
@@ -8,7 +8,7 @@ use std::alloc::{AllocError, Global};
 /// The states that edges leave.
 pub(crate) fn leaves_of(alloc: Global, graph: &Graph, edges: &[u32]) -> Result<Vec<u32>, AllocError>
     requires { AreEdges graph.now edges.now }
-    ensures leaves { IfOk result (λ leaves. leaves.items ≡ map (λ edge. (edge_at graph.now edge).from) edges.now) }
+    ensures leaves { IfOk result (λ leaves. leaves.items ≡ map (λ edge. (ends_at graph.now edge).from) edges.now) }
     ensures inside { IfOk result (λ leaves. All (λ state. state < graph.now.states) leaves.items) }
 {
     let mut leaves = Vec::with_capacity(alloc, edges.len())?;
@@ -21,7 +21,7 @@ pub(crate) fn leaves_of(alloc: Global, graph: &Graph, edges: &[u32]) -> Result<V
 /// The states that edges enter.
 pub(crate) fn enters_of(alloc: Global, graph: &Graph, edges: &[u32]) -> Result<Vec<u32>, AllocError>
     requires { AreEdges graph.now edges.now }
-    ensures enters { IfOk result (λ enters. enters.items ≡ map (λ edge. (edge_at graph.now edge).to) edges.now) }
+    ensures enters { IfOk result (λ enters. enters.items ≡ map (λ edge. (ends_at graph.now edge).to) edges.now) }
     ensures inside { IfOk result (λ enters. All (λ state. state < graph.now.states) enters.items) }
 {
     let mut enters = Vec::with_capacity(alloc, edges.len())?;

@@ -1,5 +1,5 @@
 ghost use Rattle.std.specs.Prelude.{◌≡◌, ◌<◌, ◌^◌, [], ◌∷◌, ◌++◌, length, OnOk, OnErr, IsOkUnless};
-ghost use Rattle.omega_components.specs.Graph.{edge_at};
+ghost use Rattle.omega_components.specs.Graph.{ends_at};
 
 use crate::edge::Edge;
 use omega_text::Refusal;
@@ -15,13 +15,13 @@ pub struct Graph {
 }
 
 impl Model for Graph {
-    ghost use Rattle.omega_components.specs.Graph.{Shape, IsShape};
+    ghost use Rattle.omega_components.specs.Graph.{Shape, IsGraphShape};
 
     ghost Value = { Shape };
 
     ghost view = { λ g. record { states = g.states; edges = g.edges.items } };
 
-    ghost invariant = { λ g. IsShape (record { states = g.states; edges = g.edges.items }) };
+    ghost invariant = { λ g. IsGraphShape (record { states = g.states; edges = g.edges.items }) };
 }
 
 impl Graph {
@@ -71,7 +71,7 @@ impl Graph {
     /// The state that an edge leaves.
     pub fn from(&self, edge: u32) -> u32
         requires { edge < length self.now.edges }
-        ensures from { result ≡ (edge_at self.now edge).from }
+        ensures from { result ≡ (ends_at self.now edge).from }
         ensures inside { result < self.now.states }
     {
         self.edges[edge as usize].from
@@ -80,7 +80,7 @@ impl Graph {
     /// The state that an edge enters.
     pub fn to(&self, edge: u32) -> u32
         requires { edge < length self.now.edges }
-        ensures to { result ≡ (edge_at self.now edge).to }
+        ensures to { result ≡ (ends_at self.now edge).to }
         ensures inside { result < self.now.states }
     {
         self.edges[edge as usize].to

@@ -1,7 +1,7 @@
 //! Walks of some edges.
 ghost use Rattle.std.specs.Prelude.{◌≡◌, ◌<◌, ℕ, List, IfOk, IfNone, IfSome, IsOkUnless};
 ghost use Rattle.omega_components.specs.Graph.{AreEdges, AreStates, listed, marked};
-ghost use Rattle.omega_components.specs.Reaching.{IsReached, IsWalkFrom};
+ghost use Rattle.omega_components.specs.Reaching.{IsReachedAlong, IsWalkFrom};
 ghost use Rattle.omega_components.specs.private.Searching.{IsSearchFor};
 
 use crate::ends::{enters_of, leaves_of};
@@ -26,7 +26,7 @@ pub fn path(
     requires sources { AreStates graph.now sources.now }
     requires target { target < graph.now.states }
     ensures walk { IfOk result (λ found. IfSome found (λ walk. (marks : ℕ → List ℕ) → IsWalkFrom (marked graph.now marks) (listed edges.now) sources.now walk.items target)) }
-    ensures none { IfOk result (λ found. IfNone found ((marks : ℕ → List ℕ) → ¬ IsReached (marked graph.now marks) (listed edges.now) sources.now target)) }
+    ensures none { IfOk result (λ found. IfNone found ((marks : ℕ → List ℕ) → ¬ IsReachedAlong (marked graph.now marks) (listed edges.now) sources.now target)) }
     ensures memory { IsOkUnless result Refusal.Memory }
 {
     let search = search_for(alloc, graph, edges, sources, target)?;

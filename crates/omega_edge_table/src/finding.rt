@@ -10,6 +10,7 @@ use omega_automaton::{Automaton, State};
 /// An edge by its state and its place there.
 #[derive(Clone, Copy)]
 pub struct FoundEdge<'a> {
+    /// The state that it leaves.
     pub state: &'a State,
     /// Its place among the edges of the state, from 0.
     pub index: usize,

@@ -7,8 +7,8 @@ use Rattle.std.proofs.lemmas.List.Elements.{All-contains, Contains-get_or}
 use Rattle.omega_acc.specs.formula.Acceptance.{AccTree, accepts}
 use Rattle.omega_automaton.specs.Automaton.{AreTargets, Description, IsAutomaton, edges_of}
 use Rattle.omega_automaton.specs.Branching.{has_branch, state_branches}
-use Rattle.omega_components.specs.Graph.{AreEdges, Shape, edge_at as graph_edge, listed, marked}
-use Rattle.omega_components.specs.Reaching.{IsReached, IsWalkFrom}
+use Rattle.omega_components.specs.Graph.{AreEdges, Shape, ends_at, listed, marked}
+use Rattle.omega_components.specs.Reaching.{IsReachedAlong, IsWalkFrom}
 use Rattle.omega_walk.specs.Walks.{EdgeSet, HasAccepting, IsAccepting, IsClosedEdgeWalk, IsEdgeWalk, MarkedGraph, marks_on}
 use Rattle.omega_walk.proofs.Walking.{on_edges, walk_in}
 use Rattle.omega_accepting.specs.Rows.{row_at}
@@ -82,7 +82,7 @@ module _ (a : Description) (automaton : IsAutomaton a) (plain : has_branch a ≡
 
 -- those of some edges that leave a state with a flag
 abbrev pub kept : List Bool → Shape → List ℕ → List ℕ
-kept states graph edges = filter (λ number. get_or states (graph_edge graph number).from false) edges
+kept states graph edges = filter (λ number. get_or states (ends_at graph number).from false) edges
 
 -- a graph with the marks of a list
 abbrev pub seen : List (List ℕ) → Shape → MarkedGraph
@@ -91,7 +91,7 @@ seen rows graph = marked graph (row_at rows)
 -- the flags are those of the states that the edges reach
 abbrev pub AreReached : List (List ℕ) → Shape → List ℕ → List ℕ → List Bool → Type 0
 AreReached rows graph sources edges states =
-    (state : ℕ) → IsTrue (get_or states state false) ↔ IsReached (seen rows graph) (listed edges) sources state
+    (state : ℕ) → IsTrue (get_or states state false) ↔ IsReachedAlong (seen rows graph) (listed edges) sources state
 
 -- a closed walk begins where its first edge does
 first_leaves : (graph : MarkedGraph) (edges : EdgeSet) (walk : List ℕ) (closed : IsClosedEdgeWalk graph edges walk) → (graph (get_or walk 0 0)).from ≡ closed.knot
@@ -104,16 +104,16 @@ first_leaves graph edges walk closed = go walk closed.knot closed.longer closed.
 -- an edge of a closed walk of the edges that are kept is kept
 kept_on : (rows : List (List ℕ)) (graph : Shape) (edges : List ℕ) (states : List Bool) (cycle : List ℕ)
     → IsClosedEdgeWalk (seen rows graph) (listed (kept states graph edges)) cycle → (number : ℕ) → Contains cycle number
-    → Contains edges number × (get_or states (graph_edge graph number).from false ≡ true)
+    → Contains edges number × (get_or states (ends_at graph number).from false ≡ true)
 kept_on rows graph edges states cycle closed number has =
-    filter_has (λ n. get_or states (graph_edge graph n).from false) edges number
+    filter_has (λ n. get_or states (ends_at graph n).from false) edges number
     (listed_has (kept states graph edges) number
     (on_edges (seen rows graph) (listed (kept states graph edges)) closed.knot cycle closed.knot closed.leads number has))
 
 -- a closed walk of edges that accepts, to whose beginning they lead from a source
 record CycleOf (graph : MarkedGraph) (sources edges : List ℕ) (formula : AccTree) (cycle : List ℕ) : Type 0 where
   pub knot : ℕ
-  pub come : IsReached graph (listed edges) sources knot
+  pub come : IsReachedAlong graph (listed edges) sources knot
   pub leads : IsEdgeWalk graph (listed edges) knot cycle knot
   pub longer : 0 < length cycle
   pub accepted : IsTrue (accepts (marks_on graph cycle) formula)
@@ -198,16 +198,16 @@ module _ {a : Description} {rows : List (List ℕ)} {graph : Shape} {sources edg
           };
           accepted = accepting.accepted;
         };
-        reached = (reached (graph_edge graph (get_or cycle 0 0)).from).0 (kept_on rows graph edges states cycle closed (get_or cycle 0 0) first).1;
+        reached = (reached (ends_at graph (get_or cycle 0 0)).from).0 (kept_on rows graph edges states cycle closed (get_or cycle 0 0) first).1;
       }
 
   -- a closed walk that accepts and a walk to it are an accepting lasso
   pub is_lasso : IsSearch a rows graph sources edges → (stem cycle : List ℕ) → IsAccepting (seen rows graph) (listed edges) a.acceptance cycle
-      → IsWalkFrom (seen rows graph) (listed edges) sources stem (graph_edge graph (get_or cycle 0 0)).from → IsAcceptingLasso a stem cycle
+      → IsWalkFrom (seen rows graph) (listed edges) sources stem (ends_at graph (get_or cycle 0 0)).from → IsAcceptingLasso a stem cycle
   is_lasso sought stem cycle accepting way =
       let names : List ℕ = sought.names in
       let knot : ℕ = accepting.closed.knot in
-      let enters : (graph_edge graph (get_or cycle 0 0)).from ≡ knot = first_leaves (seen rows graph) (listed edges) cycle accepting.closed in
+      let enters : (ends_at graph (get_or cycle 0 0)).from ≡ knot = first_leaves (seen rows graph) (listed edges) cycle accepting.closed in
       record {
         lasso = record {
           start = name_in names way.source;

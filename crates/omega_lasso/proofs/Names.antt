@@ -7,7 +7,7 @@ use Rattle.std.proofs.lemmas.List.Elements.{All-head, All-push, All-tail, All-we
 use Rattle.std.proofs.lemmas.Map.Keys.{apart_from_distinct}
 use Rattle.indexmap.specs.IndexSet.{insert_key}
 use Rattle.omega_components.specs.declared.edge.Edge.{Edge}
-use Rattle.omega_lasso.specs.private.Numbering.{AreApart, Grows, IsNamed, ends_in, first_of, name_in}
+use Rattle.omega_lasso.specs.private.Numbering.{AreDistinctNames, Grows, IsNamed, ends_in, first_of, name_in}
 
 -- nothing more
 pub grows_not : (names : List ℕ) → Grows 0 names names
@@ -80,7 +80,7 @@ ends_kept n before after (x ∷ xs) grows all =
     cc
 
 -- names that are distinct are apart
-pub apart : (names : List ℕ) → IsDistinct nat_eq names → AreApart names
+pub apart : (names : List ℕ) → IsDistinct nat_eq names → AreDistinctNames names
 apart names distinct p q low high same = elim (cases_order p q) [
   | inl is ↦ is
   | inr (inl less) ↦ absurd (false≢true (sym (apart_from_distinct nat_eq names p q 0 distinct less high) ∙ eq-eqb (name_in names p) (name_in names q) same))

@@ -4,8 +4,8 @@ use Rattle.std.proofs.lemmas.List.{length-map}
 use Rattle.std.proofs.lemmas.List.Elements.{All-contains}
 use Rattle.omega_automaton.specs.Automaton.{Description, IsAutomaton, edges_of}
 use Rattle.omega_automaton.specs.Branching.{has_branch}
-use Rattle.omega_components.specs.Graph.{Shape, edge_at as graph_edge, listed, marked}
-use Rattle.omega_components.specs.Reaching.{IsReached}
+use Rattle.omega_components.specs.Graph.{Shape, ends_at, listed, marked}
+use Rattle.omega_components.specs.Reaching.{IsReachedAlong}
 use Rattle.omega_components.specs.declared.edge.Edge.{Edge}
 use Rattle.omega_walk.specs.Walks.{IsEdgeWalk, MarkedGraph, marks_on}
 use Rattle.omega_walk.proofs.Walking.{joined}
@@ -41,7 +41,7 @@ module _ (a : Description) (automaton : IsAutomaton a) (plain : has_branch a ≡
 
   -- a usable edge of the graph is a step
   pub step_from : (number : ℕ) → Contains numbers number
-      → IsStep a (name_in names (graph_edge graph number).from) number (name_in names (graph_edge graph number).to)
+      → IsStep a (name_in names (ends_at graph number).from) number (name_in names (ends_at graph number).to)
   step_from number has =
       let low = All-contains (λ n. n < length (edges_of a)) numbers number usable.below has in
       let below : number < length graph.edges = let same = counted a names sources graph numbered in omega arith in
@@ -60,8 +60,8 @@ module _ (a : Description) (automaton : IsAutomaton a) (plain : has_branch a ≡
   pub record Traced (from number to : ℕ) : Type 0 where
     pub has : Contains numbers number
     pub below : number < length graph.edges
-    pub leaves : name_in names (graph_edge graph number).from ≡ from
-    pub enters : name_in names (graph_edge graph number).to ≡ to
+    pub leaves : name_in names (ends_at graph number).from ≡ from
+    pub enters : name_in names (ends_at graph number).to ≡ to
 
   pub step_to : (from number to : ℕ) → IsStep a from number to → Traced from number to
   step_to from number to step =
@@ -79,9 +79,9 @@ module _ (a : Description) (automaton : IsAutomaton a) (plain : has_branch a ≡
   leads_from from (number ∷ walk) to leads =
       let has = listed_has numbers number leads.0 in
       let step = step_from number has in (
-        name_in names (graph_edge graph number).to,
-        subst (λ state. IsStep a state number (name_in names (graph_edge graph number).to)) (ap (name_in names) leads.1) step,
-        leads_from (graph_edge graph number).to walk to leads.2,
+        name_in names (ends_at graph number).to,
+        subst (λ state. IsStep a state number (name_in names (ends_at graph number).to)) (ap (name_in names) leads.1) step,
+        leads_from (ends_at graph number).to walk to leads.2,
       )
 
   -- and what leads is a walk of the graph
@@ -97,8 +97,8 @@ module _ (a : Description) (automaton : IsAutomaton a) (plain : has_branch a ≡
   leads_to from first (number ∷ walk) last below named leads =
       let step = step_to first number leads.0 leads.1 in
       let ends = numbered.inside number (record { from = 0; to = 0 }) step.below in
-      let same : (graph_edge graph number).from ≡ from = numbered.apart (graph_edge graph number).from from ends.0 below (step.leaves ∙ sym named) in
-      let rest = leads_to (graph_edge graph number).to leads.0 walk last ends.1 step.enters leads.2 in
+      let same : (ends_at graph number).from ≡ from = numbered.apart (ends_at graph number).from from ends.0 below (step.leaves ∙ sym named) in
+      let rest = leads_to (ends_at graph number).to leads.0 walk last ends.1 step.enters leads.2 in
       record {
         to = rest.to;
         below = rest.below;
@@ -107,27 +107,27 @@ module _ (a : Description) (automaton : IsAutomaton a) (plain : has_branch a ≡
       }
 
   -- a state that is reached, and a walk on, reach more
-  reached_on : (from number : ℕ) → IsReached traced (listed numbers) sources from → listed numbers number ≡ true → (graph_edge graph number).from ≡ from
-      → IsReached traced (listed numbers) sources (graph_edge graph number).to
+  reached_on : (from number : ℕ) → IsReachedAlong traced (listed numbers) sources from → listed numbers number ≡ true → (ends_at graph number).from ≡ from
+      → IsReachedAlong traced (listed numbers) sources (ends_at graph number).to
   reached_on from number reached is leaves = (
     reached.0 ++ number ∷ [],
     record {
       source = reached.1.source;
       begins = reached.1.begins;
-      leads = joined traced (listed numbers) reached.1.source reached.0 from (number ∷ []) (graph_edge graph number).to reached.1.leads (is, leaves, refl);
+      leads = joined traced (listed numbers) reached.1.source reached.0 from (number ∷ []) (ends_at graph number).to reached.1.leads (is, leaves, refl);
     },
   )
 
   -- a walk from a state that is reached is one in the edges that leave such states
   pub walk_reached : (states : List Bool)
-      → ((state : ℕ) → IsReached traced (listed numbers) sources state → get_or states state false ≡ true)
-      → (from : ℕ) (walk : List ℕ) (to : ℕ) → IsReached traced (listed numbers) sources from → IsEdgeWalk traced (listed numbers) from walk to
-      → IsEdgeWalk traced (listed (filter (λ number. get_or states (graph_edge graph number).from false) numbers)) from walk to
+      → ((state : ℕ) → IsReachedAlong traced (listed numbers) sources state → get_or states state false ≡ true)
+      → (from : ℕ) (walk : List ℕ) (to : ℕ) → IsReachedAlong traced (listed numbers) sources from → IsEdgeWalk traced (listed numbers) from walk to
+      → IsEdgeWalk traced (listed (filter (λ number. get_or states (ends_at graph number).from false) numbers)) from walk to
   walk_reached states are from [] to reached leads = leads
   walk_reached states are from (number ∷ walk) to reached leads = (
-    listed_from (filter (λ number. get_or states (graph_edge graph number).from false) numbers) number
-        (filter_keeps (λ number. get_or states (graph_edge graph number).from false) numbers number (listed_has numbers number leads.0)
+    listed_from (filter (λ number. get_or states (ends_at graph number).from false) numbers) number
+        (filter_keeps (λ number. get_or states (ends_at graph number).from false) numbers number (listed_has numbers number leads.0)
         (ap (λ state. get_or states state false) leads.1 ∙ are from reached)),
     leads.1,
-    walk_reached states are (graph_edge graph number).to walk to (reached_on from number reached leads.0 leads.1) leads.2,
+    walk_reached states are (ends_at graph number).to walk to (reached_on from number reached leads.0 leads.1) leads.2,
   )

@@ -2,8 +2,8 @@
 ghost use Rattle.std.specs.Prelude.{◌≡◌, false, IfErr, IfNone, IfOk, IfSome, IsOkUnless, OnOk, filter, length, slice_index, slice_index_or};
 ghost use Rattle.omega_acc.specs.formula.Shape.{acc_tree_of_shape};
 ghost use Rattle.omega_automaton.specs.Branching.{has_branch};
-ghost use Rattle.omega_components.specs.Graph.{AreEdges, edge_at, listed, marked};
-ghost use Rattle.omega_components.specs.Reaching.{IsReached};
+ghost use Rattle.omega_components.specs.Graph.{AreEdges, ends_at, listed, marked};
+ghost use Rattle.omega_components.specs.Reaching.{IsReachedAlong};
 ghost use Rattle.omega_walk.specs.Walks.{IsAccepting};
 ghost use Rattle.omega_accepting.specs.Rows.{row_at};
 ghost use Rattle.omega_empty.specs.Verdict.{IsVerdict};
@@ -113,7 +113,7 @@ fn with_stem(alloc: Global, search: &Search<'_>, cycle: &[u32]) -> Result<Option
     requires ready { IsSearch search.now.automaton.now search.now.marks.now search.now.graph.now search.now.sources.now search.now.edges.now }
     requires cycle { IsAccepting (marked search.now.graph.now (row_at search.now.marks.now)) (listed search.now.edges.now) search.now.automaton.now.acceptance cycle.now }
     ensures verdict { IfOk result (λ found. IfSome found (IsVerdict search.now.automaton.now)) }
-    ensures none { IfOk result (λ found. IfNone found (¬ IsReached (marked search.now.graph.now (row_at search.now.marks.now)) (listed search.now.edges.now) search.now.sources.now (edge_at search.now.graph.now (slice_index cycle.now 0)).from)) }
+    ensures none { IfOk result (λ found. IfNone found (¬ IsReachedAlong (marked search.now.graph.now (row_at search.now.marks.now)) (listed search.now.edges.now) search.now.sources.now (ends_at search.now.graph.now (slice_index cycle.now 0)).from)) }
     ensures memory { IsOkUnless result Refusal.Memory }
 {
     let target = search.graph.from(cycle[0]);
@@ -135,7 +135,7 @@ fn leaving(
 ) -> Result<Vec<u32>, Refusal>
     requires edges { AreEdges graph.now numbers.now }
     requires states { length states.now ≡ graph.now.states }
-    ensures left { IfOk result (λ edges. edges.items ≡ filter (λ number. slice_index_or states.now (edge_at graph.now number).from false) numbers.now) }
+    ensures left { IfOk result (λ edges. edges.items ≡ filter (λ number. slice_index_or states.now (ends_at graph.now number).from false) numbers.now) }
     ensures memory { IsOkUnless result Refusal.Memory }
 {
     let mut edges = Vec::with_capacity(alloc, numbers.len())?;

@@ -8,7 +8,7 @@ use Rattle.omega_io.specs.declared.exit.Exit.{Exit}
 use Rattle.omega_io.specs.declared.exit.Exit.TheVariants.{Done, No}
 use Rattle.omega_lasso_judge.specs.Fault.{IsLassoFault}
 use Rattle.omega_lasso_judge.specs.FaultText.{fault_text}
-use Rattle.omega_lasso_judge.specs.Refusing.{IsJudgingRefusal}
+use Rattle.omega_lasso_judge.specs.Refusing.{RefusesToJudge}
 use Rattle.omega_lasso_judge.specs.declared.fault.LassoFault.{LassoFault}
 use Rattle.omega_lasso_text.specs.Refusing.{IsLassoRefusal}
 use Rattle.omega_lasso_text.specs.Text.{IsLassoText}
@@ -42,7 +42,7 @@ pub record RefusesJudging (automaton_text text : List ℕ) (refusal : Refusal) :
   pub automaton_read : IsAutomatonText automaton_text automaton
   pub lasso : LassoText
   pub read : IsLassoText text lasso
-  pub refused : IsJudgingRefusal automaton lasso.stem lasso.cycle refusal
+  pub refused : RefusesToJudge automaton lasso.stem lasso.cycle refusal
 
 -- the automaton's text is refused, or its automaton as that of a lasso that is to be judged
 abbrev pub RefusesAutomaton : (automaton_text text : List ℕ) → Refusal → Type 0

@@ -6,7 +6,7 @@ use Rattle.std.proofs.lemmas.List.Elements.{All-cons, All-get_or, All-head, All-
 use Rattle.std.proofs.lemmas.Option.{same_Some}
 use Rattle.omega_automaton.specs.Automaton.{BodyEdge, Description, edge_at}
 use Rattle.omega_empty.specs.Lasso.{IsLasso, IsStart, IsStep, IsUsable, Leads}
-use Rattle.omega_lasso_judge.specs.Conditions.{AreLinked, Follows, IsConnected, IsUsableNumber, LeavesStart, once_round}
+use Rattle.omega_lasso_judge.specs.Conditions.{AreLinked, FollowsEdge, IsLassoWalk, IsUsableNumber, LeavesStart, once_round}
 
 -- what holds of all of some items and others
 pub all_front : (P : ℕ → Type 0) (xs ys : List ℕ) → All P (xs ++ ys) → All P xs
@@ -41,22 +41,22 @@ module _ (a : Description) where
 
   -- the edges of a list follow one another
   abbrev pub Links : List ℕ → Type 0
-  Links numbers = (k : ℕ) → suc k < length numbers → Follows a (get_or numbers k 0) (get_or numbers (suc k) 0)
+  Links numbers = (k : ℕ) → suc k < length numbers → FollowsEdge a (get_or numbers k 0) (get_or numbers (suc k) 0)
 
   pub links_from : (numbers : List ℕ) → AreLinked a numbers → Links numbers
   links_from numbers linked k below =
-      subst (λ (n : ℕ). Follows a (get_or numbers k 0) (get_or numbers n 0)) (add-one k) (linked k (omega arith))
+      subst (λ (n : ℕ). FollowsEdge a (get_or numbers k 0) (get_or numbers n 0)) (add-one k) (linked k (omega arith))
 
   pub linked_from : (numbers : List ℕ) → Links numbers → AreLinked a numbers
   linked_from numbers links k below =
-      subst (λ (n : ℕ). Follows a (get_or numbers k 0) (get_or numbers n 0)) (sym (add-one k)) (links k (omega arith))
+      subst (λ (n : ℕ). FollowsEdge a (get_or numbers k 0) (get_or numbers n 0)) (sym (add-one k)) (links k (omega arith))
 
   links_behind : (xs ys : List ℕ) → Links (xs ++ ys) → Links ys
   links_behind [] ys links = links
   links_behind (x ∷ xs) ys links = links_behind xs ys (λ k below. links (suc k) (omega arith))
 
   -- a usable edge leads to the state that the next one leaves
-  step : (number next : ℕ) → IsUsableNumber a number → Follows a number next → IsStep a (left_state number) number (left_state next)
+  step : (number next : ℕ) → IsUsableNumber a number → FollowsEdge a number next → IsStep a (left_state number) number (left_state next)
   step number next usable follows = record {
     edge = follows.entering;
     numbered = follows.numbered_before;
@@ -85,7 +85,7 @@ module _ (a : Description) where
   starting number leaves = subst (IsStart a) (sym (left_is number leaves.edge leaves.numbered)) leaves.starts
 
   -- connected edges that are usable are a lasso
-  pub lasso_of : (stem cycle : List ℕ) → IsConnected a stem cycle → All (IsUsableNumber a) (stem ++ cycle) → IsLasso a stem cycle
+  pub lasso_of : (stem cycle : List ℕ) → IsLassoWalk a stem cycle → All (IsUsableNumber a) (stem ++ cycle) → IsLasso a stem cycle
   lasso_of stem [] connected usable = let longer : 0 < 0 = connected.begun.edges.longer in absurd (omega arith)
   lasso_of stem (first ∷ cycle) connected usable =
       let links : Links (stem ++ first ∷ (cycle ++ first ∷ [])) = links_from (once_round stem (first ∷ cycle)) connected.linked in

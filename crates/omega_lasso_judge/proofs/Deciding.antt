@@ -2,7 +2,7 @@
 use Rattle.std.proofs.Common.{◌≡◌, ℕ, ◌+◌, ◌<◌, ◌⊎◌, inl, inr, List, [], ◌++◌, length, get_or, refl, sym, ap, subst, ◌∙◌, arith}
 use Rattle.std.proofs.lemmas.Bool.{cases_order}
 use Rattle.omega_automaton.specs.Automaton.{Description}
-use Rattle.omega_lasso_judge.specs.Conditions.{AreLinked, FailsFirst, Follows, HasEdges, IsBegun, IsFirstApart, IsNumber, IsUsableNumber, LeavesStart, once_round}
+use Rattle.omega_lasso_judge.specs.Conditions.{AreLinked, FailsFirst, FollowsEdge, HasEdges, IsBegun, IsFirstApart, IsNumber, IsUsableNumber, LeavesStart, once_round}
 use Rattle.omega_lasso_judge.specs.Fault.{IsLassoFault}
 use Rattle.omega_lasso_judge.specs.declared.fault.LassoFault.{LassoFault}
 use Rattle.omega_lasso_judge.specs.declared.fault.LassoFault.TheVariants.{Apart, NeverTrue, NoCycle, NoStart, NotAccepted, NotThere}
@@ -22,12 +22,12 @@ module _ (a : Description) where
     where
       go : ((one.before ≡ other.before) ⊎ ((one.before < other.before) ⊎ (other.before < one.before))) → m ≡ n
       go (inl same) = one.number_is ∙ ap (λ (k : ℕ). get_or numbers (k + 1) 0) same ∙ sym other.number_is
-      go (inr (inl less)) = absurd (one.apart (subst (Follows a (get_or numbers one.before 0)) (sym one.number_is) (other.linked one.before less)))
-      go (inr (inr more)) = absurd (other.apart (subst (Follows a (get_or numbers other.before 0)) (sym other.number_is) (one.linked other.before more)))
+      go (inr (inl less)) = absurd (one.apart (subst (FollowsEdge a (get_or numbers one.before 0)) (sym one.number_is) (other.linked one.before less)))
+      go (inr (inr more)) = absurd (other.apart (subst (FollowsEdge a (get_or numbers other.before 0)) (sym other.number_is) (one.linked other.before more)))
 
   unlinked : (numbers : List ℕ) (n : ℕ) → IsFirstApart a numbers n → AreLinked a numbers → ⊥
   unlinked numbers n apart linked =
-      apart.apart (subst (Follows a (get_or numbers apart.before 0)) (sym apart.number_is) (linked apart.before apart.within))
+      apart.apart (subst (FollowsEdge a (get_or numbers apart.before 0)) (sym apart.number_is) (linked apart.before apart.within))
 
   module _ (stem cycle : List ℕ) where
     empty : cycle ≡ [] → 0 < length cycle → ⊥

@@ -5,7 +5,7 @@ use Rattle.std.proofs.lemmas.List.Elements.{All-append, All-cons, All-get_or, Al
 use Rattle.std.proofs.lemmas.Option.{slice_get_within}
 use Rattle.omega_automaton.specs.Automaton.{Description, edges_of}
 use Rattle.omega_empty.specs.Lasso.{IsAcceptingLasso, IsLasso, IsStart, IsStep, Leads}
-use Rattle.omega_lasso_judge.specs.Conditions.{FailsFirst, Follows, IsConnected, IsNumber, IsUsableNumber, LeavesStart, once_round}
+use Rattle.omega_lasso_judge.specs.Conditions.{FailsFirst, FollowsEdge, IsLassoWalk, IsNumber, IsUsableNumber, LeavesStart, once_round}
 use Rattle.omega_lasso_judge.specs.Fault.{IsLassoFault}
 use Rattle.omega_lasso_judge.specs.declared.fault.LassoFault.{LassoFault}
 use Rattle.omega_lasso_judge.specs.declared.fault.LassoFault.TheVariants.{Apart, NeverTrue, NoCycle, NoStart, NotAccepted, NotThere}
@@ -27,7 +27,7 @@ module _ (a : Description) where
   Leaves : ℕ → ℕ → Type 0
   Leaves number state = (to : ℕ) × IsStep a state number to
 
-  follows : (before number from state : ℕ) → IsStep a from before state → Leaves number state → Follows a before number
+  follows : (before number from state : ℕ) → IsStep a from before state → Leaves number state → FollowsEdge a before number
   unfolding Leaves
   follows before number from state step leaves = record {
     entering = step.edge;
@@ -37,7 +37,7 @@ module _ (a : Description) where
     enters = step.enters ∙ ap (λ (s : ℕ). s ∷ []) (sym leaves.1.leaves);
   }
 
-  one_more : (before number : ℕ) (numbers : List ℕ) → Follows a before number → Links a (number ∷ numbers) → Links a (before ∷ number ∷ numbers)
+  one_more : (before number : ℕ) (numbers : List ℕ) → FollowsEdge a before number → Links a (number ∷ numbers) → Links a (before ∷ number ∷ numbers)
   one_more before number numbers is links zero below = is
   one_more before number numbers is links (suc k) below = links k (omega arith)
 
@@ -73,7 +73,7 @@ module _ (a : Description) where
       All-append (IsUsableNumber a) stem cycle (usable_on lasso.start stem lasso.knot lasso.stem_leads) (usable_on lasso.knot cycle lasso.knot lasso.cycle_leads)
 
   -- a lasso is connected
-  pub connected : (stem cycle : List ℕ) → IsLasso a stem cycle → IsConnected a stem cycle
+  pub connected : (stem cycle : List ℕ) → IsLasso a stem cycle → IsLassoWalk a stem cycle
   connected stem [] lasso = let longer : 0 < 0 = lasso.longer in absurd (omega arith)
   connected stem (first ∷ cycle) lasso =
       let leaves = leaves_at lasso.knot first cycle lasso.knot lasso.cycle_leads in
@@ -102,7 +102,7 @@ module _ (a : Description) where
   not_accepting stem cycle (NoStart number) is accepting =
       is.2 (subst (LeavesStart a) (sym is.1) (connected stem cycle accepting.lasso).begun.begins)
   not_accepting stem cycle (Apart number) is accepting =
-      is.1.apart (subst (Follows a (get_or (once_round stem cycle) is.1.before 0)) (sym is.1.number_is)
+      is.1.apart (subst (FollowsEdge a (get_or (once_round stem cycle) is.1.before 0)) (sym is.1.number_is)
       ((connected stem cycle accepting.lasso).linked is.1.before is.1.within))
   not_accepting stem cycle (NeverTrue number) is accepting = none_fails (IsUsableNumber a) (stem ++ cycle) number (all_usable stem cycle accepting.lasso) is.1
   not_accepting stem cycle NotAccepted is accepting = false≢true (sym is.1 ∙ accepting.accepted)

@@ -6,10 +6,10 @@ use Rattle.std.proofs.lemmas.Option.{MatchOption-at_none}
 use Rattle.omega_acc.specs.formula.Acceptance.{accepts}
 use Rattle.omega_automaton.specs.Automaton.{Description}
 use Rattle.omega_empty.specs.Lasso.{IsAcceptingLasso, marks_at}
-use Rattle.omega_lasso_judge.specs.Conditions.{IsConnected, IsNumber, IsUsableNumber}
+use Rattle.omega_lasso_judge.specs.Conditions.{IsLassoWalk, IsNumber, IsUsableNumber}
 use Rattle.omega_lasso_judge.specs.declared.fault.LassoFault.{LassoFault}
 use Rattle.omega_lasso_judge.specs.declared.fault.LassoFault.TheVariants.{NotAccepted}
-use Rattle.omega_lasso_judge.specs.private.Judged.{IsJudged}
+use Rattle.omega_lasso_judge.specs.private.Judged.{IsRefereed}
 use Rattle.omega_lasso_judge.proofs.Connecting.{all_behind, lasso_of}
 use Rattle.omega_lasso_judge.proofs.Excluding.{not_accepting}
 
@@ -18,22 +18,22 @@ pub at_none : {X : Type 0} (found : Option X) (P : Type 0) → found ≡ None �
 at_none {X} found P is holds = MatchOption-at_none P (λ (x : X). Unit {0}) is holds
 
 -- each number of the cycle is that of an edge
-pub cycle_numbered : (a : Description) (stem cycle : List ℕ) → IsConnected a stem cycle → All (IsNumber a) cycle
+pub cycle_numbered : (a : Description) (stem cycle : List ℕ) → IsLassoWalk a stem cycle → All (IsNumber a) cycle
 cycle_numbered a stem cycle connected = all_behind (IsNumber a) stem cycle connected.begun.edges.numbered
 
 module _ (a : Description) (stem cycle : List ℕ) where
-  pub judged_accepting : (found : Option LassoFault) → found ≡ None → IsConnected a stem cycle → All (IsUsableNumber a) (stem ++ cycle)
-      → (accepted : Bool) → accepted ≡ accepts (map (marks_at a) cycle) a.acceptance → accepted ≡ true → IsJudged a stem cycle found
+  pub judged_accepting : (found : Option LassoFault) → found ≡ None → IsLassoWalk a stem cycle → All (IsUsableNumber a) (stem ++ cycle)
+      → (accepted : Bool) → accepted ≡ accepts (map (marks_at a) cycle) a.acceptance → accepted ≡ true → IsRefereed a stem cycle found
   judged_accepting found is connected usable accepted means holds =
-      subst (IsJudged a stem cycle) (sym is) (record { lasso = lasso_of a stem cycle connected usable; accepted = sym means ∙ holds })
+      subst (IsRefereed a stem cycle) (sym is) (record { lasso = lasso_of a stem cycle connected usable; accepted = sym means ∙ holds })
 
-  pub judged_rejecting : (found : Option LassoFault) → found ≡ Some NotAccepted → IsConnected a stem cycle → All (IsUsableNumber a) (stem ++ cycle)
-      → (accepted : Bool) → accepted ≡ accepts (map (marks_at a) cycle) a.acceptance → accepted ≡ false → IsJudged a stem cycle found
+  pub judged_rejecting : (found : Option LassoFault) → found ≡ Some NotAccepted → IsLassoWalk a stem cycle → All (IsUsableNumber a) (stem ++ cycle)
+      → (accepted : Bool) → accepted ≡ accepts (map (marks_at a) cycle) a.acceptance → accepted ≡ false → IsRefereed a stem cycle found
   judged_rejecting found is connected usable accepted means fails =
-      subst (IsJudged a stem cycle) (sym is) (lasso_of a stem cycle connected usable, sym means ∙ fails)
+      subst (IsRefereed a stem cycle) (sym is) (lasso_of a stem cycle connected usable, sym means ∙ fails)
 
   -- there is no fault exactly where the lasso accepts
-  pub none_exactly : (found : Option LassoFault) → IsJudged a stem cycle found → IsNone found ↔ IsAcceptingLasso a stem cycle
+  pub none_exactly : (found : Option LassoFault) → IsRefereed a stem cycle found → IsNone found ↔ IsAcceptingLasso a stem cycle
   none_exactly None judged = (λ none. judged, λ accepting. refl)
   none_exactly (Some fault) judged =
       (λ none. absurd (false≢true (sym none)), λ accepting. absurd (not_accepting a stem cycle fault judged accepting))

@@ -33,7 +33,7 @@ pub record LeavesStart (a : Description) (number : ℕ) : Type 0 where
   pub starts : IsStart a edge.source.number
 
 -- an edge follows another: it leaves the state that the other one enters
-pub record Follows (a : Description) (before number : ℕ) : Type 0 where
+pub record FollowsEdge (a : Description) (before number : ℕ) : Type 0 where
   pub entering : BodyEdge
   pub numbered_before : edge_at a before ≡ Some entering
   pub leaving : BodyEdge
@@ -42,15 +42,15 @@ pub record Follows (a : Description) (before number : ℕ) : Type 0 where
 
 -- each edge but the first follows the one before it
 abbrev pub AreLinked : Description → List ℕ → Type 0
-AreLinked a numbers = (k : ℕ) → k + 1 < length numbers → Follows a (slice_index numbers k) (slice_index numbers (k + 1))
+AreLinked a numbers = (k : ℕ) → k + 1 < length numbers → FollowsEdge a (slice_index numbers k) (slice_index numbers (k + 1))
 
 -- an edge is the first that does not follow the one before it
 pub record IsFirstApart (a : Description) (numbers : List ℕ) (number : ℕ) : Type 0 where
   pub before : ℕ
   pub within : before + 1 < length numbers
   pub number_is : number ≡ slice_index numbers (before + 1)
-  pub linked : (k : ℕ) → k < before → Follows a (slice_index numbers k) (slice_index numbers (k + 1))
-  pub apart : ¬ Follows a (slice_index numbers before) number
+  pub linked : (k : ℕ) → k < before → FollowsEdge a (slice_index numbers k) (slice_index numbers (k + 1))
+  pub apart : ¬ FollowsEdge a (slice_index numbers before) number
 
 -- the edges of a lasso, and behind the last one the first of the cycle again, to which it returns
 abbrev pub once_round : List ℕ → List ℕ → List ℕ
@@ -67,6 +67,6 @@ pub record IsBegun (a : Description) (stem cycle : List ℕ) : Type 0 where
   pub begins : LeavesStart a (slice_index (stem ++ cycle) 0)
 
 -- and each edge follows the one before it, the first of the cycle also the last
-pub record IsConnected (a : Description) (stem cycle : List ℕ) : Type 0 where
+pub record IsLassoWalk (a : Description) (stem cycle : List ℕ) : Type 0 where
   pub begun : IsBegun a stem cycle
   pub linked : AreLinked a (once_round stem cycle)

@@ -3,7 +3,7 @@ use Rattle.std.specs.Prelude.{◌≡◌, ℕ, ◌<◌, ◌++◌, [], false, List
 use Rattle.omega_acc.specs.formula.Acceptance.{accepts}
 use Rattle.omega_automaton.specs.Automaton.{Description}
 use Rattle.omega_empty.specs.Lasso.{IsLasso, marks_at}
-use Rattle.omega_lasso_judge.specs.Conditions.{FailsFirst, HasEdges, IsBegun, IsConnected, IsFirstApart, IsNumber, IsUsableNumber, LeavesStart, once_round}
+use Rattle.omega_lasso_judge.specs.Conditions.{FailsFirst, HasEdges, IsBegun, IsFirstApart, IsLassoWalk, IsNumber, IsUsableNumber, LeavesStart, once_round}
 use Rattle.omega_lasso_judge.specs.declared.fault.LassoFault.{LassoFault}
 use Rattle.omega_lasso_judge.specs.declared.fault.LassoFault.TheVariants.{Apart, NeverTrue, NoCycle, NoStart, NotAccepted, NotThere}
 
@@ -15,5 +15,5 @@ IsLassoFault a stem cycle (NoStart number) =
     HasEdges a stem cycle × (number ≡ slice_index (stem ++ cycle) 0) × (¬ LeavesStart a number)
 IsLassoFault a stem cycle (Apart number) = IsBegun a stem cycle × IsFirstApart a (once_round stem cycle) number
 IsLassoFault a stem cycle (NeverTrue number) =
-    IsConnected a stem cycle × FailsFirst (IsUsableNumber a) (stem ++ cycle) number
+    IsLassoWalk a stem cycle × FailsFirst (IsUsableNumber a) (stem ++ cycle) number
 IsLassoFault a stem cycle NotAccepted = IsLasso a stem cycle × (accepts (map (marks_at a) cycle) a.acceptance ≡ false)

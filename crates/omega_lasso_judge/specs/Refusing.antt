@@ -8,17 +8,17 @@ use Rattle.omega_automaton.specs.Automaton.{BodyEdge, Description, edge_at}
 use Rattle.omega_automaton.specs.Branching.{has_branch}
 use Rattle.omega_empty.specs.Judging.{IsWide}
 use Rattle.omega_empty.specs.Lasso.{label_of}
-use Rattle.omega_lasso_judge.specs.Conditions.{IsConnected, IsFirst, IsUsableNumber}
+use Rattle.omega_lasso_judge.specs.Conditions.{IsFirst, IsLassoWalk, IsUsableNumber}
 
 -- the label of an edge mentions more propositions than are always judged
-pub record HasWideLabel (a : Description) (number : ℕ) : Type 0 where
+pub record IsWideEdge (a : Description) (number : ℕ) : Type 0 where
   pub edge : BodyEdge
   pub numbered : edge_at a number ≡ Some edge
   pub wide : IsWide (label_of edge)
 
 -- an edge has such a label, and those in front of it are usable
 abbrev pub IsUndecidedAlong : Description → List ℕ → Type 0
-IsUndecidedAlong a numbers = (number : ℕ) × IsFirst (IsUsableNumber a) (HasWideLabel a) numbers number
+IsUndecidedAlong a numbers = (number : ℕ) × IsFirst (IsUsableNumber a) (IsWideEdge a) numbers number
 
 -- 41 or 42: it applies, and no fault of a lesser number does; 42 only where the edges are connected and a label of
 -- theirs has to be judged that mentions too many propositions
@@ -26,7 +26,7 @@ abbrev pub IsJudgingFault : Description → (stem cycle : List ℕ) → TaskFaul
 IsJudgingFault a stem cycle NotParity = ⊥
 IsJudgingFault a stem cycle UniversalBranch = has_branch a ≡ true
 IsJudgingFault a stem cycle TooManyPropositions =
-    (has_branch a ≡ false) × IsConnected a stem cycle × IsUndecidedAlong a (stem ++ cycle)
+    (has_branch a ≡ false) × IsLassoWalk a stem cycle × IsUndecidedAlong a (stem ++ cycle)
 IsJudgingFault a stem cycle TooWide = ⊥
 IsJudgingFault a stem cycle Budget = ⊥
 IsJudgingFault a stem cycle BadSolution = ⊥
@@ -35,9 +35,9 @@ IsJudgingFault a stem cycle TooLarge = ⊥
 IsJudgingFault a stem cycle (NotDeterministic state) = ⊥
 
 -- the refusal of an automaton by the referee of a lasso
-abbrev pub IsJudgingRefusal : Description → (stem cycle : List ℕ) → Refusal → Type 0
-IsJudgingRefusal a stem cycle = or_task (IsJudgingFault a stem cycle) never
+abbrev pub RefusesToJudge : Description → (stem cycle : List ℕ) → Refusal → Type 0
+RefusesToJudge a stem cycle = or_task (IsJudgingFault a stem cycle) never
 
 -- what the referee may answer in place of a verdict: memory, or the refusal
 abbrev pub IsJudgeRefusal : Description → (stem cycle : List ℕ) → Refusal → Type 0
-IsJudgeRefusal a stem cycle = or_memory (IsJudgingRefusal a stem cycle)
+IsJudgeRefusal a stem cycle = or_memory (RefusesToJudge a stem cycle)

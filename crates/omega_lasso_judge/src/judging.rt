@@ -1,11 +1,11 @@
 ghost use Rattle.std.specs.Prelude.{◌≡◌, ◌++◌, ◌<◌, ◌↔◌, false, length, IfErr, IfNone, IfOk, IfSome, IsNone, IsOkUnless, OnOk};
 ghost use Rattle.omega_automaton.specs.Branching.{has_branch};
 ghost use Rattle.omega_empty.specs.Lasso.{IsAcceptingLasso};
-ghost use Rattle.omega_lasso_judge.specs.Conditions.{HasEdges, IsConnected, IsFirstApart, AreLinked, once_round};
+ghost use Rattle.omega_lasso_judge.specs.Conditions.{HasEdges, IsLassoWalk, IsFirstApart, AreLinked, once_round};
 ghost use Rattle.omega_lasso_judge.specs.Fault.{IsLassoFault};
 ghost use Rattle.omega_lasso_judge.specs.Refusing.{IsJudgeRefusal};
 ghost use Rattle.omega_edge_table.specs.Places.{ArePlaces};
-ghost use Rattle.omega_lasso_judge.specs.private.Judged.{IsJudged, IsLabelRefusal};
+ghost use Rattle.omega_lasso_judge.specs.private.Judged.{IsLabelRefusal, IsRefereed};
 
 use crate::acceptance::is_accepted;
 use crate::edge_table::EdgeTable;
@@ -56,7 +56,7 @@ fn judged(
     cycle: &[u32],
 ) -> Result<Option<LassoFault>, Refusal>
     requires places { ArePlaces table.now.automaton.now table.now.places.now }
-    ensures judged { IfOk result (IsJudged table.now.automaton.now stem.now cycle.now) }
+    ensures judged { IfOk result (IsRefereed table.now.automaton.now stem.now cycle.now) }
     ensures refused { IfErr result (IsLabelRefusal table.now.automaton.now stem.now cycle.now) }
 {
     if cycle.is_empty() {
@@ -91,7 +91,7 @@ fn link_fault(
     requires places { ArePlaces table.now.automaton.now table.now.places.now }
     requires edges { HasEdges table.now.automaton.now stem.now cycle.now }
     ensures fault { IfOk result (λ found. IfSome found (IsLassoFault table.now.automaton.now stem.now cycle.now)) }
-    ensures none { IfOk result (λ found. IfNone found (IsConnected table.now.automaton.now stem.now cycle.now)) }
+    ensures none { IfOk result (λ found. IfNone found (IsLassoWalk table.now.automaton.now stem.now cycle.now)) }
     ensures memory { IsOkUnless result Refusal.Memory }
 {
     let mut walk = joined(alloc, stem, cycle)?;

@@ -7,7 +7,7 @@ ghost use Rattle.omega_acc.specs.label.Satisfiable.{IsSatisfiable};
 ghost use Rattle.omega_empty.specs.Judging.{IsWide};
 ghost use Rattle.omega_empty.specs.Lasso.{IsUsable};
 ghost use Rattle.omega_lasso_judge.specs.Conditions.{FailsFirst, IsNumber, IsUsableNumber};
-ghost use Rattle.omega_lasso_judge.specs.Refusing.{HasWideLabel, IsUndecidedAlong};
+ghost use Rattle.omega_lasso_judge.specs.Refusing.{IsUndecidedAlong, IsWideEdge};
 ghost use Rattle.omega_edge_table.specs.Places.{ArePlaces};
 
 use crate::edge_table::EdgeTable;
@@ -42,7 +42,7 @@ fn is_usable(alloc: Global, table: &EdgeTable<'_>, number: u32) -> Result<bool, 
     requires places { ArePlaces table.now.automaton.now table.now.places.now }
     requires there { IsNumber table.now.automaton.now number }
     ensures judged { IfOk result (λ usable. IsTrue usable ↔ IsUsableNumber table.now.automaton.now number) }
-    ensures refused { IfErr result (or_task (λ fault. (fault ≡ TooManyPropositions) × HasWideLabel table.now.automaton.now number) (or_memory never)) }
+    ensures refused { IfErr result (or_task (λ fault. (fault ≡ TooManyPropositions) × IsWideEdge table.now.automaton.now number) (or_memory never)) }
 {
     let found = table.find(number);
     match &found.source.label {

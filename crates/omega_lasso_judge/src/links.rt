@@ -1,7 +1,7 @@
 //! Whether numbers are those of edges, and how the edges follow one another.
 ghost use Rattle.std.specs.Prelude.{◌≡◌, ◌<◌, ◌↔◌, [], ◌∷◌, All, IfNone, IfSome, IsTrue};
 ghost use Rattle.omega_empty.specs.Lasso.{IsStart};
-ghost use Rattle.omega_lasso_judge.specs.Conditions.{AreLinked, FailsFirst, Follows, IsFirstApart, IsNumber, LeavesStart};
+ghost use Rattle.omega_lasso_judge.specs.Conditions.{AreLinked, FailsFirst, FollowsEdge, IsFirstApart, IsNumber, LeavesStart};
 ghost use Rattle.omega_edge_table.specs.Places.{ArePlaces};
 
 use crate::edge_table::EdgeTable;
@@ -69,7 +69,7 @@ fn follows(table: &EdgeTable<'_>, before: u32, number: u32) -> bool
     requires places { ArePlaces table.now.automaton.now table.now.places.now }
     requires before { IsNumber table.now.automaton.now before }
     requires there { IsNumber table.now.automaton.now number }
-    ensures { IsTrue result ↔ Follows table.now.automaton.now before number }
+    ensures { IsTrue result ↔ FollowsEdge table.now.automaton.now before number }
 {
     let entering = table.find(before);
     let leaving = table.find(number);

@@ -6,13 +6,16 @@ use omega_text::Refusal;
 /// Which of the two texts of a command, in the order in which they are judged.
 #[derive(Clone, Copy, Debug, PartialEq, Eq)]
 pub enum Which {
+    /// The one that is judged first.
     First,
+    /// The other one.
     Second,
 }
 
 /// Why a command of two texts gave no answer.
 #[derive(Clone, Copy, Debug, PartialEq, Eq)]
 pub struct Refused {
+    /// Of the text, or 60 or 61.
     pub refusal: Refusal,
     /// The text that is refused; none for 60 and 61, which are about no text.
     pub text: Option<Which>,

@@ -14,7 +14,7 @@ use Rattle.omega_automaton.specs.Automaton.{Description}
 use Rattle.omega_automaton.specs.Faults.{automaton_fault_of}
 use Rattle.omega_raw.specs.declared.raw_automaton.RawAutomaton.{RawAutomaton}
 use Rattle.omega_raw.specs.declared.raw_state.RawState.{RawState}
-use Rattle.omega_complement.specs.Complement.{AreApartBelow, AreFittingBelow}
+use Rattle.omega_complement.specs.Complement.{AreExclusiveBelow, AreFittingBelow}
 use Rattle.omega_complement.specs.Labels.{labels_at, state_at}
 use Rattle.omega_complement.specs.Letters.{LacksLetter}
 use Rattle.omega_complement.specs.Refusing.{IsFirstFault, IsStateFault}
@@ -34,7 +34,7 @@ IsStateRefusal full labels number = or_task (IsStateFault full labels number) (o
 -- the states so far are turned, and it is told whether one of them lacks a letter
 pub record AreTurned (a : Description) (count : ℕ) (states : List RawState) (lacks : Bool) : Type 0 where
   pub turned : AllZip (λ number. IsTurned (length a.propositions) a.states (state_at a number)) (range_with_len 0 count) states
-  pub apart : AreApartBelow a count
+  pub apart : AreExclusiveBelow a count
   pub fitting : AreFittingBelow a count
   pub lacking : IsTrue lacks ↔ ((number : ℕ) × (number < count) × LacksLetter (labels_at a number))
 

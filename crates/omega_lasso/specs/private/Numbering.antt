@@ -32,12 +32,12 @@ pub record Grows (count : ℕ) (before after : List ℕ) : Type 0 where
   pub few : length more ≤ count
 
 -- two numbers stand for two states
-abbrev pub AreApart : List ℕ → Type 0
-AreApart names = (p q : ℕ) → p < length names → q < length names → name_in names p ≡ name_in names q → p ≡ q
+abbrev pub AreDistinctNames : List ℕ → Type 0
+AreDistinctNames names = (p q : ℕ) → p < length names → q < length names → name_in names p ≡ name_in names q → p ≡ q
 
 -- the edges of a graph stand for some edges, and the sources for the first states of lists
 pub record AreNamed (lists : List (List ℕ)) (edges : List Edge) (names sources : List ℕ) (graph : Shape) : Type 0 where
-  pub apart : AreApart names
+  pub apart : AreDistinctNames names
   pub inside : All (IsNamed names) graph.edges
   pub ends : map (ends_in names) graph.edges ≡ edges
   pub within : All (λ source. source < length names) sources

@@ -2,8 +2,8 @@
 use Rattle.std.specs.Prelude.{◌≡◌, ◌↔◌, ℕ, ◌<◌, false, List, All, Contains, Some, map, slice_index_or}
 use Rattle.omega_automaton.specs.Automaton.{BodyEdge, Description, IsAutomaton, edge_at, edge_count, edges_of}
 use Rattle.omega_automaton.specs.Branching.{has_branch}
-use Rattle.omega_components.specs.Graph.{Shape, edge_at as graph_edge, listed, marked}
-use Rattle.omega_components.specs.Reaching.{IsReached}
+use Rattle.omega_components.specs.Graph.{Shape, ends_at, listed, marked}
+use Rattle.omega_components.specs.Reaching.{IsReachedAlong}
 use Rattle.omega_walk.specs.Walks.{IsAccepting}
 use Rattle.omega_accepting.specs.Rows.{row_at}
 use Rattle.omega_empty.specs.Lasso.{IsUsable, marks_of}
@@ -27,4 +27,4 @@ pub record IsSearch (a : Description) (marks : List (List ℕ)) (graph : Shape) 
 -- a closed walk of the edges that accepts, and to whose beginning the edges lead from a source
 pub record IsReachedCycle (a : Description) (marks : List (List ℕ)) (graph : Shape) (sources edges cycle : List ℕ) : Type 0 where
   pub accepting : IsAccepting (marked graph (row_at marks)) (listed edges) a.acceptance cycle
-  pub reached : IsReached (marked graph (row_at marks)) (listed edges) sources (graph_edge graph (slice_index_or cycle 0 0)).from
+  pub reached : IsReachedAlong (marked graph (row_at marks)) (listed edges) sources (ends_at graph (slice_index_or cycle 0 0)).from

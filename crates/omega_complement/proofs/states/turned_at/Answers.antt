@@ -4,7 +4,7 @@ use Rattle.std.specs.Prelude.{IfErr, IfOk, IsTrue, OnOk}
 use Rattle.omega_automaton.specs.declared.state.State.{State}
 use Rattle.omega_complement.specs.Judged.{AreFitting}
 use Rattle.omega_complement.specs.Labels.{is_full, labels_at, labels_of, state_at}
-use Rattle.omega_complement.specs.Letters.{AreApart, LacksLetter}
+use Rattle.omega_complement.specs.Letters.{AreExclusive, LacksLetter}
 use Rattle.omega_complement.specs.declared.turning.Turned.{Turned}
 use Rattle.omega_complement.specs.private.Turned.{IsStateRefusal}
 use Rattle.omega_complement.proofs.StateNumbers.{state_number}
@@ -18,8 +18,8 @@ returns-clause-lacks c =
 
 pub returns-clause-apart : goal.returns-clause-apart
 returns-clause-apart c =
-    subst (λ (s : State). OnOk c.turned_state.result (AreApart (labels_of (length c.args.automaton.now.propositions) s))) c.state_of-state.ensures
-    (subst (λ (ps : List (List ℕ)). OnOk c.turned_state.result (AreApart (labels_of (length ps) c.state_of-state.result.now))) c.propositions-count.ensures
+    subst (λ (s : State). OnOk c.turned_state.result (AreExclusive (labels_of (length c.args.automaton.now.propositions) s))) c.state_of-state.ensures
+    (subst (λ (ps : List (List ℕ)). OnOk c.turned_state.result (AreExclusive (labels_of (length ps) c.state_of-state.result.now))) c.propositions-count.ensures
     c.turned_state.ensures.apart)
 
 pub returns-clause-fitting : goal.returns-clause-fitting

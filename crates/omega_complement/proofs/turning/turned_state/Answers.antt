@@ -3,9 +3,9 @@ use Rattle.std.proofs.Common.{◌≡◌, List, subst, ◌∙◌}
 use Rattle.std.specs.List.{All}
 use Rattle.omega_acc.specs.label.Label.{LabelTree}
 use Rattle.omega_acc.specs.label.Shape.{FitsALabel}
-use Rattle.omega_complement.specs.Judged.{IsJudged}
+use Rattle.omega_complement.specs.Judged.{IsJudgedLabel}
 use Rattle.omega_complement.specs.Labels.{is_full, labels_of}
-use Rattle.omega_complement.specs.Letters.{IsRest, LacksLetter}
+use Rattle.omega_complement.specs.Letters.{IsRestLabel, LacksLetter}
 use Rattle.omega_complement.proofs.Judged.{all_fitting}
 use Rattle.omega_written.specs.Fitting.{FitsAText}
 use Rattle.omega_complement.proofs.turning.turned_state.Goals as goal
@@ -16,6 +16,6 @@ returns-clause-fitting c =
     let judged : c.as_slice.result.now ≡ labels = c.as_slice.ensures.value ∙ c.in_ok-labels.ensures.labels in
     let written : c.as_slice-2.result.now ≡ labels = c.as_slice-2.ensures.value ∙ c.in_ok-labels.ensures.labels in
     all_fitting (is_full c.args.count c.args.state.now) labels
-    (subst (λ (ls : List LabelTree). (label : LabelTree) → IsJudged (is_full c.args.count c.args.state.now) ls label → FitsALabel label) judged c.in_ok-missing.ensures.judged)
-    (subst (λ (ls : List LabelTree). LacksLetter ls → (label : LabelTree) → IsRest ls label → FitsAText label) judged c.in_ok-missing.ensures.written)
+    (subst (λ (ls : List LabelTree). (label : LabelTree) → IsJudgedLabel (is_full c.args.count c.args.state.now) ls label → FitsALabel label) judged c.in_ok-missing.ensures.judged)
+    (subst (λ (ls : List LabelTree). LacksLetter ls → (label : LabelTree) → IsRestLabel ls label → FitsAText label) judged c.in_ok-missing.ensures.written)
     (subst (All FitsAText) written c.in_ok-edges.ensures.written)

@@ -1,15 +1,15 @@
 -- `search_edges`: meets the states that are reached from some states by edges of a list.
 use Rattle.std.proofs.Common.{ℕ, length, sym, subst, ap, ◌∙◌}
 use Rattle.std.proofs.lemmas.List.{length-map}
-use Rattle.omega_components.specs.Graph.{edge_at}
+use Rattle.omega_components.specs.Graph.{ends_at}
 use Rattle.omega_components.specs.private.Searching.{IsSearched}
 use Rattle.omega_components.proofs.Apart.{all_below}
 use Rattle.omega_components.proofs.reaching.search_edges.Goals as goal
 
 pub search_from-requires-clause-even : goal.search_from-requires-clause-even
 search_from-requires-clause-even c =
-    ap length (c.as_slice-2.ensures.value ∙ c.in_ok-enters.ensures.enters) ∙ length-map c.args.edges.now (λ edge. (edge_at c.args.graph.now edge).to)
-    ∙ sym (ap length (c.as_slice.ensures.value ∙ c.in_ok-leaves.ensures.leaves) ∙ length-map c.args.edges.now (λ edge. (edge_at c.args.graph.now edge).from))
+    ap length (c.as_slice-2.ensures.value ∙ c.in_ok-enters.ensures.enters) ∙ length-map c.args.edges.now (λ edge. (ends_at c.args.graph.now edge).to)
+    ∙ sym (ap length (c.as_slice.ensures.value ∙ c.in_ok-leaves.ensures.leaves) ∙ length-map c.args.edges.now (λ edge. (ends_at c.args.graph.now edge).from))
 
 pub search_from-requires-clause-leaves : goal.search_from-requires-clause-leaves
 search_from-requires-clause-leaves c =

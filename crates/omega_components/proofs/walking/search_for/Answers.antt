@@ -1,15 +1,15 @@
 -- `search_for`: meets states that are reached from some states by edges of a list, until it met a target.
 use Rattle.std.proofs.Common.{ℕ, length, sym, subst, ap, ◌∙◌}
 use Rattle.std.proofs.lemmas.List.{length-map}
-use Rattle.omega_components.specs.Graph.{edge_at}
+use Rattle.omega_components.specs.Graph.{ends_at}
 use Rattle.omega_components.specs.private.Searching.{IsSearchedTo}
 use Rattle.omega_components.proofs.Apart.{all_below}
 use Rattle.omega_components.proofs.walking.search_for.Goals as goal
 
 pub search_to-requires-clause-even : goal.search_to-requires-clause-even
 search_to-requires-clause-even c =
-    ap length (c.as_slice-enters.ensures.value ∙ c.in_ok-enters.ensures.enters) ∙ length-map c.args.edges.now (λ edge. (edge_at c.args.graph.now edge).to)
-    ∙ sym (ap length (c.as_slice-leaves.ensures.value ∙ c.in_ok-leaves.ensures.leaves) ∙ length-map c.args.edges.now (λ edge. (edge_at c.args.graph.now edge).from))
+    ap length (c.as_slice-enters.ensures.value ∙ c.in_ok-enters.ensures.enters) ∙ length-map c.args.edges.now (λ edge. (ends_at c.args.graph.now edge).to)
+    ∙ sym (ap length (c.as_slice-leaves.ensures.value ∙ c.in_ok-leaves.ensures.leaves) ∙ length-map c.args.edges.now (λ edge. (ends_at c.args.graph.now edge).from))
 
 pub search_to-requires-clause-leaves : goal.search_to-requires-clause-leaves
 search_to-requires-clause-leaves c =

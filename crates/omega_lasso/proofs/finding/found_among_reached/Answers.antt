@@ -3,10 +3,10 @@ use Rattle.std.proofs.Common.{◌≡◌, ◌<◌, ℕ, Bool, false, List, get_or
 use Rattle.std.proofs.lemmas.List.Elements.{All-filter}
 use Rattle.omega_acc.specs.formula.Acceptance.{AccTree}
 use Rattle.omega_acc.specs.formula.Shape.{acc_tree_of_shape}
-use Rattle.omega_components.specs.Graph.{Shape, edge_at, listed}
+use Rattle.omega_components.specs.Graph.{Shape, ends_at, listed}
 use Rattle.omega_walk.specs.Walks.{HasAccepting, IsAccepting}
 use Rattle.omega_accepting.specs.Rows.{row_at}
-use Rattle.omega_components.specs.Reaching.{IsReached}
+use Rattle.omega_components.specs.Reaching.{IsReachedAlong}
 use Rattle.omega_lasso.specs.private.Searched.{IsReachedCycle}
 use Rattle.omega_lasso.proofs.Lassos.{AreReached, cycle_reached, edges_inside, kept, marks_counted, no_lasso_reached, seen}
 use Rattle.omega_lasso.proofs.finding.found_among_reached.Goals as goal
@@ -28,7 +28,7 @@ accepting_walk-requires-clause-edges c =
     let graph : Shape = c.args.search.now.graph.now in
     let states : List Bool = c.as_slice-flags.result.now in
     subst (λ (edges : List ℕ). All (λ number. number < length graph.edges) edges) (sym (c.as_slice-kept.ensures.value ∙ c.in_ok-edges.ensures.left))
-    (All-filter (λ number. get_or states (edge_at graph number).from false) (λ number. number < length graph.edges) c.args.search.now.edges.now
+    (All-filter (λ number. get_or states (ends_at graph number).from false) (λ number. number < length graph.edges) c.args.search.now.edges.now
     (edges_inside c.requires.ready))
 
 pub returns-in-None-clause-verdict : goal.returns-in-None-clause-verdict
@@ -84,5 +84,5 @@ unreachable-requires c =
     (subst (λ (cycle : List ℕ). IsAccepting (seen rows graph) (listed (kept states graph edges)) tree cycle) (sym c.as_slice-walk.ensures.value)
     (subst (λ tree. IsAccepting (seen rows graph) (listed (kept states graph edges)) tree c.in-Some.cycle.items) c.requires.formula
     (subst (λ (edges : List ℕ). IsAccepting (seen rows graph) (listed edges) (acc_tree_of_shape c.args.formula.now) c.in-Some.cycle.items) same_edges walk))) in
-    let none : IsReached (seen rows graph) (listed edges) sources (edge_at graph (get_or c.as_slice-walk.result.now 0 0)).from → ⊥ = rw c.in-None-2.is at c.in_ok-verdict-in-Some.ensures.none in
+    let none : IsReachedAlong (seen rows graph) (listed edges) sources (ends_at graph (get_or c.as_slice-walk.result.now 0 0)).from → ⊥ = rw c.in-None-2.is at c.in_ok-verdict-in-Some.ensures.none in
     none is.reached

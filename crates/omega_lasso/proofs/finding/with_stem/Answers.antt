@@ -1,7 +1,7 @@
 -- the stem leads to the cycle
 use Rattle.std.proofs.Common.{List, ℕ, get_or, sym, subst}
-use Rattle.omega_components.specs.Graph.{Shape, edge_at, listed}
-use Rattle.omega_components.specs.Reaching.{IsReached, IsWalkFrom}
+use Rattle.omega_components.specs.Graph.{Shape, ends_at, listed}
+use Rattle.omega_components.specs.Reaching.{IsReachedAlong, IsWalkFrom}
 use Rattle.omega_accepting.specs.Rows.{row_at}
 use Rattle.omega_lasso.proofs.Lassos.{first_inside, is_lasso, seen}
 use Rattle.omega_lasso.proofs.finding.with_stem.Goals as goal
@@ -16,7 +16,7 @@ returns-in-None-clause-none c =
     let sources : List ℕ = c.args.search.now.sources.now in
     let edges : List ℕ = c.args.search.now.edges.now in
     let none = rw c.in-None.is at c.in_ok-path.ensures.none in
-    λ reached. none (row_at rows) (subst (IsReached (seen rows graph) (listed edges) sources) (sym c.from-target.ensures.from) reached)
+    λ reached. none (row_at rows) (subst (IsReachedAlong (seen rows graph) (listed edges) sources) (sym c.from-target.ensures.from) reached)
 
 pub returns-in_ok-verdict-in-Some-clause-verdict : goal.returns-in_ok-verdict-in-Some-clause-verdict
 returns-in_ok-verdict-in-Some-clause-verdict c =
@@ -25,7 +25,7 @@ returns-in_ok-verdict-in-Some-clause-verdict c =
     let sources : List ℕ = c.args.search.now.sources.now in
     let edges : List ℕ = c.args.search.now.edges.now in
     let stem : List ℕ = c.as_slice.result.now in
-    let target : ℕ = (edge_at graph (get_or c.args.cycle.now 0 0)).from in
+    let target : ℕ = (ends_at graph (get_or c.args.cycle.now 0 0)).from in
     let walk = rw c.in-Some.is at c.in_ok-path.ensures.walk in
     let way : IsWalkFrom (seen rows graph) (listed edges) sources stem target =
     subst (λ (xs : List ℕ). IsWalkFrom (seen rows graph) (listed edges) sources xs target) (sym c.as_slice.ensures.value)

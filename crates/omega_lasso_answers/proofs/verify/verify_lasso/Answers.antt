@@ -3,7 +3,7 @@ use Rattle.std.proofs.Common.{inl, inr, sym, subst}
 use Rattle.omega_hoa.specs.Alone.{IsAutomatonRefusal}
 use Rattle.omega_refused.specs.declared.refused.Refused.{Refused}
 use Rattle.omega_refused.specs.Refused.{IsRefusedOf}
-use Rattle.omega_lasso_judge.specs.Refusing.{IsJudgingRefusal}
+use Rattle.omega_lasso_judge.specs.Refusing.{RefusesToJudge}
 use Rattle.omega_lasso_answers.specs.Verify.{RefusesAutomaton, RefusesLasso}
 use Rattle.omega_lasso_answers.proofs.Refusals.{of_first}
 use Rattle.omega_lasso_answers.proofs.verify.verify_lasso.Goals as goal
@@ -19,7 +19,7 @@ pub returns-clause-refused : goal.returns-clause-refused
 returns-clause-refused c =
     subst (λ (refused : Refused). IsRefusedOf (RefusesAutomaton c.args.automaton.items c.args.text.items) (RefusesLasso c.args.automaton.items c.args.text.items) refused)
     (sym c.of-in-Err-verdict_on.ensures)
-    (of_first (IsJudgingRefusal c.in-Ok.automaton c.in-Ok-lasso_in.lasso.stem c.in-Ok-lasso_in.lasso.cycle) (RefusesAutomaton c.args.automaton.items c.args.text.items)
+    (of_first (RefusesToJudge c.in-Ok.automaton c.in-Ok-lasso_in.lasso.stem c.in-Ok-lasso_in.lasso.cycle) (RefusesAutomaton c.args.automaton.items c.args.text.items)
     (RefusesLasso c.args.automaton.items c.args.text.items)
     (λ refusal is. inr (record {
       automaton = c.in-Ok.automaton;

@@ -1,6 +1,6 @@
 -- the edges are connected and usable, and the cycle accepts or not
 use Rattle.std.proofs.Common.{◌≡◌, ◌++◌, ℕ, List, All, subst, ◌∙◌}
-use Rattle.omega_lasso_judge.specs.Conditions.{IsConnected, IsUsableNumber}
+use Rattle.omega_lasso_judge.specs.Conditions.{IsLassoWalk, IsUsableNumber}
 use Rattle.omega_lasso_judge.proofs.Verdicts.{at_none, cycle_numbered, judged_accepting, judged_rejecting}
 use Rattle.omega_lasso_judge.proofs.judging.judged.Goals as goal
 use Rattle.omega_lasso_judge.proofs.judging.judged.Goals.{else-accepted, then-accepted}
@@ -8,13 +8,13 @@ use Rattle.omega_lasso_judge.proofs.judging.judged.Goals.{else-accepted, then-ac
 pub is_accepted-requires-clause-there : goal.is_accepted-requires-clause-there
 is_accepted-requires-clause-there c =
     cycle_numbered c.args.table.now.automaton.now c.args.stem.now c.args.cycle.now
-    (at_none c.in_ok-fault.field-0 (IsConnected c.args.table.now.automaton.now c.args.stem.now c.args.cycle.now) c.in_default-2.is c.in_ok-fault.ensures.none)
+    (at_none c.in_ok-fault.field-0 (IsLassoWalk c.args.table.now.automaton.now c.args.stem.now c.args.cycle.now) c.in_default-2.is c.in_ok-fault.ensures.none)
 
 pub returns-clause-judged : goal.returns-clause-judged
 returns-clause-judged c =
     let a = c.args.table.now.automaton.now in
     let edges : c.as_slice-edges.result.now ≡ c.args.stem.now ++ c.args.cycle.now = c.as_slice-edges.ensures.value ∙ c.in_ok-numbers.ensures.list in
-    let connected = at_none c.in_ok-fault.field-0 (IsConnected a c.args.stem.now c.args.cycle.now) c.in_default-2.is c.in_ok-fault.ensures.none in
+    let connected = at_none c.in_ok-fault.field-0 (IsLassoWalk a c.args.stem.now c.args.cycle.now) c.in_default-2.is c.in_ok-fault.ensures.none in
     let usable : All (IsUsableNumber a) (c.args.stem.now ++ c.args.cycle.now) =
     subst (λ (list : List ℕ). All (IsUsableNumber a) list) edges
     (at_none c.in_ok-number.field-0 (All (IsUsableNumber a) c.as_slice-edges.result.now) c.in_default-3.is c.in_ok-number.ensures.none) in
