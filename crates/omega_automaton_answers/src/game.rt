@@ -19,7 +19,7 @@ pub fn write_emptiness_game(alloc: Global, text: Vec<u8>) -> Result<Vec<u8>, Ref
 {
     let automaton = automaton_in(alloc, text)?;
     let game = game_of(alloc, automaton)?;
-    write_game(alloc, &game)
+    write_game(alloc, game.arena())
 }
 
 /// The emptiness game of an automaton, which is let go. 13, 40, 41, 42 or 60.

@@ -36,14 +36,14 @@ pub(crate) fn called(
 
 fn written(alloc: Global, game: Result<Game, Refusal>) -> Result<Vec<u8>, Refusal> {
     match game {
-        Ok(game) => write_game(alloc, &game),
+        Ok(game) => write_game(alloc, game.arena()),
         Err(refusal) => Err(refusal),
     }
 }
 
 fn drawn(alloc: Global, text: &[u8]) -> Result<Vec<u8>, Refusal> {
     match read_game(alloc, text) {
-        Ok(game) => draw_game(alloc, &game, Extent::Whole),
+        Ok(game) => draw_game(alloc, game.arena(), Extent::Whole),
         Err(refusal) => Err(refusal),
     }
 }
@@ -64,7 +64,7 @@ fn drawn_from_first(alloc: Global, game: &Game) -> Result<Vec<u8>, Refusal> {
         place: 0,
         depth: Some(2),
     };
-    draw_game(alloc, game, extent)
+    draw_game(alloc, game.arena(), extent)
 }
 
 /// The part of the game's first node.
@@ -200,10 +200,10 @@ fn called_of_both(
 }
 
 fn of_game(alloc: Global, call: &str, game: &Game, other: &[u8]) -> Result<Vec<u8>, Refusal> {
-    match read_solution(alloc, game, other) {
+    match read_solution(alloc, game.arena(), other) {
         Ok(solution) => match call {
-            "read_solution" => write_solution(alloc, game, &solution),
-            "draw_solution" => draw_solution(alloc, game, Extent::Whole, &solution, true),
+            "read_solution" => write_solution(alloc, game.arena(), &solution),
+            "draw_solution" => draw_solution(alloc, game.arena(), Extent::Whole, &solution, true),
             _ => judged(alloc, call, game, &solution),
         },
         Err(refusal) => Err(refusal),
@@ -230,24 +230,32 @@ fn judge(
         return Err(Refusal::Io);
     }
     let places = solution.places_given(alloc, player)?;
-    if !are_places(game, places.as_slice()) || !solution.strategy(player).fits(game, player) {
+    if !are_places(game, places.as_slice())
+        || !solution.strategy(player).fits(game.arena(), player)
+    {
         return Err(Refusal::Io);
     }
     let (given, strategy) = (places.as_slice(), solution.strategy(player));
     match call {
         "places_given" => put_all(out, given),
-        "check_strategy" => put_answer(out, check_strategy(alloc, game, player, given, strategy)?),
+        "check_strategy" => put_answer(
+            out,
+            check_strategy(alloc, game.arena(), player, given, strategy)?,
+        ),
         "check_strategy_fast" => {
-            let said = check_strategy_fast(alloc, game, player, given, strategy)?;
+            let said = check_strategy_fast(alloc, game.arena(), player, given, strategy)?;
             put_answer(out, said == Some(true))
         }
         "check_strategy_by_order" => {
             put_answer(
                 out,
-                check_strategy_by_order(alloc, game, player, given, strategy, given)?,
+                check_strategy_by_order(alloc, game.arena(), player, given, strategy, given)?,
             )
         }
-        _ => put_lasso(out, counterexample(alloc, game, player, given, strategy)?),
+        _ => put_lasso(
+            out,
+            counterexample(alloc, game.arena(), player, given, strategy)?,
+        ),
     }
 }
 

@@ -96,7 +96,7 @@ fn put_game(game: &Game, out: &mut Vec<u8>) -> Result<(), Refusal> {
     put(out, game.edges() as u128)?;
     put(out, game.priority_counts().len() as u128)?;
     put_answer(out, game.place_of(0).is_some())?;
-    put(out, bound(game, Player::Zero).unwrap_or(0))
+    put(out, bound(game.arena(), Player::Zero).unwrap_or(0))
 }
 
 fn label(alloc: Global, text: &[u8], runs: bool) -> Result<Vec<u8>, Refusal> {

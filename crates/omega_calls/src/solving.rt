@@ -140,7 +140,7 @@ fn searched(alloc: Global, text: &[u8]) -> Result<Vec<u8>, Refusal> {
 
 fn found_by_search(alloc: Global, game: &Game) -> Result<Vec<u8>, Refusal> {
     match solve_by_search(alloc, game)? {
-        Some(solution) => write_solution(alloc, game, &solution),
+        Some(solution) => write_solution(alloc, game.arena(), &solution),
         None => Ok(Vec::from_slice(alloc, b"nothing\n")?),
     }
 }

@@ -10,7 +10,7 @@ use std::alloc::Global;
 // The drawing of the game of a text.
 fn game_drawn(alloc: Global, text: &str) -> Result<Vec<u8>, Refusal> {
     match read_game(alloc, text.as_bytes()) {
-        Ok(game) => draw_game(alloc, &game, Extent::Whole),
+        Ok(game) => draw_game(alloc, game.arena(), Extent::Whole),
         Err(refusal) => Err(refusal),
     }
 }
@@ -24,7 +24,7 @@ fn part_drawn(
 ) -> Result<Vec<u8>, Refusal> {
     match read_game(alloc, text.as_bytes()) {
         Ok(game) => match game.place_of(identifier) {
-            Some(place) => draw_game(alloc, &game, Extent::Part { place, depth }),
+            Some(place) => draw_game(alloc, game.arena(), Extent::Part { place, depth }),
             None => Err(Refusal::Io),
         },
         Err(refusal) => Err(refusal),
@@ -38,8 +38,8 @@ fn drawn_with(
     solution: &str,
     legend: bool,
 ) -> Result<Vec<u8>, Refusal> {
-    match read_solution(alloc, game, solution.as_bytes()) {
-        Ok(solution) => draw_solution(alloc, game, Extent::Whole, &solution, legend),
+    match read_solution(alloc, game.arena(), solution.as_bytes()) {
+        Ok(solution) => draw_solution(alloc, game.arena(), Extent::Whole, &solution, legend),
         Err(refusal) => Err(refusal),
     }
 }

@@ -15,7 +15,7 @@ fn assert_row(rt: &impl Abort, row: usize, holds: bool) {
 
 // The text of a game.
 fn written(alloc: Global, game: Game) -> Result<Vec<u8>, Refusal> {
-    write_game(alloc, &game)
+    write_game(alloc, game.arena())
 }
 
 // The emptiness game of an automaton.

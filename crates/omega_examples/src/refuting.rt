@@ -11,10 +11,10 @@ pub fn report(
     place: u32,
     strategy: &Strategy,
 ) -> Result<Vec<u8>, Refusal> {
-    if place as usize >= game.len() || !strategy.fits(game, player) {
+    if place as usize >= game.len() || !strategy.fits(game.arena(), player) {
         return Ok(Vec::from_slice(alloc, b"no strategy of this player for this game\n")?);
     }
-    match counterexample(alloc, game, player, &[place], strategy)? {
+    match counterexample(alloc, game.arena(), player, &[place], strategy)? {
         None => Ok(Vec::from_slice(alloc, b"it wins\n")?),
         Some(lasso) => walk_text(alloc, &lasso),
     }

@@ -4,7 +4,7 @@ ghost use Rattle.omega_game_answers.specs.Canon.{IsCanonAnswer};
 
 pub mod part;
 
-use crate::game_text::game_of;
+use crate::game_text::arena_of;
 use omega_game::Refusal;
 use omega_pg::write_game;
 use std::alloc::Global;
@@ -14,6 +14,6 @@ pub fn canon_game(alloc: Global, text: Vec<u8>) -> Result<Vec<u8>, Refusal>
     ensures answer { IfOk result (λ output. IsCanonAnswer text.items output.items) }
     ensures refused { IfErr result (IsReadRefusal text.items) }
 {
-    let game = game_of(alloc, text)?;
+    let game = arena_of(alloc, text)?;
     write_game(alloc, &game)
 }

@@ -3,7 +3,7 @@ ghost use Rattle.omega_text.specs.declared.refusal.Refusal.TheVariants.{Memory};
 ghost use Rattle.omega_pg.specs.game.Refusing.{IsReadRefusal};
 ghost use Rattle.omega_game_answers.specs.Check.{IsCheckAnswer};
 
-use crate::game_text::game_of;
+use crate::game_text::arena_of;
 use omega_game::Refusal;
 use std::alloc::Global;
 
@@ -12,7 +12,7 @@ pub fn check_game(alloc: Global, text: Vec<u8>) -> Result<Vec<u8>, Refusal>
     ensures answer { IfOk result (λ output. IsCheckAnswer text.items output.items) }
     ensures refused { IfErr result (IsReadRefusal text.items) }
 {
-    let _game = game_of(alloc, text)?;
+    let _game = arena_of(alloc, text)?;
     accepted(alloc)
 }
 

@@ -9,8 +9,8 @@ ghost use Rattle.omega_game_answers.specs.Draw.{IsExtent, IsGameDrawingAnswer, I
 ghost use Rattle.omega_game_answers.specs.Verify.{IsJudgedGameRefusal};
 ghost use Rattle.omega_game_answers.specs.private.steps.Drawn.{IsDrawnRefusal, IsSolutionDrawn, IsUnknownFrom, IsSolvedDrawn};
 
-use crate::game_text::game_of;
-use omega_game::{Game, Refusal, TaskFault};
+use crate::game_text::arena_of;
+use omega_game::{Arena, Refusal, TaskFault};
 use omega_game_drawing::{Extent, draw_game, draw_solution};
 use omega_pg::read_solution;
 use omega_refused::{Refused, Which};
@@ -27,7 +27,7 @@ pub fn draw_game_text(
     ensures answer { IfOk result (λ output. IsGameDrawingAnswer text.items from depth output.items) }
     ensures refused { IfErr result (or_memory (IsJudgedGameRefusal text.items from)) }
 {
-    let game = game_of(alloc, text)?;
+    let game = arena_of(alloc, text)?;
     let extent = extent_of(&game, from, depth)?;
     draw_game(alloc, &game, extent)
 }
@@ -46,7 +46,7 @@ pub fn draw_solution_text(
     ensures answer { IfOk result (λ output. IsSolutionDrawingAnswer text.items solution.now from depth legend output.items) }
     ensures refused { IfErr result (IsRefusedOf (IsJudgedGameRefusal text.items from) (RefusesDrawnSolution text.items from depth solution.now)) }
 {
-    match game_of(alloc, text) {
+    match arena_of(alloc, text) {
         Ok(game) => draw_with(alloc, &game, solution, from, depth, legend),
         Err(refusal) => Err(Refused::of(Which::First, refusal)),
     }
@@ -56,7 +56,7 @@ pub fn draw_solution_text(
 /// or 53 of the solution, or 60.
 fn draw_with(
     alloc: Global,
-    game: &Game,
+    game: &Arena,
     solution: &[u8],
     from: Option<u32>,
     depth: Option<u32>,
@@ -77,7 +77,7 @@ fn draw_with(
 /// The drawing of what is to be drawn of a game with the solution that a text stands for. 1 to 4, 53 or 60.
 fn draw_solved(
     alloc: Global,
-    game: &Game,
+    game: &Arena,
     extent: Extent,
     text: &[u8],
     legend: bool,
@@ -91,7 +91,7 @@ fn draw_solved(
 }
 
 /// What is to be drawn of a game. 54 alone.
-fn extent_of(game: &Game, from: Option<u32>, depth: Option<u32>) -> Result<Extent, Refusal>
+fn extent_of(game: &Arena, from: Option<u32>, depth: Option<u32>) -> Result<Extent, Refusal>
     ensures asked { IfOk result (IsExtent game.now from depth) }
     ensures placed { IfOk result (IsPlaced game.now) }
     ensures refused { IfErr result (IsUnknownFrom game.now from) }

@@ -2,12 +2,12 @@ ghost use Rattle.std.specs.Prelude.{◌≡◌, IfOk, IfErr};
 ghost use Rattle.omega_game_answers.specs.Part.{IsPartFrom};
 ghost use Rattle.omega_game_answers.specs.private.steps.PartRefusal.{IsPartRefusal};
 
-use omega_game::{Game, Refusal, TaskFault};
+use omega_game::{Arena, Refusal, TaskFault};
 use std::alloc::Global;
 
 /// The part of a game that the node with an identifier reaches. The game is let go, so that it takes no memory beside
 /// what is made of the part. 54 or 60.
-pub fn part_from(alloc: Global, game: Game, identifier: u32) -> Result<Game, Refusal>
+pub fn part_from(alloc: Global, game: Arena, identifier: u32) -> Result<Arena, Refusal>
     ensures part { IfOk result (IsPartFrom game identifier) }
     ensures refused { IfErr result (IsPartRefusal game identifier) }
 {
@@ -15,7 +15,7 @@ pub fn part_from(alloc: Global, game: Game, identifier: u32) -> Result<Game, Ref
 }
 
 /// The part of a game that the node with an identifier reaches. 54 or 60.
-fn part_of(alloc: Global, game: &Game, identifier: u32) -> Result<Game, Refusal>
+fn part_of(alloc: Global, game: &Arena, identifier: u32) -> Result<Arena, Refusal>
     ensures part { IfOk result (IsPartFrom game.now identifier) }
     ensures refused { IfErr result (IsPartRefusal game.now identifier) }
 {

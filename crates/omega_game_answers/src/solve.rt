@@ -14,12 +14,12 @@ mod both;
 mod one;
 mod searched;
 
-use crate::game_text::game_of;
+use crate::game_text::arena_of;
 use crate::part::part_from;
 use asked::Asked;
 use both::solve_both;
 use omega_budget::Watch;
-use omega_game::{Game, Refusal};
+use omega_game::{Arena, Game, Refusal};
 use omega_region::regions_of_parts;
 use one::solve_one;
 use searched::solve_by_judged_search;
@@ -43,9 +43,9 @@ pub fn solve_game<L, W: Watch<L>>(
     ensures told { IsWatched (LiftsText text.items asked from) (refusal_in result) (W.tells watch.now) (W.pace watch.now) budget listener.old listener.new }
     ensures counted { IfOk result (λ output. CountsToldOfText (W.tells watch.now) (W.pace watch.now) text.items asked from budget output.items listener.old listener.new) }
 {
-    let game = game_of(alloc, text)?;
+    let game = arena_of(alloc, text)?;
     match from {
-        None => solve_whole(alloc, &game, asked, budget, watch, listener),
+        None => solve_whole(alloc, game, asked, budget, watch, listener),
         Some(identifier) => { solve_part(alloc, game, asked, identifier, budget, watch, listener) }
     }
 }
@@ -53,7 +53,7 @@ pub fn solve_game<L, W: Watch<L>>(
 /// The text for the part that the node with an identifier reaches. The game is let go. 54, 50, 51 or 60.
 fn solve_part<L, W: Watch<L>>(
     alloc: Global,
-    game: Game,
+    game: Arena,
     asked: Asked,
     identifier: u32,
     budget: u64,
@@ -69,11 +69,30 @@ fn solve_part<L, W: Watch<L>>(
     regions_of_parts();
     game.keeps_limits();
     let part = part_from(alloc, game, identifier)?;
-    solve_whole(alloc, &part, asked, budget, watch, listener)
+    solve_whole(alloc, part, asked, budget, watch, listener)
 }
 
-/// The text for a whole game. 50, 51 or 60.
+/// The text for a whole game, whose predecessors are listed first. 50, 51 or 60.
 fn solve_whole<L, W: Watch<L>>(
+    alloc: Global,
+    game: Arena,
+    asked: Asked,
+    budget: u64,
+    watch: &W,
+    listener: &mut L,
+) -> Result<Vec<u8>, Refusal>
+    requires { budget ≤ most_lifts }
+    ensures answer { IfOk result (λ output. SolvesWhole game asked budget output.items) }
+    ensures refused { IfErr result (IsSolveGameRefusal game asked None budget) }
+    ensures told { IsWatched (LiftsWholeGame game asked) (refusal_in result) (W.tells watch.now) (W.pace watch.now) budget listener.old listener.new }
+    ensures counted { IfOk result (λ output. CountsTold (W.tells watch.now) (W.pace watch.now) game asked budget output.items listener.old listener.new) }
+{
+    let whole = game.with_predecessors(alloc)?;
+    answer_whole(alloc, &whole, asked, budget, watch, listener)
+}
+
+/// The text for a whole game, as it is asked for. 50, 51 or 60.
+fn answer_whole<L, W: Watch<L>>(
     alloc: Global,
     game: &Game,
     asked: Asked,

@@ -14,9 +14,9 @@ mod explaining;
 
 use crate::part::part_from;
 use explaining::explained;
-use omega_game::{Game, Player, Refusal, Solution, check_strategy};
+use omega_game::{Arena, Player, Refusal, Solution, check_strategy};
 use omega_io::Exit;
-use omega_pg::{read_game, read_solution};
+use omega_pg::{read_arena, read_solution};
 use omega_refused::{Refused, Which};
 use std::alloc::Global;
 
@@ -46,7 +46,7 @@ pub fn verify_solution(
 /// The verdict on the solution of a game that a text stands for. 1 to 4, 53 or 60.
 fn judged(
     alloc: Global,
-    game: &Game,
+    game: &Arena,
     text: Vec<u8>,
     explain: bool,
 ) -> Result<(Exit, Vec<u8>), Refusal>
@@ -59,29 +59,29 @@ fn judged(
 
 /// The game that a text stands for, or where an identifier is given, the part of it that its node reaches. The text is
 /// let go. 1 to 4, 10 to 14, 54 or 60.
-fn judged_game(alloc: Global, text: Vec<u8>, from: Option<u32>) -> Result<Game, Refusal>
+fn judged_game(alloc: Global, text: Vec<u8>, from: Option<u32>) -> Result<Arena, Refusal>
     ensures game { IfOk result (IsJudgedGame text.items from) }
     ensures refused { IfErr result (or_memory (IsJudgedGameRefusal text.items from)) }
 {
     match from {
-        None => read_game(alloc, text.as_slice()),
+        None => read_arena(alloc, text.as_slice()),
         Some(identifier) => judged_part(alloc, text.as_slice(), identifier),
     }
 }
 
 /// The part that the node with an identifier reaches in the game that a text stands for. 1 to 4, 10 to 14, 54 or 60.
-fn judged_part(alloc: Global, text: &[u8], identifier: u32) -> Result<Game, Refusal>
+fn judged_part(alloc: Global, text: &[u8], identifier: u32) -> Result<Arena, Refusal>
     ensures part { IfOk result (IsPartText text.now identifier) }
     ensures refused { IfErr result (or_memory (IsPartTextRefusal text.now identifier)) }
 {
-    let game = read_game(alloc, text)?;
+    let game = read_arena(alloc, text)?;
     part_from(alloc, game, identifier)
 }
 
 /// The verdict on a solution, with why it is `no`, if that is asked for. 60 alone.
 fn verdict_on(
     alloc: Global,
-    game: &Game,
+    game: &Arena,
     solution: &Solution,
     explain: bool,
 ) -> Result<(Exit, Vec<u8>), Refusal>
@@ -109,7 +109,7 @@ fn verdict(alloc: Global, is_right: bool) -> Result<(Exit, Vec<u8>), Refusal>
 }
 
 /// The solution of a game that a text stands for. The text is let go.
-fn solution_in(alloc: Global, game: &Game, text: Vec<u8>) -> Result<Solution, Refusal>
+fn solution_in(alloc: Global, game: &Arena, text: Vec<u8>) -> Result<Solution, Refusal>
     ensures solution { IfOk result (IsSolutionText game.now text.items) }
     ensures refused { IfErr result (IsReadSolutionRefusal game.now text.items) }
 {
@@ -117,7 +117,7 @@ fn solution_in(alloc: Global, game: &Game, text: Vec<u8>) -> Result<Solution, Re
 }
 
 /// Whether for each player the choices win from all nodes given to that player. 60 alone.
-fn wins_as_given(alloc: Global, game: &Game, solution: &Solution) -> Result<bool, Refusal>
+fn wins_as_given(alloc: Global, game: &Arena, solution: &Solution) -> Result<bool, Refusal>
     requires { IsSolution game.now solution.now }
     ensures wins { IfOk result (λ answer. IsTrue answer ↔ WinsAsGiven game.now solution.now) }
     ensures memory { IsOkUnless result Memory }
@@ -131,7 +131,7 @@ fn wins_as_given(alloc: Global, game: &Game, solution: &Solution) -> Result<bool
 /// Whether a player's choices win from all nodes given to the player. 60 alone.
 fn wins_given(
     alloc: Global,
-    game: &Game,
+    game: &Arena,
     solution: &Solution,
     player: Player,
 ) -> Result<bool, Refusal>

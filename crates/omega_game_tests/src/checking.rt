@@ -14,7 +14,7 @@ fn answer(
     choices: &[Option<u32>],
 ) -> Result<bool, Refusal> {
     match strategy_for(alloc, game, player, places, choices) {
-        Ok(strategy) => check_strategy(alloc, game, player, places, &strategy),
+        Ok(strategy) => check_strategy(alloc, game.arena(), player, places, &strategy),
         Err(refusal) => Err(refusal),
     }
 }

@@ -7,7 +7,14 @@ use std::alloc::Global;
 /// The answer for the first place and the strategy without a choice, or Io where it does not fit.
 fn answer(alloc: Global, game: &Game, player: Player, order: &[u32]) -> Result<bool, Refusal> {
     match strategy_for(alloc, game, player, &[0], &[None, None]) {
-        Ok(strategy) => check_strategy_by_order(alloc, game, player, &[0], &strategy, order),
+        Ok(strategy) => check_strategy_by_order(
+            alloc,
+            game.arena(),
+            player,
+            &[0],
+            &strategy,
+            order,
+        ),
         Err(refusal) => Err(refusal),
     }
 }

@@ -14,7 +14,7 @@ fn answer(
     choices: &[Option<u32>],
 ) -> Result<Option<Lasso>, Refusal> {
     match strategy_for(alloc, game, player, places, choices) {
-        Ok(strategy) => counterexample(alloc, game, player, places, &strategy),
+        Ok(strategy) => counterexample(alloc, game.arena(), player, places, &strategy),
         Err(refusal) => Err(refusal),
     }
 }

@@ -197,7 +197,7 @@ pub(crate) fn strategy_for(
     let strategy = Strategy { choice };
     let count = game.len();
     let inside = places.iter().all(|place| (*place as usize) < count);
-    if !inside || !strategy.fits(game, player) {
+    if !inside || !strategy.fits(game.arena(), player) {
         return Err(Refusal::Io);
     }
     Ok(strategy)

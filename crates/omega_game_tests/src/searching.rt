@@ -11,7 +11,13 @@ fn answer(alloc: Global, game: &Game, player: Player) -> Result<Option<bool>, Re
     let none = vec![in alloc; None; game.len()]?;
     let places = all_places(alloc, game)?;
     match strategy_for(alloc, game, player, places.as_slice(), none.as_slice()) {
-        Ok(strategy) => check_strategy_fast(alloc, game, player, places.as_slice(), &strategy),
+        Ok(strategy) => check_strategy_fast(
+            alloc,
+            game.arena(),
+            player,
+            places.as_slice(),
+            &strategy,
+        ),
         Err(refusal) => Err(refusal),
     }
 }

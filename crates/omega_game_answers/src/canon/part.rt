@@ -3,7 +3,7 @@ ghost use Rattle.omega_text.specs.Cases.{or_memory};
 ghost use Rattle.omega_game_answers.specs.Part.{IsPartTextRefusal};
 ghost use Rattle.omega_game_answers.specs.Canon.{IsCanonPartAnswer};
 
-use crate::game_text::game_of;
+use crate::game_text::arena_of;
 use crate::part::part_from;
 use omega_game::Refusal;
 use omega_pg::write_game;
@@ -15,7 +15,7 @@ pub fn canon_part(alloc: Global, text: Vec<u8>, from: u32) -> Result<Vec<u8>, Re
     ensures answer { IfOk result (λ output. IsCanonPartAnswer text.items from output.items) }
     ensures refused { IfErr result (or_memory (IsPartTextRefusal text.items from)) }
 {
-    let game = game_of(alloc, text)?;
+    let game = arena_of(alloc, text)?;
     let part = part_from(alloc, game, from)?;
     write_game(alloc, &part)
 }

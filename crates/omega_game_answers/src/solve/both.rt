@@ -34,7 +34,7 @@ pub fn solve_both<L, W: Watch<L>>(
     ensures told { IsWatched (LiftsWholeGame game.now Both) (refusal_in result) (W.tells watch.now) (W.pace watch.now) budget listener.old listener.new }
 {
     let solution = solution_of(alloc, game, budget, watch, listener)?;
-    write_solution(alloc, game, &solution)
+    write_solution(alloc, game.arena(), &solution)
 }
 
 /// The solution of a game. Whether the tables of both players fit is asked before either is lifted for, so that 50

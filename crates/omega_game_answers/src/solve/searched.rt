@@ -30,7 +30,7 @@ pub fn solve_by_judged_search<L, W: Watch<L>>(
     ensures told { IsWatched (LiftsWholeGame game.now Search) (refusal_in result) (W.tells watch.now) (W.pace watch.now) budget listener.old listener.new }
 {
     let solution = searched_solution(alloc, game, budget, watch, listener)?;
-    write_solution(alloc, game, &solution)
+    write_solution(alloc, game.arena(), &solution)
 }
 
 /// The solution of a game, by the search or else by lifting. 50, 51 or 60.

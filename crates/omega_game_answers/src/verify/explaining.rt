@@ -4,7 +4,7 @@ ghost use Rattle.omega_text.specs.declared.refusal.Refusal.TheVariants.{Memory};
 ghost use Rattle.omega_game.specs.Solution.{IsSolution, WinsGiven};
 ghost use Rattle.omega_game_answers.specs.Verify.{IsSolutionVerdict, LosesGiven, explained_text, identifiers_text};
 
-use omega_game::{Game, Lasso, Player, Refusal, Solution, counterexample};
+use omega_game::{Arena, Lasso, Player, Refusal, Solution, counterexample};
 use omega_io::Exit;
 use omega_text::write_number;
 use std::alloc::Global;
@@ -12,7 +12,7 @@ use std::alloc::Global;
 /// The verdict on a solution, where `no` is explained for the least player whose choices do not win as given. 60 alone.
 pub(crate) fn explained(
     alloc: Global,
-    game: &Game,
+    game: &Arena,
     solution: &Solution,
 ) -> Result<(Exit, Vec<u8>), Refusal>
     requires { IsSolution game.now solution.now }
@@ -33,7 +33,7 @@ pub(crate) fn explained(
 /// Why the choices of a player do not win from all nodes given to the player, none where they do. 60 alone.
 fn lost_by(
     alloc: Global,
-    game: &Game,
+    game: &Arena,
     solution: &Solution,
     player: Player,
 ) -> Result<Option<Lasso>, Refusal>
@@ -54,7 +54,7 @@ fn lost_by(
 /// The text of `no` with its explanation. 60 alone.
 fn explanation(
     alloc: Global,
-    game: &Game,
+    game: &Arena,
     player: Player,
     lasso: &Lasso,
 ) -> Result<Vec<u8>, Refusal>
@@ -75,7 +75,7 @@ fn explanation(
 }
 
 /// Appends the identifiers of nodes, a space before each. 60 alone.
-fn write_identifiers(game: &Game, places: &[u32], out: &mut Vec<u8>) -> Result<(), Refusal>
+fn write_identifiers(game: &Arena, places: &[u32], out: &mut Vec<u8>) -> Result<(), Refusal>
     requires { All (λ place. place < length game.now) places.now }
     ensures ok { OnOk result (out.new.items ≡ out.old.items ++ identifiers_text game.now places.now) }
     ensures memory { IsOkUnless result Memory }

@@ -66,7 +66,7 @@ static REFUSED: [(&str, u32, Option<usize>); 34] = [
 /// Whether a game text is written anew as wanted.
 fn is_rewritten(alloc: Global, text: &str, want: &str) -> bool {
     match read_game(alloc, text.as_bytes()) {
-        Ok(game) => is_written(write_game(alloc, &game), want),
+        Ok(game) => is_written(write_game(alloc, game.arena()), want),
         Err(_) => false,
     }
 }

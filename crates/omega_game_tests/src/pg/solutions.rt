@@ -87,8 +87,8 @@ fn is_rewritten(alloc: Global, game: &str, text: &str, want: &str) -> bool {
 
 /// The written form of the solution that a text stands for.
 fn rewritten(alloc: Global, game: &Game, text: &str) -> Result<Vec<u8>, Refusal> {
-    match read_solution(alloc, game, text.as_bytes()) {
-        Ok(solution) => write_solution(alloc, game, &solution),
+    match read_solution(alloc, game.arena(), text.as_bytes()) {
+        Ok(solution) => write_solution(alloc, game.arena(), &solution),
         Err(refusal) => Err(refusal),
     }
 }
@@ -96,14 +96,14 @@ fn rewritten(alloc: Global, game: &Game, text: &str) -> Result<Vec<u8>, Refusal>
 /// The solution of `GAME` that a text stands for.
 fn solution_of_game(alloc: Global, text: &str) -> Result<Solution, Refusal> {
     let game = read_game(alloc, GAME.as_bytes())?;
-    read_solution(alloc, &game, text.as_bytes())
+    read_solution(alloc, game.arena(), text.as_bytes())
 }
 
 /// The places that the solution of `GAME` for which a text stands gives to a player.
 fn places_given(alloc: Global, text: &str, player: Player) -> Result<Vec<u32>, Refusal> {
     let game = read_game(alloc, GAME.as_bytes())?;
     game.keeps_limits();
-    let solution = read_solution(alloc, &game, text.as_bytes())?;
+    let solution = read_solution(alloc, game.arena(), text.as_bytes())?;
     Ok(solution.places_given(alloc, player)?)
 }
 

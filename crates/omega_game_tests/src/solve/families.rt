@@ -125,7 +125,7 @@ fn solve<R: Abort>(
 /// Each node is tried, once at first and at most once more for each edge into a node with each lift of that.
 fn assert_counts<R: Abort>(rt: &R, game: &Game, player: Player, lifts: u64, attempts: u64) {
     let nodes = game.len() as u128;
-    let most = bound(game, player).unwrap_or(0) / nodes;
+    let most = bound(game.arena(), player).unwrap_or(0) / nodes;
     assert!(rt; lifts <= attempts);
     assert!(rt; nodes <= attempts as u128);
     assert!(rt;

@@ -352,7 +352,7 @@ fn assert_solved_reordered<R: Abort>(rt: &R, alloc: Global, game: &Game, row: &R
 fn assert_solved<R: Abort>(rt: &R, alloc: Global, row: &Row<'_>) {
     match game_of(alloc, row.0) {
         Ok(game) => {
-            assert!(rt; bound(&game, row.1) == Some(row.2));
+            assert!(rt; bound(game.arena(), row.1) == Some(row.2));
             assert!(rt; solves_by_all(rt, alloc, &game, row).is_ok());
             assert_solved_reordered(rt, alloc, &game, row);
         }

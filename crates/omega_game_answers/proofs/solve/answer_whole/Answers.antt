@@ -1,0 +1,26 @@
+-- `answer_whole`: what is told is told of what is asked, and the answer for one player counts it.
+use Rattle.std.proofs.lemmas.Result.{IfOk-weaker}
+use Rattle.omega_game_answers.proofs.solve.answer_whole.Goals as goal
+
+pub returns-in-Both-clause-told : goal.returns-in-Both-clause-told
+returns-in-Both-clause-told g c = rw c.in-Both.is c.solve_both.ensures.told
+
+pub returns-in-Search-clause-told : goal.returns-in-Search-clause-told
+returns-in-Search-clause-told g c = rw c.in-Search.is c.solve_by_judged_search.ensures.told
+
+pub returns-in-Player-clause-told : goal.returns-in-Player-clause-told
+returns-in-Player-clause-told g c = rw c.in-Player.is c.solve_one.ensures.told
+
+pub returns-in-Player-clause-answer : goal.returns-in-Player-clause-answer
+returns-in-Player-clause-answer g c =
+    rw c.in-Player.is (IfOk-weaker c.solve_one.result _ _ (λ output counted. (counted.0, counted.1)) c.solve_one.ensures.answer)
+
+pub returns-in-Player-clause-counted : goal.returns-in-Player-clause-counted
+returns-in-Player-clause-counted g c = rw c.in-Player.is c.solve_one.ensures.answer
+
+pub returns-in-Both-clause-counted : goal.returns-in-Both-clause-counted
+returns-in-Both-clause-counted g c = rw c.in-Both.is (IfOk-weaker c.solve_both.result _ _ (λ output answer. tt) c.solve_both.ensures.answer)
+
+pub returns-in-Search-clause-counted : goal.returns-in-Search-clause-counted
+returns-in-Search-clause-counted g c =
+    rw c.in-Search.is (IfOk-weaker c.solve_by_judged_search.result _ _ (λ output answer. tt) c.solve_by_judged_search.ensures.answer)
