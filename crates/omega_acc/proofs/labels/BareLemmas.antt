@@ -1,10 +1,10 @@
 -- A label without aliases means itself without its parentheses, whatever the definitions are; and its nodes.
-use Rattle.std.proofs.Common.{◌≡◌, ℕ, ◌+◌, ◌≤◌, Bool, true, false, ◌||◌, cond, List, [], ◌∷◌, ◌++◌, Some, None, option_map, min, ap, refl, sym, ◌∙◌, arith, append-nil, count_by, filter}
+use Rattle.std.proofs.Common.{◌≡◌, ℕ, ◌+◌, ◌≤◌, Bool, true, false, ◌||◌, cond, length, ltb, List, [], ◌∷◌, ◌++◌, Some, None, option_map, min, ap, refl, sym, ◌∙◌, arith, append-nil, count_by, filter}
 use Rattle.std.specs.List.{list_any}
-use Rattle.std.proofs.lemmas.Bool.{ltb-false}
+use Rattle.std.proofs.lemmas.Bool.{le-ltb, ltb-false}
 use Rattle.std.proofs.lemmas.List.Elements.{filter-append}
 use Rattle.std.proofs.lemmas.List.Folds.{list_any-append}
-use Rattle.std.proofs.lemmas.List.Sums.{sum_by-append}
+use Rattle.std.proofs.lemmas.List.Sums.{count_by-le-length, sum_by-append}
 use Rattle.omega_acc.specs.Depth.{counted}
 use Rattle.omega_acc.specs.label.Expanding.{Defined, Entry, IsExpansion, Meaning, both, entries_of, expansion, fault_of_meaning, in_parentheses, negated, replaced}
 use Rattle.omega_acc.specs.label.Label.{LabelTree, label_size, label_depth}
@@ -13,10 +13,11 @@ use Rattle.omega_acc.specs.label.Label as label
 use Rattle.omega_acc.specs.label.Raw.{RawLabelTree, alias, conjunction, constant, disjunction, group, negation, proposition, raw_depth}
 use Rattle.omega_acc.specs.private.layout.label.Bare.{bare, is_alias, is_bare}
 use Rattle.omega_acc.specs.private.layout.label.Extents.{extent_of}
-use Rattle.omega_acc.specs.Limits.{most_depth}
+use Rattle.omega_acc.specs.Limits.{most_depth, most_size}
 use Rattle.omega_acc.specs.private.layout.label.Raw.{raw_postfix}
 use Rattle.omega_acc.proofs.labels.ExpansionLemmas.{deep-none}
 use Rattle.omega_acc.specs.declared.label.extents.Extent.{Extent}
+use Rattle.omega_text.specs.declared.refusal.automaton.AutomatonFault.TheVariants.{Expansion, TooDeep}
 use Rattle.omega_acc.specs.declared.label.LabelNode.{LabelNode}
 use Rattle.omega_acc.specs.declared.label.LabelNode.TheVariants.{And, Group, Not, Or}
 
@@ -140,6 +141,15 @@ pub shallow-bare : (entries : List Entry) (tree : RawLabelTree) → list_any is_
     → fault_of_meaning (replaced entries tree) ≡ None → raw_depth tree ≤ most_depth
 shallow-bare entries tree none sound =
     ltb-false most_depth (raw_depth tree) (deep-none _ _ (sym (ap fault_of_meaning (replaced-bare entries tree none)) ∙ sound))
+
+-- one that is neither too deep nor of too many nodes has no fault
+pub sound-bare : (entries : List Entry) (tree : RawLabelTree) → list_any is_alias (raw_postfix tree) ≡ false
+    → raw_depth tree ≤ most_depth → length (raw_postfix tree) ≤ most_size → fault_of_meaning (replaced entries tree) ≡ None
+sound-bare entries tree none shallow small =
+    let few = count_by-le-length is_bare (raw_postfix tree) in
+    ap fault_of_meaning (replaced-bare entries tree none)
+    ∙ (ap (λ (b : Bool). cond b (Some TooDeep) (cond (ltb most_size (label_size (bare tree))) (Some Expansion) None)) (le-ltb most_depth (raw_depth tree) shallow)
+    ∙ ap (λ (b : Bool). cond b (Some Expansion) None) (le-ltb most_size (label_size (bare tree)) (omega (arith, size-bare tree, few, small))))
 
 -- and is expanded to itself without parentheses
 pub expansion-bare : (definitions : List Defined) (tree : RawLabelTree) (label : LabelTree) → list_any is_alias (raw_postfix tree) ≡ false

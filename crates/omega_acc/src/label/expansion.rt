@@ -1,7 +1,12 @@
-ghost use Rattle.std.specs.Prelude.{◌≡◌, ◌≤◌, ◌++◌, [], length, slice_range, take, IfErr, IfOk, IsSome, OnOk};
+ghost use Rattle.std.specs.Prelude.{◌≡◌, ◌≤◌, ◌++◌, [], false, length, slice_range, take, IfErr, IfOk, IsSome, OnOk};
+ghost use Rattle.std.specs.List.{list_any};
 ghost use Rattle.omega_text.specs.Cases.{IsMemory};
 ghost use Rattle.omega_acc.specs.label.Expanding.{IsExpanded, IsExpansion, IsUnexpanded, entries_of, replaced};
+ghost use Rattle.omega_acc.specs.Limits.{most_depth, most_size};
+ghost use Rattle.omega_acc.specs.label.Raw.{raw_depth};
+ghost use Rattle.omega_acc.specs.private.layout.label.Bare.{is_alias};
 ghost use Rattle.omega_acc.specs.private.layout.label.Emitting.{nodes_of};
+ghost use Rattle.omega_acc.specs.private.layout.label.Raw.{raw_postfix};
 
 use crate::label::aliases::{Aliases, behind, front};
 use crate::label::codes::ROOM;
@@ -10,6 +15,9 @@ use crate::label::{Label, LabelNode};
 use crate::limits::{MOST_DEPTH, MOST_SIZE};
 use omega_text::{AutomatonFault, Refusal};
 use std::alloc::Global;
+
+/// How many nodes are copied at once, in two kilobytes.
+const MOST_AT_ONCE: usize = 256;
 
 /// A label with its aliases replaced by their definitions and its parentheses gone.
 ///
@@ -25,6 +33,28 @@ pub fn expand(alloc: Global, raw: &RawLabel, aliases: &Aliases) -> Result<Label,
 
 /// The same of a label that is let go: one without aliases keeps its memory, and nothing is copied.
 pub fn expand_in_place(alloc: Global, raw: RawLabel, aliases: &Aliases) -> Result<Label, Refusal>
+    ensures ok { IfOk result (λ label. IsExpansion aliases.now raw label) }
+    ensures err { IfErr result (IsUnexpanded aliases.now raw) }
+{
+    if raw.is_within_limits() {
+        // Most labels, of which nothing is counted.
+        return Ok(bare_label(raw, aliases));
+    }
+    expand_counted(alloc, raw, aliases)
+}
+
+/// The label without its parentheses, which is its expansion whatever the aliases are.
+fn bare_label(raw: RawLabel, _aliases: &Aliases) -> Label
+    requires no_alias { list_any is_alias (raw_postfix raw) ≡ false }
+    requires shallow { raw_depth raw ≤ most_depth }
+    requires small { length (raw_postfix raw) ≤ most_size }
+    ensures { IsExpansion _aliases.now raw result }
+{
+    raw.without_parentheses()
+}
+
+/// The expansion of a label that is counted first.
+fn expand_counted(alloc: Global, raw: RawLabel, aliases: &Aliases) -> Result<Label, Refusal>
     ensures ok { IfOk result (λ label. IsExpansion aliases.now raw label) }
     ensures err { IfErr result (IsUnexpanded aliases.now raw) }
 {
@@ -129,14 +159,39 @@ pub(crate) fn emit(
     Ok(())
 }
 
-/// Appends nodes that stand there once more.
+/// Appends nodes that stand there once more, so many at a time: a few are copied faster than one by one.
 fn repeat(out: &mut Vec<LabelNode>, start: usize, end: usize) -> Result<(), Refusal>
     requires forward { start ≤ end }
     requires within { end ≤ length out.old.items }
     ensures ok { OnOk result (out.new.items ≡ out.old.items ++ slice_range out.old.items start end) }
     ensures err { IfErr result IsMemory }
 {
-    prove!(end <= out.as_slice().len());
-    out.extend_from_within(start..end)?;
+    let alloc = *out.allocator();
+    let mut room = Vec::with_capacity(alloc, MOST_AT_ONCE)?;
+    let mut from = start;
+    while from < end {
+        let to = end.min(from + MOST_AT_ONCE);
+        copy_through(out, &mut room, from, to)?;
+        from = to;
+    }
+    Ok(())
+}
+
+/// Appends nodes that stand there once more, by way of others, which are lost.
+fn copy_through(
+    out: &mut Vec<LabelNode>,
+    room: &mut Vec<LabelNode>,
+    start: usize,
+    end: usize,
+) -> Result<(), Refusal>
+    requires forward { start ≤ end }
+    requires within { end ≤ length out.old.items }
+    ensures ok { OnOk result (out.new.items ≡ out.old.items ++ slice_range out.old.items start end) }
+    ensures err { IfErr result IsMemory }
+{
+    room.clear();
+    let nodes = out.as_slice();
+    room.extend_from_slice(&nodes[start..end])?;
+    out.extend_from_slice(room.as_slice())?;
     Ok(())
 }

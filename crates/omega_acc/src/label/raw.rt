@@ -4,7 +4,7 @@ ghost use Rattle.std.specs.Option.{SomeIff};
 ghost use Rattle.omega_acc.specs.label.Raw.{alias as alias_tree, conjunction, constant as constant_tree, disjunction, group as group_tree, negation, proposition as proposition_tree, raw_depth, raw_propositions};
 ghost use Rattle.omega_acc.specs.Depth.{IsDeeper, counted};
 ghost use Rattle.omega_text.specs.Cases.{IsMemory};
-ghost use Rattle.omega_acc.specs.Limits.{most_depth};
+ghost use Rattle.omega_acc.specs.Limits.{most_depth, most_size};
 ghost use Rattle.omega_acc.specs.private.layout.label.Bare.{bare, is_alias, is_bare};
 ghost use Rattle.omega_acc.specs.private.layout.label.Joining.{IsJoining, joined_by};
 
@@ -12,7 +12,7 @@ use crate::depth::deeper;
 use crate::label::codes::ROOM;
 use crate::label::compact::Compact;
 use crate::label::{Label, LabelNode};
-use crate::limits::MOST_DEPTH;
+use crate::limits::{MOST_DEPTH, MOST_SIZE};
 use omega_text::Refusal;
 use smallvec::SmallVec;
 use std::alloc::Global;
@@ -158,6 +158,16 @@ impl RawLabel {
         ensures { SomeIff result (list_any is_alias (raw_postfix self.now) ≡ false) (count_by is_bare (raw_postfix self.now)) }
     {
         self.written.bare_size()
+    }
+
+    /// Whether no alias stands in it, and it is neither deeper nor of more nodes than a label may be once expanded, as
+    /// it is written: then nothing of it needs to be counted.
+    pub(crate) fn is_within_limits(&self) -> bool
+        ensures no_alias { IsTrue result → list_any is_alias (raw_postfix self.now) ≡ false }
+        ensures shallow { IsTrue result → raw_depth self.now ≤ most_depth }
+        ensures small { IsTrue result → length (raw_postfix self.now) ≤ most_size }
+    {
+        !self.has_alias() && !self.is_too_deep() && self.written.len() <= MOST_SIZE as usize
     }
 
     /// The label without its parentheses, in the memory that it has.

@@ -2,7 +2,7 @@
 use Rattle.std.proofs.Common.{[], sym, ◌∙◌}
 use Rattle.omega_acc.specs.label.Expanding.{entries_of}
 use Rattle.omega_acc.proofs.labels.BareLemmas.{expansion-bare, shallow-bare}
-use Rattle.omega_acc.proofs.label.expansion.expand_in_place.Goals as goal
+use Rattle.omega_acc.proofs.label.expansion.expand_counted.Goals as goal
 
 pub without_parentheses-requires-clause-no_alias : goal.without_parentheses-requires-clause-no_alias
 without_parentheses-requires-clause-no_alias c = sym c.has_alias.ensures ∙ c.if-has_alias.false
