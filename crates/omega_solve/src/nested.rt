@@ -62,6 +62,7 @@ impl Schedule for Nested {
         first_pending(ranking, &self.pending)
     }
 
+    #[inline(always)]
     fn take(&mut self, place: u32) {
         let rank = self.ranking.rank(place) as usize;
         remove(&mut self.pending, rank);

@@ -164,8 +164,8 @@ impl<'g, T: MeasureTable, S: Schedule> Solver<'g, T, S> {
         self.lifts
     }
 
-    /// The number of places taken out of the pending set by all runs. A place whose lift the budget held back stays
-    /// pending and is not counted.
+    /// How often a place was taken, in all runs: out of the pending set, or once more at once, when it leads to itself.
+    /// A place whose lift the budget held back stays pending and is not counted.
     pub fn attempts(&self) -> u64
         ensures count { result ≡ self.now.pending.taken }
         ensures lifts { self.now.lifts ≤ result }

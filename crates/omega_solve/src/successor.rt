@@ -1,8 +1,8 @@
-ghost use Rattle.std.specs.Prelude.{◌≡◌, ◌≢◌, ◌↔◌, ◌<◌, ℕ, length, IsTrue, MatchBool, MatchOption};
+ghost use Rattle.std.specs.Prelude.{◌≡◌, ◌≢◌, ◌↔◌, ◌<◌, ℕ, length, IsTrue, MatchOption};
 ghost use Rattle.std.specs.declared.cmp.Ordering.TheVariants.{Equal};
 ghost use Rattle.omega_game.specs.Game.{IsGame, owner_at, priorities, priority_at, successors_at};
 ghost use Rattle.omega_lift.specs.Run.{IsDue};
-ghost use Rattle.omega_solve.specs.private.solving.Successor.{ExceedsToAll, IsChoiceAt, IsDueTowards, IsFirstBest, IsTableOf, KeepsToSome, order_from};
+ghost use Rattle.omega_solve.specs.private.solving.Successor.{IsChoiceAt, IsDueTowards, IsFirstBest, IsLeastExceeded, IsTableOf, KeepsToSome, order_from};
 
 use omega_lift::{
     allowances_are_monotone, allowances_are_strict, allowances_exist, measures_are_ordered,
@@ -12,6 +12,7 @@ use std::cmp::Ordering;
 
 /// The successor towards which a place is to be lifted: that of least allowance where the player owns the place, else
 /// that of greatest. None where no lift is due.
+#[inline(always)]
 pub(crate) fn due_towards<T: MeasureTable>(
     game: &Game,
     player: Player,
@@ -28,10 +29,7 @@ pub(crate) fn due_towards<T: MeasureTable>(
     allowances_exist();
     allowances_are_monotone();
     if owns(game, player, place) {
-        if exceeds_to_all(game, table, place) {
-            return Some(best_successor(game, table, place, Ordering::Less));
-        }
-        return None;
+        return least_exceeded(game, table, place);
     }
     let greatest = best_successor(game, table, place, Ordering::Greater);
     if table.due(place, greatest) {
@@ -73,19 +71,34 @@ fn owns(game: &Game, player: Player, place: u32) -> bool
     game.owner(place) == player
 }
 
-/// Whether the allowance of a place towards each of its successors exceeds its measure.
-fn exceeds_to_all<T: MeasureTable>(game: &Game, table: &T, place: u32) -> bool
+/// The first successor of a place of least measure, on the entries for priorities at least that of the place, if the
+/// allowance towards each successor exceeds the measure of the place. None where one does not: it is the last that is
+/// looked at.
+// Inlined, so that the place is looked up once for all its successors.
+#[inline(always)]
+fn least_exceeded<T: MeasureTable>(game: &Game, table: &T, place: u32) -> Option<u32>
     requires inside { place < length game.now }
     requires game { IsGame game.now }
     requires entries { length (T.content table.now).measures ≡ length game.now }
-    ensures { MatchBool result (ExceedsToAll game.now (T.content table.now) place) (KeepsToSome game.now (T.content table.now) place) }
+    requires priorities { (T.content table.now).priorities ≡ priorities game.now }
+    ensures { MatchOption result (KeepsToSome game.now (T.content table.now) place) (IsLeastExceeded game.now (T.content table.now) place) }
 {
-    for successor in game.successors(place) {
-        if !table.due(place, *successor) {
-            return false;
+    measures_are_ordered();
+    let successors = game.successors(place);
+    let mut least = successors[0];
+    if !table.due(place, least) {
+        return None;
+    }
+    for index in 1..successors.len() {
+        let successor = successors[index];
+        if !table.due(place, successor) {
+            return None;
+        }
+        if table.compare_for(place, successor, least) == Ordering::Less {
+            least = successor;
         }
     }
-    true
+    Some(least)
 }
 
 /// The first successor of a place to whose measure no other's compares as wanted, on the entries for priorities at

@@ -1,6 +1,6 @@
 -- Where a lift is due, told by the measures of the successors.
-use Rattle.std.proofs.Common.{◌≡◌, ◌≢◌, ℕ, ◌<◌, List, Some, None, length, arith, refl, sym, ◌∙◌, subst, slice_index, take}
-use Rattle.std.specs.Option.{IsSome, option_map}
+use Rattle.std.proofs.Common.{◌≡◌, ◌≢◌, ℕ, ◌<◌, List, Option, Some, None, length, arith, refl, sym, ◌∙◌, subst, slice_index, take}
+use Rattle.std.specs.Option.{IsSome, MatchOption, option_map}
 use Rattle.std.specs.Cmp.{IsTotalOrder}
 use Rattle.std.specs.declared.cmp.Ordering.{Ordering}
 use Rattle.std.specs.declared.cmp.Ordering.TheVariants.{Greater, Less}
@@ -15,7 +15,7 @@ use Rattle.omega_lift.specs.Run.{IsDue}
 use Rattle.omega_lift.specs.Answer.{IsFirstLeast}
 use Rattle.omega_lift.specs.Laws.{AllowancesAreMonotone, AllowancesAreStrict, AllowancesExist, MeasuresAreOrdered}
 use Rattle.omega_measure.specs.Table.{Content, Exceeds, IsAllowanceIn}
-use Rattle.omega_solve.specs.private.solving.Successor.{ExceedsToAll, IsDueTowards, IsFirstBest, IsTableOf, KeepsToSome, order_from}
+use Rattle.omega_solve.specs.private.solving.Successor.{ExceedsToAll, IsDueTowards, IsFirstBest, IsLeastExceeded, IsTableOf, KeepsToSome, order_from}
 use Rattle.omega_solve.proofs.lifting.Edges.{edge_at, index_of_edge}
 use Rattle.omega_solve.proofs.lifting.Order.{reversed, still_above}
 
@@ -147,6 +147,17 @@ owned_not_due nodes player content v game table lt entries order exist own keeps
     let inside : keeps.0 < length content.measures = omega (arith, game.closed v keeps.0 keeps.1, entries) in
     not_due nodes player content v keeps.0 table lt inside order exist
     (λ x y value allows. value.least own keeps.0 y keeps.1 allows) keeps.2
+
+-- so that the first least successor decides there
+pub owned_towards : (nodes : List Node) (player : Player) (content : Content) (v : ℕ) (found : Option ℕ)
+    → IsGame nodes → IsTableOf nodes player content → v < length nodes → length content.measures ≡ length nodes
+    → MeasuresAreOrdered → AllowancesExist → AllowancesAreMonotone → owner_at nodes v ≡ player
+    → MatchOption found (KeepsToSome nodes content v) (IsLeastExceeded nodes content v)
+    → MatchOption found (¬ IsDue nodes player content.measures v) (IsDueTowards nodes player content.measures v)
+owned_towards nodes player content v None game table lt entries order exist monotone own keeps =
+    owned_not_due nodes player content v game table lt entries order exist own keeps
+owned_towards nodes player content v (Some w) game table lt entries order exist monotone own least =
+    owned_due nodes player content v w table lt order monotone own least.exceeds least.least
 
 -- at the other's place a lift is due towards the greatest successor if the allowance towards it exceeds the measure
 pub other_due : (nodes : List Node) (player : Player) (content : Content) (v w : ℕ)

@@ -1,11 +1,12 @@
 -- The first best of the elements looked at so far.
-use Rattle.std.proofs.Common.{inl, inr, ◌≡◌, ◌≢◌, ℕ, ◌+◌, List, Some, arith}
+use Rattle.std.proofs.Common.{inl, inr, ◌≡◌, ◌≢◌, ℕ, ◌+◌, ◌≤◌, List, Some, length, arith}
 use Rattle.std.specs.List.{slice_get}
 use Rattle.std.specs.Cmp.{IsTotalOrder}
 use Rattle.std.specs.declared.cmp.Ordering.{Ordering}
 use Rattle.std.specs.declared.cmp.Ordering.TheVariants.{Equal}
 use Rattle.std.proofs.lemmas.Bool.{cases_eq}
 use Rattle.std.proofs.lemmas.Cmp.{tied_itself}
+use Rattle.std.proofs.lemmas.Option.{slice_get_within}
 use Rattle.omega_solve.specs.private.solving.Successor.{IsFirstBest}
 use Rattle.omega_solve.proofs.lifting.Order.{ahead, wanted_trans}
 
@@ -54,4 +55,15 @@ first_best_more order wanted xs i x u o ne b at better = record {
     | inr other ↦ λ same. b.best j v (omega arith) at_v (wanted_trans o wanted ne v u x same better)
   ];
   first = λ j v lt at_v. ahead o wanted ne u x v better (b.best j v lt at_v);
+}
+
+-- the first best of at least all elements is that of all
+pub first_best_within : (order : ℕ → ℕ → Ordering) (wanted : Ordering) (xs : List ℕ) (count x : ℕ)
+    → length xs ≤ count → IsFirstBest order wanted xs count x → IsFirstBest order wanted xs (length xs) x
+first_best_within order wanted xs count x all b = record {
+  index = b.index;
+  inside = slice_get_within xs b.index x b.listed;
+  listed = b.listed;
+  best = λ j u lt at. b.best j u (omega arith) at;
+  first = b.first;
 }

@@ -18,6 +18,10 @@ same_from_index Greater Less h = cc
 same_from_index Greater Equal h = cc
 same_from_index Greater Greater h = refl
 
+-- below is not alike
+pub less_is_not_equal : Less ≢ Equal
+less_is_not_equal e = cc
+
 -- what compares as r to a value, the value compares to it the other way
 pub reversed : {K : Type 0} {R : K → K → Ordering} (o : IsTotalOrder R) (x y : K) (r : Ordering) → R x y ≡ r → R y x ≡ ordering_reverse r
 reversed o x y r h = o.antisymm y x ∙ ap ordering_reverse h

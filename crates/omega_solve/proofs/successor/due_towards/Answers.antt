@@ -1,23 +1,17 @@
 -- The best successor decides whether a lift is due.
 use Rattle.std.proofs.Common.{arith, refl}
 use Rattle.std.proofs.lemmas.Bool.{false≢true}
-use Rattle.omega_solve.proofs.lifting.Due.{other_due, other_not_due, owned_due, owned_not_due, table_entries}
+use Rattle.omega_solve.proofs.lifting.Due.{other_due, other_not_due, owned_towards, table_entries}
 use Rattle.omega_solve.proofs.lifting.Edges.{edge_at}
 use Rattle.omega_solve.proofs.successor.due_towards.Goals as goal
-
-pub returns-then-exceeds_to_all : goal.returns-then-exceeds_to_all
-returns-then-exceeds_to_all g c =
-    owned_due c.args.game.now c.args.player (g.T.MeasureTable.content c.args.table.now) c.args.place c.best_successor.result
-    c.requires.table c.requires.inside c.measures_are_ordered.ensures c.allowances_are_monotone.ensures
-    (c.if-owns.ensures.0 refl) c.if-exceeds_to_all.ensures c.best_successor.ensures
 
 pub returns-then-owns : goal.returns-then-owns
 returns-then-owns g c =
     let content = g.T.MeasureTable.content c.args.table.now in
-    owned_not_due c.args.game.now c.args.player content c.args.place
+    owned_towards c.args.game.now c.args.player content c.args.place c.least_exceeded.result
     c.requires.game c.requires.table c.requires.inside (table_entries c.args.game.now c.args.player content c.requires.table)
-    c.measures_are_ordered.ensures c.allowances_exist.ensures
-    (c.if-owns.ensures.0 refl) c.if-exceeds_to_all.ensures
+    c.measures_are_ordered.ensures c.allowances_exist.ensures c.allowances_are_monotone.ensures
+    (c.if-owns.ensures.0 refl) c.least_exceeded.ensures
 
 pub due-requires-clause-towards : goal.due-requires-clause-towards
 due-requires-clause-towards g c =

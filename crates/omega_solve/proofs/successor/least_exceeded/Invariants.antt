@@ -1,8 +1,12 @@
--- The allowances towards the successors so far exceed the measure.
+-- The allowances towards the successors so far exceed the measure, and the first of least measure among them.
 use Rattle.std.proofs.Common.{ℕ, ◌<◌, slice_index}
+use Rattle.std.specs.declared.cmp.Ordering.TheVariants.{Less}
+use Rattle.omega_game.specs.Game.{priority_at}
 use Rattle.omega_measure.specs.Table.{Exceeds}
-use Rattle.omega_solve.proofs.successor.exceeds_to_all.Given as goal
+use Rattle.omega_solve.specs.private.solving.Successor.{IsFirstBest, order_from}
+use Rattle.omega_solve.proofs.successor.least_exceeded.Given as goal
 
-abbrev pub invariant-loop-successor : goal.invariant-loop-successor
-invariant-loop-successor g l =
-    (k : ℕ) → k < l.successor-index → Exceeds (g.T.MeasureTable.content l.table) l.place (slice_index l.successor-items k)
+abbrev pub invariant-loop-index : goal.invariant-loop-index
+invariant-loop-index g l =
+    ((k : ℕ) → k < l.index → Exceeds (g.T.MeasureTable.content l.table) l.place (slice_index l.successors k))
+    × IsFirstBest (order_from (g.T.MeasureTable.content l.table) (priority_at l.game l.place)) Less l.successors l.index l.least

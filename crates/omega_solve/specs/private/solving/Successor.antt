@@ -1,8 +1,9 @@
 -- The successor towards which a place is lifted, or to which it chooses to move.
-use Rattle.std.specs.Prelude.{◌≡◌, ◌≢◌, ℕ, ◌<◌, Option, Some, None, IsSome, List, slice_get}
+use Rattle.std.specs.Prelude.{◌≡◌, ◌≢◌, ℕ, ◌<◌, Option, Some, None, IsSome, List, length, slice_get}
 use Rattle.std.specs.declared.cmp.Ordering.{Ordering}
+use Rattle.std.specs.declared.cmp.Ordering.TheVariants.{Less}
 use Rattle.omega_game.specs.declared.player.Player.{Player}
-use Rattle.omega_game.specs.Game.{Node, HasEdge, owner_at, priorities}
+use Rattle.omega_game.specs.Game.{Node, HasEdge, owner_at, priorities, priority_at, successors_at}
 use Rattle.omega_lift.specs.Measure.{Measure, compare_from}
 use Rattle.omega_lift.specs.Allowance.{IsAllowanceOf, measure_at}
 use Rattle.omega_lift.specs.Answer.{IsFirstLeast}
@@ -36,6 +37,11 @@ ExceedsToAll nodes content v = (w : ℕ) → HasEdge nodes v w → Exceeds conte
 -- there is a successor of v, the allowance towards which does not exceed its measure
 abbrev pub KeepsToSome : List Node → Content → ℕ → Type 0
 KeepsToSome nodes content v = (w : ℕ) × HasEdge nodes v w × ¬ Exceeds content v w
+
+-- w is the first successor of v of least measure, and the allowance towards each exceeds the measure of v
+pub record IsLeastExceeded (nodes : List Node) (content : Content) (v w : ℕ) : Type 0 where
+  pub exceeds : ExceedsToAll nodes content v
+  pub least : IsFirstBest (order_from content (priority_at nodes v)) Less (successors_at nodes v) (length (successors_at nodes v)) w
 
 -- a lift is due at v, and its lift value is the allowance towards w
 pub record IsDueTowards (nodes : List Node) (player : Player) (table : List Measure) (v w : ℕ) : Type 0 where
