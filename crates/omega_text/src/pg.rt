@@ -1,5 +1,6 @@
 //! PGSolver's texts, of games and of solutions, as tokens.
 
+mod digits;
 mod format;
 mod kind;
 pub mod laws;

@@ -1,6 +1,7 @@
 -- White space between tokens.
-use Rattle.std.proofs.Common.{◌≡◌, ℕ, ◌+◌, ◌-◌, ◌<◌, ◌≤◌, false, List, length, get_or, drop, sym, ap, ◌∙◌, arith, length-drop}
-use Rattle.std.proofs.lemmas.List.{get_or-drop}
+use Rattle.std.proofs.Common.{◌≡◌, ℕ, ◌+◌, ◌-◌, ◌<◌, ◌≤◌, inl, inr, true, false, List, length, get_or, drop, sym, ap, ◌∙◌, subst, arith, length-drop}
+use Rattle.std.proofs.lemmas.Bool.{cases_lt}
+use Rattle.std.proofs.lemmas.List.{get_or-drop, get_or_default}
 use Rattle.std.proofs.lemmas.List.Sums.{prefix_len-le-length, prefix_len_passes, prefix_len_stops}
 use Rattle.std.specs.List.{prefix_len}
 use Rattle.omega_text.specs.Bytes.{is_white}
@@ -25,3 +26,24 @@ module _ (source : List ℕ) (from : ℕ) (inside : from ≤ length source) wher
   run_black more =
       let size = length-drop from source in
       sym (ap is_white (get_or-drop from source (prefix_len is_white (drop from source)) 0)) ∙ prefix_len_stops is_white (drop from source) 0 (omega arith)
+
+-- no byte is a gap
+pub no_gap : (source : List ℕ) (from : ℕ) → from ≤ length source → IsGap source from from
+no_gap source from inside = record {
+  forward = omega arith;
+  within = inside;
+  white = λ k d low high. absurd (omega (arith, low, high));
+}
+
+-- a white byte behind a gap
+pub gap_more : (source : List ℕ) (from to : ℕ) → IsGap source from to → to < length source → is_white (get_or source to 0) ≡ true → IsGap source from (to + 1)
+gap_more source from to gap inside white = record {
+  forward = omega (arith, gap.forward);
+  within = omega (arith, inside);
+  white = λ k d low high. elim (cases_lt k to) [
+    | inl before ↦ gap.white k d low before
+    | inr past ↦
+        let same : k ≡ to = omega (arith, past, high) in
+        subst (λ at. is_white (get_or source at d) ≡ true) (sym same) (ap is_white (get_or_default source to d 0 inside) ∙ white)
+  ];
+}

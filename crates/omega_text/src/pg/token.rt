@@ -11,9 +11,10 @@ ghost use Rattle.omega_text.specs.Format.{IsPartBehind};
 ghost use Rattle.omega_text.specs.Lexeme.{lexeme_at, lexeme_of};
 ghost use Rattle.omega_text.specs.Limits.{most_number};
 
+use super::digits::ended_digits;
 use super::kind::PgKind;
 use super::name::name_count;
-use crate::bytes::{is_letter, tail, white_count, word_count};
+use crate::bytes::{is_letter, is_white, tail, word_count};
 use crate::digits::{front_digits, has_needless_zero};
 use crate::limits::MOST_NUMBER;
 use crate::refusal::TextFault;
@@ -36,17 +37,28 @@ pub fn next_pg_token(source: &[u8], at: usize) -> Result<Option<Token<'_, PgKind
         return Ok(None);
     }
     let bytes = tail(source, start);
+    if let Some(front) = plain_number(bytes) {
+        return Ok(Some(front_token(bytes, start, front)));
+    }
     let front = first_form(bytes, start)?;
     Ok(Some(front_token(bytes, start, front)))
 }
 
 /// Where the white space ends that stands at a place.
+#[inline(always)]
 fn gap_end(source: &[u8], from: usize) -> usize
     requires { from ≤ length source.now }
     ensures gap { IsGap source.now from result }
     ensures black { result < length source.now → is_white (slice_index source.now result) ≡ false }
 {
-    from + white_count(tail(source, from))
+    let mut end = from;
+    while end < source.len() {
+        if !is_white(source[end]) {
+            return end;
+        }
+        end += 1;
+    }
+    end
 }
 
 /// The longest form that bytes begin with, as the token that it is.
@@ -96,8 +108,28 @@ fn plain_form(kind: PgKind, count: usize) -> Form
     }
 }
 
-/// The number that bytes begin with: their whole run of digits is one, or is refused.
+/// The number that bytes begin with, if it has few digits and another byte ends them. None says nothing.
 #[inline(always)]
+fn plain_number(bytes: &[u8]) -> Option<Form>
+    requires { 0 < length bytes.now }
+    ensures { IfSome result (λ form. IsFirstForm bytes.now form.kind form.value form.count) }
+{
+    if !bytes[0].is_ascii_digit() {
+        return None;
+    }
+    let (count, value) = ended_digits(bytes);
+    if count == 0 || has_needless_zero(bytes, count) || value > MOST_NUMBER as u64 {
+        return None;
+    }
+    Some(Form {
+        kind: PgKind::Number,
+        value: value as u32,
+        count,
+    })
+}
+
+/// The number that bytes begin with: their whole run of digits is one, or is refused.
+#[inline(never)]
 fn first_number(bytes: &[u8], place: usize) -> Result<Form, TextFault>
     requires some { 0 < length bytes.now }
     requires digit { is_digit (slice_index bytes.now 0) ≡ true }
