@@ -74,13 +74,31 @@ RUNS = [
     *(("Reordered", text, b"", 0, b"") for text in GAMES),
     *((call, text, b"", 0, b"") for call in ("solve_by_search", "search") for text in GAMES),
     ("order", CHOICE, b"", 0, b""),
-    *((call, text, b"", 0, b"") for call in ("emptiness_game", "emptiness", "lasso", "verdict_of")
+    *((call, text, b"", 0, b"") for call in ("emptiness_game", "emptiness", "emptiness_watched", "lasso", "verdict_of")
       for text in (BUCHI, TWO_SETS, WRITTEN)),
     ("emptiness", b"HOA: v1 Acceptance: 0 t --BODY-- --END--", b"", 40, b""),
     ("read_lasso", b" stem 3\t1 cycle 4 1 5 9 2", b"", 0, b"stem 3 1\ncycle 4 1 5 9 2\n"),
     ("read_lasso", b"stem 3 cycle", b"", 3, b""),
     ("word_of", ONE_LETTER, b"stem 0 cycle 0 0", 0, b'!"a b" & c; cycle{!"a b" & c; !"a b" & c}'),
     ("word_of", ONE_LETTER, b"stem cycle 00", 2, b""),
+    ("judge_lasso", TWO_SETS, b"stem cycle 1 2 0", 0, b"accepts"),
+    ("judge_lasso", TWO_SETS, b"stem cycle 0", 0, b"the cycle does not accept"),
+    ("judge_lasso", TWO_SETS, b"stem 0 cycle 2", 0, b"edge 2 does not follow"),
+    ("judge_lasso", TWO_SETS, b"stem cycle 3", 0, b"edge 3 is not there"),
+    ("judge_lasso", TWO_SETS, b"stem cycle 00", 2, b""),
+    ("edge_places", TWO_SETS, b"", 0, b"0 0 0 1 1 0 "),
+    *(("product", text, other, 0, b"HOA: v1\n") for text in (BUCHI, WRITTEN) for other in (BUCHI, TWO_SETS, WRITTEN)),
+    ("product", BUCHI, b"HOA: v2 --BODY-- --END--", 20, b""),
+    *(("complement", text, b"", 0, b"HOA: v1\n") for text in (BUCHI, ALIASES, WRITTEN, ONE_LETTER)),
+    ("complement", TWO_SETS, b"", 56, b""),
+    ("read_text", b"7 8;", b"", 0, b"7 8 "),
+    ("read_text", b"7 00", b"", 2, b""),
+    ("read_all", b"a" * 5000, b"", 0, b"a" * 5000),
+    ("read_piece", b"0123456789", b"", 0, b"0123456789"),
+    ("tell_stream", STREAM, b"", 0, b"HOA: v1\n"),
+    ("tell_stream", BUCHI + b"x", b"", 3, b""),
+    ("lines_in", b"second text", b"", 0, b"omega: 3 Syntax at 12\nomega: in the second text\n"),
+    ("file_lines", b"a.pg", b"", 0, b"omega: 61 Io\nomega: cannot read 'a.pg'\n"),
 ]
 
 SOLVERS = [f"{table} {order}" for table in ("plain", "packed") for order in ("sweep", "worklist", "nested")]

@@ -1,7 +1,7 @@
 //! Emptiness of automata.
 use crate::lists::put_all;
 use omega_budget::{Found, Reordered, Unwatched};
-use omega_empty::{Automaton, Verdict, emptiness, emptiness_game, verdict_of};
+use omega_empty::{Automaton, Verdict, emptiness, emptiness_game, emptiness_watched, verdict_of};
 use omega_game::{Game, Player, Refusal};
 use omega_hoa::read_one;
 use omega_lasso::lasso;
@@ -11,7 +11,7 @@ use std::alloc::Global;
 
 pub(crate) fn called(alloc: Global, call: &str, text: &[u8]) -> Option<Result<Vec<u8>, Refusal>> {
     match call {
-        "emptiness_game" | "emptiness" | "lasso" | "verdict_of" => {
+        "emptiness_game" | "emptiness" | "emptiness_watched" | "lasso" | "verdict_of" => {
             Some(called_of(alloc, call, text))
         }
         _ => None,
@@ -29,6 +29,7 @@ fn of_automaton(alloc: Global, call: &str, automaton: &Automaton) -> Result<Vec<
     match call {
         "emptiness_game" => game_written(alloc, automaton),
         "emptiness" => verdict_written(alloc, emptiness(alloc, automaton, MOST_LIFTS)),
+        "emptiness_watched" => verdict_written(alloc, watched(alloc, automaton)),
         "lasso" => verdict_written(alloc, lasso(alloc, automaton)),
         _ => verdict_written(alloc, decided(alloc, automaton)),
     }
@@ -51,6 +52,11 @@ fn verdict_written(alloc: Global, verdict: Result<Verdict, Refusal>) -> Result<V
         }
     }
     Ok(out)
+}
+
+/// The verdict within a small budget, while nobody is told.
+fn watched(alloc: Global, automaton: &Automaton) -> Result<Verdict, Refusal> {
+    emptiness_watched(alloc, automaton, 1000, &Unwatched, &mut ())
 }
 
 /// The verdict of the emptiness game once it is solved.

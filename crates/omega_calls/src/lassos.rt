@@ -1,5 +1,8 @@
-//! Texts and words of lassos.
+//! Texts and words of lassos, and their referee.
+use crate::lists::put;
+use omega_edge_table::edge_places;
 use omega_hoa::read_one;
+use omega_lasso_judge::{judge_lasso, write_lasso_fault};
 use omega_lasso_text::{LassoText, Refusal, read_lasso, write_lasso};
 use omega_lasso_word::{Automaton, word_of};
 use std::alloc::Global;
@@ -12,7 +15,8 @@ pub(crate) fn called(
 ) -> Option<Result<Vec<u8>, Refusal>> {
     match call {
         "read_lasso" => Some(read_and_written(alloc, text)),
-        "word_of" => Some(word_in(alloc, text, other)),
+        "word_of" | "judge_lasso" => Some(of_lasso_in(alloc, call, text, other)),
+        "edge_places" => Some(places_in(alloc, text)),
         _ => None,
     }
 }
@@ -24,17 +28,23 @@ fn read_and_written(alloc: Global, text: &[u8]) -> Result<Vec<u8>, Refusal> {
     }
 }
 
-/// The word of the lasso of a text in the automaton of another.
-fn word_in(alloc: Global, text: &[u8], other: &[u8]) -> Result<Vec<u8>, Refusal> {
+/// Of the automaton of a text and the lasso of another its word, or what the referee says.
+fn of_lasso_in(alloc: Global, call: &str, text: &[u8], other: &[u8]) -> Result<Vec<u8>, Refusal> {
     match read_one(alloc, text) {
-        Ok(automaton) => word_along(alloc, &automaton, other),
+        Ok(automaton) => of_lasso(alloc, call, &automaton, other),
         Err(refusal) => Err(refusal),
     }
 }
 
-fn word_along(alloc: Global, automaton: &Automaton, text: &[u8]) -> Result<Vec<u8>, Refusal> {
+fn of_lasso(
+    alloc: Global,
+    call: &str,
+    automaton: &Automaton,
+    text: &[u8],
+) -> Result<Vec<u8>, Refusal> {
     match read_lasso(alloc, text) {
-        Ok(lasso) => word(alloc, automaton, &lasso),
+        Ok(lasso) if call == "word_of" => word(alloc, automaton, &lasso),
+        Ok(lasso) => judged(alloc, automaton, &lasso),
         Err(refusal) => Err(refusal),
     }
 }
@@ -46,4 +56,34 @@ fn word(alloc: Global, automaton: &Automaton, lasso: &LassoText) -> Result<Vec<u
         lasso.stem.as_slice(),
         lasso.cycle.as_slice(),
     )
+}
+
+/// The fault of a lasso, or that it accepts.
+fn judged(alloc: Global, automaton: &Automaton, lasso: &LassoText) -> Result<Vec<u8>, Refusal> {
+    let (stem, cycle) = (lasso.stem.as_slice(), lasso.cycle.as_slice());
+    let found = judge_lasso(alloc, automaton, stem, cycle)?;
+    let mut out = Vec::new(alloc);
+    match found {
+        Some(fault) => write_lasso_fault(fault, &mut out)?,
+        None => out.extend_from_slice(b"accepts")?,
+    }
+    Ok(out)
+}
+
+/// Where the edges of the automaton of a text stand: the place of the state, and that among its edges.
+fn places_in(alloc: Global, text: &[u8]) -> Result<Vec<u8>, Refusal> {
+    match read_one(alloc, text) {
+        Ok(automaton) => places_of(alloc, &automaton),
+        Err(refusal) => Err(refusal),
+    }
+}
+
+fn places_of(alloc: Global, automaton: &Automaton) -> Result<Vec<u8>, Refusal> {
+    let places = edge_places(alloc, automaton)?;
+    let mut out = Vec::new(alloc);
+    for place in &places {
+        put(&mut out, place.state as u128)?;
+        put(&mut out, place.index as u128)?;
+    }
+    Ok(out)
 }

@@ -7,6 +7,8 @@ mod automata;
 mod emptiness;
 mod expressions;
 mod games;
+mod inputs;
+mod joining;
 mod lassos;
 mod lists;
 mod quiet;
@@ -70,6 +72,12 @@ fn called(alloc: Global, call: &str, text: &[u8], other: &[u8]) -> Result<Vec<u8
         return given;
     }
     if let Some(given) = streams::called(alloc, call, text) {
+        return given;
+    }
+    if let Some(given) = joining::called(alloc, call, text, other) {
+        return given;
+    }
+    if let Some(given) = inputs::called(alloc, call, text) {
         return given;
     }
     if let Some(given) = games::called(alloc, call, text, other) {

@@ -19,7 +19,7 @@ use Rattle.omega_complement.specs.Complement.{IsDeterministic}
 use Rattle.omega_complement.specs.Dual.{dual}
 use Rattle.omega_complement.specs.Labels.{labels_at, state_at}
 use Rattle.omega_written.specs.Labels.{label_at}
-use Rattle.omega_complement.specs.Letters.{AreApart}
+use Rattle.omega_complement.specs.Letters.{AreExclusive}
 use Rattle.omega_complement.specs.Written.{IsWrittenComplement}
 use Rattle.omega_complement.proofs.Bits.{both_true}
 use Rattle.omega_complement.proofs.Full.{any_at}
@@ -73,7 +73,7 @@ module _ (a : Description) (is_automaton : IsAutomaton a) where
       go (inr at) = itself (All-contains (λ (m : ℕ). m < a.sets) move.edge.marks a.sets both.1.marks.below at)
 
   -- at a letter there is one move at most
-  pub moves_same : (n : ℕ) (held : ℕ → Bool) (to other : ℕ) (marks others : List ℕ) → AreApart (labels_at a n) → IsMove a n held to marks → IsMove a n held other others
+  pub moves_same : (n : ℕ) (held : ℕ → Bool) (to other : ℕ) (marks others : List ℕ) → AreExclusive (labels_at a n) → IsMove a n held to marks → IsMove a n held other others
       → (to ≡ other) × (marks ≡ others)
   moves_same n held to other marks others apart one two = go (cases_order one.index two.index)
     where

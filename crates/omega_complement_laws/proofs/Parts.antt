@@ -20,7 +20,7 @@ use Rattle.omega_raw.specs.declared.raw_edge.RawEdge.{RawEdge}
 use Rattle.omega_raw.specs.declared.raw_state.RawState.{RawState}
 use Rattle.omega_complement.specs.Complement.{IsDeterministic}
 use Rattle.omega_complement.specs.Labels.{labels_at, state_at}
-use Rattle.omega_complement.specs.Letters.{IsAnyOf, IsRest, alone, halves}
+use Rattle.omega_complement.specs.Letters.{IsAnyOf, IsRestLabel, alone, halves}
 use Rattle.omega_complement.specs.Written.{IsMissing, IsTurned, IsWrittenComplement, further_edges, one_if, sink_state, sinks, turned_edge, turned_edges}
 use Rattle.omega_complement.proofs.Bits.{both_true}
 use Rattle.omega_complement.proofs.Rows.{each_at}
@@ -95,7 +95,7 @@ any_over count labels any (halves left right x y even first second) all =
     let back : (length left + k) - length left ≡ k = omega arith in
     all (length left + k) l (get_right left right (length left + k) (omega arith) ∙ ap (slice_get right) back ∙ e)))
 
-rest_over : (count : ℕ) (labels : List LabelTree) (rest : LabelTree) → IsRest labels rest → ((k : ℕ) (l : LabelTree) → slice_get labels k ≡ Some l → is_over count l ≡ true)
+rest_over : (count : ℕ) (labels : List LabelTree) (rest : LabelTree) → IsRestLabel labels rest → ((k : ℕ) (l : LabelTree) → slice_get labels k ≡ Some l → is_over count l ≡ true)
     → is_over count rest ≡ true
 rest_over count [] rest is all = ap (is_over count) is
 rest_over count (l ∷ labels) rest is all = ap (is_over count) is.2 ∙ any_over count (l ∷ labels) is.0 is.1 all

@@ -17,14 +17,14 @@ ComplementsAreApart =
     → IsAccepted a word → IsAccepted complement word → ⊥
 
 -- a test passes for ever, or at last no more
-abbrev pub IsSettled : (ℕ → Bool) → Type 0
-IsSettled test = ((i : ℕ) → (j : ℕ) × (i ≤ j) × IsTrue (test j)) ⊎ ((from : ℕ) × ((j : ℕ) → from ≤ j → test j ≡ false))
+abbrev pub RecursOrCeases : (ℕ → Bool) → Type 0
+RecursOrCeases test = ((i : ℕ) → (j : ℕ) × (i ≤ j) × IsTrue (test j)) ⊎ ((from : ℕ) × ((j : ℕ) → from ≤ j → test j ≡ false))
 
 -- where each test is settled, as it is by the excluded middle, each word is accepted by a deterministic automaton or by
 -- its complement
 abbrev pub ComplementsCover : Type 0
 ComplementsCover =
-    ((test : ℕ → Bool) → IsSettled test)
+    ((test : ℕ → Bool) → RecursOrCeases test)
     → (a complement : Description) (word : ℕ → ℕ → Bool) → IsAutomaton a → IsDeterministic a → IsComplement a complement
     → IsAccepted a word ⊎ IsAccepted complement word
 

@@ -3,7 +3,7 @@ use Rattle.std.proofs.Common.{◌≡◌, ℕ, zero, suc, Bool, true, false, ◌|
 use Rattle.omega_acc.specs.formula.Acceptance.{occurs}
 use Rattle.omega_automaton.specs.Automaton.{Description}
 use Rattle.omega_empty.specs.Lasso.{Leads}
-use Rattle.omega_empty.specs.Runs.{meets}
+use Rattle.omega_walk.specs.Marks.{meets}
 
 -- one list of edges and then another
 pub leads_on : (a : Description) (s : ℕ) (xs : List ℕ) (t : ℕ) (ys : List ℕ) (u : ℕ)

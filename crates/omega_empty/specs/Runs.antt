@@ -1,19 +1,16 @@
 -- Infinite runs of automata without universal branching, and that accepting runs and accepting lassos are the same
 -- question (HOA v1, acceptance).
-use Rattle.std.specs.Prelude.{◌≡◌, ◌⊎◌, ℕ, ◌+◌, ◌≤◌, Bool, not, false, IsTrue, if◌then◌else◌, List}
-use Rattle.omega_acc.specs.formula.Acceptance.{AccTree, conjunction, constant, disjunction, fin, holds, inf}
+use Rattle.std.specs.Prelude.{◌≡◌, ◌⊎◌, ℕ, ◌+◌, ◌≤◌, Bool, false, IsTrue, List}
+use Rattle.omega_acc.specs.formula.Acceptance.{AccTree, conjunction, constant, disjunction, fin, inf}
 use Rattle.omega_automaton.specs.Automaton.{Description}
 use Rattle.omega_automaton.specs.Branching.{has_branch}
+use Rattle.omega_walk.specs.Marks.{meets}
 use Rattle.omega_empty.specs.Lasso.{IsAcceptingLasso, IsStart, IsStep, marks_at}
 
 -- a run: a start, and infinitely many usable edges by their numbers, each leaving the state that the one before enters
 pub record IsRun (a : Description) (states edges : ℕ → ℕ) : Type 0 where
   pub begins : IsStart a (states 0)
   pub steps : (i : ℕ) → IsStep a (states i) (edges i) (states (i + 1))
-
--- whether marks hold a set, or with `!` lack it
-abbrev pub meets : Bool → ℕ → List ℕ → Bool
-meets negated set marks = if negated then not (holds set marks) else holds set marks
 
 -- at or behind every index some marks hold the set, or with `!` lack it
 abbrev pub ForEver : (ℕ → List ℕ) → Bool → ℕ → Type 0
@@ -23,8 +20,9 @@ ForEver marks negated set = (i : ℕ) → (j : ℕ) × (i ≤ j) × IsTrue (meet
 abbrev pub AtLastNever : (ℕ → List ℕ) → Bool → ℕ → Type 0
 AtLastNever marks negated set = (from : ℕ) × ((j : ℕ) → from ≤ j → meets negated set (marks j) ≡ false)
 
--- an acceptance formula holds of infinitely many marks: `Inf` where they come for ever,
--- `Fin` where they at last come never
+-- an acceptance formula holds of infinitely many marks: `Inf` where they come for ever, `Fin` where they at last come
+-- never, a conjunction where both its parts do; a disjunction where one of them does and is named, which is more than
+-- that not both fail, since there is no excluded middle here
 abbrev pub Satisfies : (ℕ → List ℕ) → AccTree → Type 0
 Satisfies marks (constant value) = IsTrue value
 Satisfies marks (inf negated set) = ForEver marks negated set

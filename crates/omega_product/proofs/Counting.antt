@@ -8,7 +8,7 @@ use Rattle.omega_raw.specs.declared.raw_state.RawState.{RawState}
 use Rattle.omega_written.specs.Limits.{most_edges}
 use Rattle.omega_product.specs.Pairs.{AreReached, Pair, first_leaving, partners, second_leaving, targets_between, targets_of}
 use Rattle.omega_product.specs.Product.{joint_transitions, taken_together}
-use Rattle.omega_product.specs.Refusing.{IsTooLarge, many_edges}
+use Rattle.omega_product.specs.Refusing.{IsProductTooLarge, many_edges}
 use Rattle.omega_product.specs.declared.transition.Transition.{Transition}
 use Rattle.omega_product.specs.Written.{raw_edge, raw_state_of}
 use Rattle.omega_product.proofs.Steps.{map_one}
@@ -58,7 +58,7 @@ module _ (one other : Description) (pairs : List Pair) where
     }
 
     pub edges_many : (pair : Pair) (state : RawState) → AreReached one other pairs → at < length pairs → pair ≡ get_or pairs at pair
-        → state ≡ raw_state_of one other pairs pair → most_edges < edges + length state.edges → IsTooLarge one other
+        → state ≡ raw_state_of one other pairs pair → most_edges < edges + length state.edges → IsProductTooLarge one other
     edges_many pair state reached below here is many =
         let own : length state.edges ≡ leaving (get_or pairs at pair) = ap (λ (s : RawState). length s.edges) is ∙ state_edges pair ∙ ap leaving here in
         many_edges (record { pairs = pairs; reached = reached; many = omega (arith, many, own, so_far.edges_are, sum_by_more_le leaving pairs at pair below) })

@@ -23,7 +23,7 @@ use Rattle.omega_text.specs.Limits.{most_number}
 use Rattle.omega_product.specs.Acceptance.{IsJointAcceptance}
 use Rattle.omega_product.specs.Limits.{IsWithin}
 use Rattle.omega_written.specs.Limits.{most_edges, most_states}
-use Rattle.omega_product.specs.Pairs.{AreReached, Pair, first_leaving, number_of, second_leaving, start_pairs}
+use Rattle.omega_product.specs.Pairs.{AreReached, Pair, first_leaving, pair_number, second_leaving, start_pairs}
 use Rattle.omega_product.specs.Product.{IsJointEdge, IsPairState, IsProduct, joint_transitions}
 use Rattle.omega_product.specs.declared.transition.Transition.{Transition}
 use Rattle.omega_product.specs.Written.{IsWrittenProduct, name_items, raw_edge, raw_product, raw_start, raw_state_of}
@@ -42,15 +42,15 @@ module _ (pairs : List Pair) where
   nothing_said : {X : Type 0} (says : RawItem → Option X) → ((states : List ℕ) → says (item.Start states) ≡ None) → (ps : List Pair)
       → filter_map says (map (raw_start pairs) ps) ≡ []
   nothing_said says none [] = refl
-  nothing_said {X = X} says none (p ∷ ps) = rw (none (number_of pairs p ∷ [])) (nothing_said says none ps)
+  nothing_said {X = X} says none (p ∷ ps) = rw (none (pair_number pairs p ∷ [])) (nothing_said says none ps)
 
   no_properties : (ps : List Pair) → flat_map properties_in (map (raw_start pairs) ps) ≡ []
   no_properties [] = refl
   no_properties (p ∷ ps) = no_properties ps
 
-  starts_said : (ps : List Pair) → filter_map start_in (map (raw_start pairs) ps) ≡ map (λ pair. number_of pairs pair ∷ []) ps
+  starts_said : (ps : List Pair) → filter_map start_in (map (raw_start pairs) ps) ≡ map (λ pair. pair_number pairs pair ∷ []) ps
   starts_said [] = refl
-  starts_said (p ∷ ps) = ap (λ (rest : List (List ℕ)). (number_of pairs p ∷ []) ∷ rest) (starts_said ps)
+  starts_said (p ∷ ps) = ap (λ (rest : List (List ℕ)). (pair_number pairs p ∷ []) ∷ rest) (starts_said ps)
 
 -- a label that is not there, and marks that are none
 no_label : (definitions : List Defined) (l : Option LabelTree) → IsLabelOf definitions None l → l ≡ None
@@ -124,7 +124,7 @@ module _ (mean : WrittenLabelsMean) (formulas : WrittenFormulasMean) (one other 
           → ((n : AccName) → says (item.AccName n) ≡ None) → first_said says (name_items name ++ map (raw_start pairs) (start_pairs one other)) ≡ None
       first {X = X} says none unnamed = ap (λ (l : List X). slice_get l 0) (nothing_behind name says none unnamed)
 
-      starts_behind : (name : Option AccName) → filter_map start_in (name_items name ++ map (raw_start pairs) (start_pairs one other)) ≡ map (λ pair. number_of pairs pair ∷ []) (start_pairs one other)
+      starts_behind : (name : Option AccName) → filter_map start_in (name_items name ++ map (raw_start pairs) (start_pairs one other)) ≡ map (λ pair. pair_number pairs pair ∷ []) (start_pairs one other)
       starts_behind None = starts_said pairs (start_pairs one other)
       starts_behind (Some n) = starts_said pairs (start_pairs one other)
 

@@ -8,7 +8,7 @@ use Rattle.omega_acc.specs.Limits.{most_mentioned}
 use Rattle.omega_acc.specs.label.Label.{LabelTree, conjunction}
 use Rattle.omega_acc.specs.label.Satisfiable.{mentioned}
 use Rattle.omega_acc.specs.label.Shape.{FitsALabel}
-use Rattle.omega_satisfying.specs.Undecided.{IsUndecided}
+use Rattle.omega_satisfying.specs.Undecided.{IsUndecidedLabel}
 use Rattle.omega_automaton.specs.Automaton.{Description}
 use Rattle.omega_written.specs.Fitting.{FitsAText, IsUnfit}
 use Rattle.omega_written.proofs.Depths.{unfit_text}
@@ -69,7 +69,7 @@ unfit_unmet transition other label is refusal h =
 
 -- one that may not be decided too
 pub wide_unmet : (transition other : Transition) (label : LabelTree) → label ≡ conjunction transition.label other.label → (refusal : Refusal)
-    → IsUndecided label refusal → or_task (IsUnmet transition other) (or_memory never) refusal
+    → IsUndecidedLabel label refusal → or_task (IsUnmet transition other) (or_memory never) refusal
 wide_unmet transition other label is refusal h =
     task_weaker (λ fault. (fault ≡ TooManyPropositions) × (most_mentioned < length (mentioned label))) (IsUnmet transition other)
     (λ fault p. subst (IsUnmet transition other) (sym p.0) (subst (λ (l : LabelTree). most_mentioned < length (mentioned l)) is p.1)) refusal h

@@ -83,8 +83,8 @@ pub record AreReached (one other : Description) (pairs : List Pair) : Type 0 whe
   pub all : pairs ≡ found_behind one other pairs
 
 -- the number of a pair among the pairs
-abbrev pub number_of : List Pair → Pair → ℕ
-number_of pairs pair = position_or_len (same_pair pair) pairs
+abbrev pub pair_number : List Pair → Pair → ℕ
+pair_number pairs pair = position_or_len (same_pair pair) pairs
 
 -- the name of a pair
 abbrev pub pair_name : Pair → List ℕ

@@ -8,14 +8,14 @@ use Rattle.omega_automaton.specs.declared.edge.Edge.{Edge}
 use Rattle.omega_automaton.specs.declared.state.State.{State}
 use Rattle.omega_product.specs.Acceptance.{IsJointAcceptance}
 use Rattle.omega_product.specs.Joining.{joined_names}
-use Rattle.omega_product.specs.Pairs.{AreReached, Pair, first_leaving, number_of, pair_name, partners, second_leaving, start_pairs}
+use Rattle.omega_product.specs.Pairs.{AreReached, Pair, first_leaving, pair_name, pair_number, partners, second_leaving, start_pairs}
 use Rattle.omega_product.specs.declared.transition.Transition.{Transition}
 
 -- an edge of the first and one of the second taken together
 abbrev pub taken_together : List Pair → Transition → Transition → Transition
 taken_together pairs transition other = record {
   label = conjunction transition.label other.label;
-  target = number_of pairs (transition.target, other.target);
+  target = pair_number pairs (transition.target, other.target);
   marks = transition.marks ++ other.marks;
 }
 
@@ -33,7 +33,7 @@ pub record IsJointEdge (transition : Transition) (edge : Edge) : Type 0 where
 -- a state of the product: a pair, by its number and its name, with the edges of both taken together
 pub record IsPairState (one other : Description) (pairs : List Pair) (pair : Pair) (state : State) : Type 0 where
   pub label : state.label ≡ None
-  pub number : state.number ≡ number_of pairs pair
+  pub number : state.number ≡ pair_number pairs pair
   pub name : state.name ≡ Some (pair_name pair)
   pub marks : state.marks ≡ []
   pub edges : AllZip IsJointEdge (joint_transitions pairs (first_leaving one other pair) (second_leaving one other pair)) state.edges
@@ -45,7 +45,7 @@ pub record IsProduct (one other a : Description) : Type 0 where
   pub tool : a.tool ≡ None
   pub name : a.name ≡ None
   pub states : a.states ≡ length pairs
-  pub starts : a.starts ≡ map (λ pair. number_of pairs pair ∷ []) (start_pairs one other)
+  pub starts : a.starts ≡ map (λ pair. pair_number pairs pair ∷ []) (start_pairs one other)
   pub propositions : a.propositions ≡ joined_names one.propositions other.propositions
   pub sets : a.sets ≡ one.sets + other.sets
   pub accepted : IsJointAcceptance one other a.acc_name a.acceptance

@@ -30,8 +30,8 @@ use Rattle.omega_written.specs.Fitting.{FitsAText}
 use Rattle.omega_written.specs.Limits.{most_edges, most_states}
 
 -- 41 does not apply: each start and each edge of both lists one state
-abbrev pub IsPlain : Description → Description → Type 0
-IsPlain one other = (has_branch one || has_branch other) ≡ false
+abbrev pub HaveNoBranch : Description → Description → Type 0
+HaveNoBranch one other = (has_branch one || has_branch other) ≡ false
 
 -- an edge of the first and one of the second that leave a pair which is reached
 pub record AreMet (one other : Description) (transition partner : Transition) : Type 0 where
@@ -90,16 +90,16 @@ pub record BreaksLimit (one other : Description) : Type 0 where
   pub broken : automaton_fault_of written ≡ Some fault
 
 -- why a product would be too large
-pub data IsTooLarge (one other : Description) : Type 0 where
-  many_sets : most_number < one.sets + other.sets → IsTooLarge one other
-  many_names : most_propositions < length (joined_names one.propositions other.propositions) → IsTooLarge one other
-  deep_acceptance : most_depth < raw_acc_depth (acc_written (acc.conjunction one.acceptance (moved_behind one.sets other.acceptance))) → IsTooLarge one other
-  unfit_first : HasUnfitLabel (first_standing one other) one.defined → IsTooLarge one other
-  unfit_second : HasUnfitLabel (second_standing one other) other.defined → IsTooLarge one other
-  unfit_meeting : HasUnfitMeeting one other → IsTooLarge one other
-  many_pairs : HasManyPairs one other → IsTooLarge one other
-  many_edges : HasManyEdges one other → IsTooLarge one other
-  broken_limit : BreaksLimit one other → IsTooLarge one other
+pub data IsProductTooLarge (one other : Description) : Type 0 where
+  many_sets : most_number < one.sets + other.sets → IsProductTooLarge one other
+  many_names : most_propositions < length (joined_names one.propositions other.propositions) → IsProductTooLarge one other
+  deep_acceptance : most_depth < raw_acc_depth (acc_written (acc.conjunction one.acceptance (moved_behind one.sets other.acceptance))) → IsProductTooLarge one other
+  unfit_first : HasUnfitLabel (first_standing one other) one.defined → IsProductTooLarge one other
+  unfit_second : HasUnfitLabel (second_standing one other) other.defined → IsProductTooLarge one other
+  unfit_meeting : HasUnfitMeeting one other → IsProductTooLarge one other
+  many_pairs : HasManyPairs one other → IsProductTooLarge one other
+  many_edges : HasManyEdges one other → IsProductTooLarge one other
+  broken_limit : BreaksLimit one other → IsProductTooLarge one other
 
 -- 42 or 55, where 41 does not apply
 abbrev pub IsJoinFault : Description → Description → TaskFault → Type 0
@@ -110,19 +110,19 @@ IsJoinFault one other TooWide = ⊥
 IsJoinFault one other Budget = ⊥
 IsJoinFault one other BadSolution = ⊥
 IsJoinFault one other UnknownNode = ⊥
-IsJoinFault one other TooLarge = IsTooLarge one other
+IsJoinFault one other TooLarge = IsProductTooLarge one other
 IsJoinFault one other (NotDeterministic state) = ⊥
 
 -- 41, or else 42 or 55
 abbrev pub IsProductFault : Description → Description → TaskFault → Type 0
 IsProductFault one other NotParity = ⊥
 IsProductFault one other UniversalBranch = (has_branch one || has_branch other) ≡ true
-IsProductFault one other TooManyPropositions = IsPlain one other × HasWideMeeting one other
+IsProductFault one other TooManyPropositions = HaveNoBranch one other × HasWideMeeting one other
 IsProductFault one other TooWide = ⊥
 IsProductFault one other Budget = ⊥
 IsProductFault one other BadSolution = ⊥
 IsProductFault one other UnknownNode = ⊥
-IsProductFault one other TooLarge = IsPlain one other × IsTooLarge one other
+IsProductFault one other TooLarge = HaveNoBranch one other × IsProductTooLarge one other
 IsProductFault one other (NotDeterministic state) = ⊥
 
 -- the refusal of a product

@@ -13,7 +13,7 @@ use Rattle.omega_raw.specs.declared.raw_item.RawItem.{RawItem}
 use Rattle.omega_raw.specs.declared.raw_item.RawItem.TheVariants as item
 use Rattle.omega_raw.specs.declared.raw_state.RawState.{RawState}
 use Rattle.omega_product.specs.Joining.{joined_names}
-use Rattle.omega_product.specs.Pairs.{AreReached, Pair, first_leaving, number_of, pair_name, second_leaving, start_pairs}
+use Rattle.omega_product.specs.Pairs.{AreReached, Pair, first_leaving, pair_name, pair_number, second_leaving, start_pairs}
 use Rattle.omega_product.specs.Acceptance.{IsJointAcceptance}
 use Rattle.omega_product.specs.Product.{joint_transitions}
 use Rattle.omega_product.specs.declared.transition.Transition.{Transition}
@@ -30,7 +30,7 @@ raw_edge transition = record {
 abbrev pub raw_state : List Pair → Pair → List Transition → RawState
 raw_state pairs pair transitions = record {
   label = None;
-  number = number_of pairs pair;
+  number = pair_number pairs pair;
   name = Some (pair_name pair);
   marks = None;
   edges = map raw_edge transitions;
@@ -43,7 +43,7 @@ raw_state_of one other pairs pair =
 
 -- the start of a pair
 abbrev pub raw_start : List Pair → Pair → RawItem
-raw_start pairs pair = item.Start (number_of pairs pair ∷ [])
+raw_start pairs pair = item.Start (pair_number pairs pair ∷ [])
 
 -- the item that names an acceptance, if it has a name
 abbrev pub name_items : Option AccName → List RawItem

@@ -4,7 +4,7 @@ ghost use Rattle.std.specs.Prelude.{◌≡◌, ◌<◌, ◌≤◌, ◌^◌, ◌+
 ghost use Rattle.omega_text.specs.Cases.{IsMemory, never, or_memory, or_task};
 ghost use Rattle.omega_acc.specs.label.Label.{conjunction};
 ghost use Rattle.omega_acc.specs.label.Shape.{label_tree_of_shape};
-ghost use Rattle.omega_product.specs.Pairs.{number_of as number_in, partners};
+ghost use Rattle.omega_product.specs.Pairs.{pair_number, partners};
 ghost use Rattle.omega_product.specs.Product.{joint_transitions, taken_together};
 ghost use Rattle.omega_written.specs.Limits.{most_states};
 ghost use Rattle.omega_product.specs.private.Meeting.{HasUnmet, HasUnmetPartner, IsUnmet};
@@ -85,7 +85,7 @@ fn joint_edge(
 /// The number of a pair, or how many there are where it is not among them.
 pub(crate) fn number_of(found: &IndexSet<(u32, u32)>, pair: (u32, u32)) -> u32
     requires { length found.now.keys ≤ most_states }
-    ensures { result ≡ number_in found.now.keys pair }
+    ensures { result ≡ pair_number found.now.keys pair }
 {
     match found.get_index_of(&pair) {
         Some(number) => number as u32,

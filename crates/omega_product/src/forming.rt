@@ -7,7 +7,7 @@ ghost use Rattle.omega_product.specs.Limits.{IsWithin};
 ghost use Rattle.omega_written.specs.Limits.{most_edges, most_states};
 ghost use Rattle.omega_product.specs.Pairs.{first_standing, second_standing};
 ghost use Rattle.omega_product.specs.Product.{IsProduct};
-ghost use Rattle.omega_product.specs.Refusing.{HasUnfitLabel, IsJoinFault, IsPlain, IsProductRefusal};
+ghost use Rattle.omega_product.specs.Refusing.{HasUnfitLabel, HaveNoBranch, IsJoinFault, IsProductRefusal};
 ghost use Rattle.omega_product.specs.private.Tables.{AreRows};
 ghost use Rattle.omega_written.specs.Fitting.{IsLarge};
 ghost use Rattle.omega_product.specs.Written.{IsWritten, IsWrittenProduct, raw_of};
@@ -40,7 +40,7 @@ pub fn product(alloc: Global, first: &Automaton, second: &Automaton) -> Result<A
     ensures product { IfOk result (IsProduct first.now second.now) }
     ensures written { IfOk result (IsWritten first.now second.now) }
     ensures within { IfOk result IsWithin }
-    ensures given { OnOk result (IsPlain first.now second.now) }
+    ensures given { OnOk result (HaveNoBranch first.now second.now) }
     ensures refused { IfErr result (IsProductRefusal first.now second.now) }
 {
     if branches(first, second) {

@@ -7,7 +7,7 @@ use Rattle.omega_canon.specs.Canonical.{canonical_automaton}
 use Rattle.omega_hoa.specs.Alone.{IsAutomatonRefusal, IsAutomatonText}
 use Rattle.omega_product.specs.Limits.{IsWithin}
 use Rattle.omega_product.specs.Product.{IsProduct}
-use Rattle.omega_product.specs.Refusing.{IsPlain, IsProductRefusal}
+use Rattle.omega_product.specs.Refusing.{HaveNoBranch, IsProductRefusal}
 
 -- what `meet` answers: both texts stand for automata without universal branching, and the canonical text of their
 -- product is written, the one of the file behind the other
@@ -16,7 +16,7 @@ pub record IsMeetAnswer (of_file text output : List ℕ) : Type 0 where
   pub second_read : IsAutomatonText of_file second
   pub first : Description
   pub first_read : IsAutomatonText text first
-  pub given : IsPlain first second
+  pub given : HaveNoBranch first second
   pub product : Description
   pub product_is : IsProduct first second product
   pub within : IsWithin product

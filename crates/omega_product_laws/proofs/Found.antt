@@ -7,7 +7,7 @@ use Rattle.std.proofs.lemmas.List.Sums.{fails_before_first, passes_at_first}
 use Rattle.indexmap.specs.IndexSet.{insert_all, insert_key}
 use Rattle.indexmap.proofs.CallerLemmas.{Contains-insert_key}
 use Rattle.omega_automaton.specs.Automaton.{Description}
-use Rattle.omega_product.specs.Pairs.{AreReached, Pair, number_of, same_pair, start_pairs, targets_of}
+use Rattle.omega_product.specs.Pairs.{AreReached, Pair, pair_number, same_pair, start_pairs, targets_of}
 use Rattle.omega_product_laws.proofs.Labels.{and_both, both_and}
 use Rattle.omega_product_laws.proofs.Lists.{contains_flat_map}
 
@@ -21,10 +21,10 @@ is_same : (a b : Pair) → a ≡ b → same_pair a b ≡ true
 is_same a b e = both_and (a.0 == b.0) (a.1 == b.1) (eq-eqb a.0 b.0 (ap (λ (p : Pair). p.0) e)) (eq-eqb a.1 b.1 (ap (λ (p : Pair). p.1) e))
 
 -- a pair among the pairs has a number
-pub number_below : (pairs : List Pair) (pair : Pair) → Contains pairs pair → number_of pairs pair < length pairs
-number_below pairs pair within = go (cases_lt (number_of pairs pair) (length pairs))
+pub number_below : (pairs : List Pair) (pair : Pair) → Contains pairs pair → pair_number pairs pair < length pairs
+number_below pairs pair within = go (cases_lt (pair_number pairs pair) (length pairs))
   where
-    go : (number_of pairs pair < length pairs) ⊎ (length pairs ≤ number_of pairs pair) → number_of pairs pair < length pairs
+    go : (pair_number pairs pair < length pairs) ⊎ (length pairs ≤ pair_number pairs pair) → pair_number pairs pair < length pairs
     go (inl below) = below
     go (inr past) =
         let fails : same_pair pair (get_or pairs within.0 pair) ≡ false =
@@ -32,11 +32,11 @@ number_below pairs pair within = go (cases_lt (number_of pairs pair) (length pai
         absurd (false≢true (sym fails ∙ is_same pair (get_or pairs within.0 pair) (sym within.2)))
 
 -- which tells it
-pub number_tells : (pairs : List Pair) (a b : Pair) → number_of pairs a < length pairs → number_of pairs a ≡ number_of pairs b → a ≡ b
+pub number_tells : (pairs : List Pair) (a b : Pair) → pair_number pairs a < length pairs → pair_number pairs a ≡ pair_number pairs b → a ≡ b
 number_tells pairs a b below same =
-    let first : a ≡ get_or pairs (number_of pairs a) a = same_is a (get_or pairs (number_of pairs a) a) (passes_at_first (same_pair a) pairs a below) in
-    let below' : number_of pairs b < length pairs = omega (arith, below, same) in
-    let second : b ≡ get_or pairs (number_of pairs b) a = same_is b (get_or pairs (number_of pairs b) a) (passes_at_first (same_pair b) pairs a below') in
+    let first : a ≡ get_or pairs (pair_number pairs a) a = same_is a (get_or pairs (pair_number pairs a) a) (passes_at_first (same_pair a) pairs a below) in
+    let below' : pair_number pairs b < length pairs = omega (arith, below, same) in
+    let second : b ≡ get_or pairs (pair_number pairs b) a = same_is b (get_or pairs (pair_number pairs b) a) (passes_at_first (same_pair b) pairs a below') in
     first ∙ ap (λ n. get_or pairs n a) same ∙ sym second
 
 -- what is inserted, and what was there before, is there

@@ -5,7 +5,8 @@ use Rattle.omega_acc.specs.formula.Acceptance.{AccTree, conjunction, constant, d
 use Rattle.omega_automaton.specs.Automaton.{sets_of}
 use Rattle.omega_automaton.specs.Meaning.{AreMarksOf}
 use Rattle.omega_game.proofs.elements.Membership.{Contains-cases, Contains-here, Contains-nothing, Contains-there}
-use Rattle.omega_empty.specs.Runs.{Satisfies, meets}
+use Rattle.omega_walk.specs.Marks.{meets}
+use Rattle.omega_empty.specs.Runs.{Satisfies}
 use Rattle.omega_product.specs.Acceptance.{moved_behind}
 use Rattle.omega_product_laws.proofs.Lists.{contains_map, map_contains}
 

@@ -19,7 +19,7 @@ use Rattle.omega_empty.proofs.making.Flat.{IsListed, contains_flat, listed_flat}
 use Rattle.omega_empty.proofs.playing.Places.{edge_kept, marks_are}
 use Rattle.omega_product.specs.Acceptance.{IsJointAcceptance, moved_behind}
 use Rattle.omega_product.specs.Joining.{number_among, part_of_word}
-use Rattle.omega_product.specs.Pairs.{Pair, can_meet, first_standing, number_of, partners, second_standing, start_pairs, start_state}
+use Rattle.omega_product.specs.Pairs.{Pair, can_meet, first_standing, pair_number, partners, second_standing, start_pairs, start_state}
 use Rattle.omega_product.specs.Product.{IsJointEdge, IsPairState, IsProduct, joint_transitions, taken_together}
 use Rattle.omega_product.specs.Transitions.{Standing, transitions_at}
 use Rattle.omega_product.specs.declared.transition.Transition.{Transition}
@@ -109,7 +109,7 @@ module _ (one other a : Description) (automaton : IsAutomaton one) (automaton' :
   record IsJoint (edge : BodyEdge) : Type 0 where
     pub pair : Pair
     pub within : Contains is.pairs pair
-    pub here : edge.source.number ≡ number_of is.pairs pair
+    pub here : edge.source.number ≡ pair_number is.pairs pair
     pub first : Transition
     pub first_in : Contains (firsts pair.0) first
     pub second : Transition
@@ -144,7 +144,7 @@ module _ (one other a : Description) (automaton : IsAutomaton one) (automaton' :
 
   -- and edges of both put together
   put_together : (pair : Pair) → Contains is.pairs pair → (t u : Transition) → Contains (firsts pair.0) t → Contains (seconds pair.1) u → can_meet t u ≡ true
-      → (number : ℕ) × (edge : BodyEdge) × (edge_at a number ≡ Some edge) × (edge.source.number ≡ number_of is.pairs pair)
+      → (number : ℕ) × (edge : BodyEdge) × (edge_at a number ≡ Some edge) × (edge.source.number ≡ pair_number is.pairs pair)
       × IsJointEdge (taken_together is.pairs t u) edge.edge × (edge.source.label ≡ None) × (edge.source.marks ≡ [])
   put_together pair within t u t_in u_in meets =
       let state = beside_left (IsPairState one other is.pairs) is.pairs a.defined is.defined pair within in
@@ -225,14 +225,14 @@ module _ (one other a : Description) (automaton : IsAutomaton one) (automaton' :
       apart : (i : ℕ) → IsJoint (accepted.accepting.run.steps i).edge
       apart i = joint_of (accepted.edges i) (accepted.accepting.run.steps i).edge (accepted.accepting.run.steps i).numbered
 
-      number_is : (i : ℕ) → accepted.states i ≡ number_of is.pairs (apart i).pair
+      number_is : (i : ℕ) → accepted.states i ≡ pair_number is.pairs (apart i).pair
       number_is i = sym (accepted.accepting.run.steps i).leaves ∙ (apart i).here
 
       next_is : (i : ℕ) → (apart (i + 1)).pair ≡ ((apart i).first.target, (apart i).second.target)
       next_is i =
           let j = apart i in
           let k = apart (i + 1) in
-          let enters : number_of is.pairs (j.first.target, j.second.target) ≡ accepted.states (i + 1) =
+          let enters : pair_number is.pairs (j.first.target, j.second.target) ≡ accepted.states (i + 1) =
           head_same _ _ (sym j.edge_is.targets ∙ (accepted.accepting.run.steps i).enters) in
           number_tells is.pairs k.pair (j.first.target, j.second.target) (number_below is.pairs k.pair k.within) (sym (number_is (i + 1)) ∙ sym enters)
 
@@ -261,9 +261,9 @@ module _ (one other a : Description) (automaton : IsAutomaton one) (automaton' :
       began : (pair : Pair) × Contains (start_pairs one other) pair × (pair ≡ (apart 0).pair)
       began =
           let P : List (List ℕ) → Type 0 = λ starts. Contains starts (accepted.states 0 ∷ []) in
-          let start = map_contains (λ (pair : Pair). number_of is.pairs pair ∷ []) (start_pairs one other) (accepted.states 0 ∷ [])
+          let start = map_contains (λ (pair : Pair). pair_number is.pairs pair ∷ []) (start_pairs one other) (accepted.states 0 ∷ [])
           (subst P is.starts accepted.accepting.run.begins) in
-          let same : number_of is.pairs (apart 0).pair ≡ number_of is.pairs start.0 = sym (number_is 0) ∙ sym (head_same _ _ start.2) in
+          let same : pair_number is.pairs (apart 0).pair ≡ pair_number is.pairs start.0 = sym (number_is 0) ∙ sym (head_same _ _ start.2) in
           (start.0, start.1, sym (number_tells is.pairs (apart 0).pair start.0 (number_below is.pairs (apart 0).pair (apart 0).within) same))
 
       starts_apart : IsStart one (apart 0).pair.0 × IsStart other (apart 0).pair.1
@@ -360,7 +360,7 @@ module _ (one other a : Description) (automaton : IsAutomaton one) (automaton' :
           subst P (target_is i ∙ e)
           (leads_to (pair_at i) (within_at i) (first_at i).0 (second_at i).0 (first_in i) (second_in i) (meet_at i))
 
-      put : (i : ℕ) → (number : ℕ) × (edge : BodyEdge) × (edge_at a number ≡ Some edge) × (edge.source.number ≡ number_of is.pairs (pair_at i))
+      put : (i : ℕ) → (number : ℕ) × (edge : BodyEdge) × (edge_at a number ≡ Some edge) × (edge.source.number ≡ pair_number is.pairs (pair_at i))
           × IsJointEdge (taken_together is.pairs (first_at i).0 (second_at i).0) edge.edge × (edge.source.label ≡ None) × (edge.source.marks ≡ [])
       put i = put_together (pair_at i) (within_at i) (first_at i).0 (second_at i).0 (first_in i) (second_in i) (meet_at i)
 
@@ -373,13 +373,13 @@ module _ (one other a : Description) (automaton : IsAutomaton one) (automaton' :
           marks_are a (put i).0 (put i).1 (put i).2 ∙ ap (λ ms. ms ++ (put i).1.edge.marks) (put i).6 in
           subst (AreMarksOf ((first_at i).0.marks ++ (second_at i).0.marks)) (sym e) (put i).4.marks
 
-      put_step : (i : ℕ) → IsStep a (number_of is.pairs (pair_at i)) (put i).0 (number_of is.pairs (pair_at (i + 1)))
+      put_step : (i : ℕ) → IsStep a (pair_number is.pairs (pair_at i)) (put i).0 (pair_number is.pairs (pair_at (i + 1)))
       put_step i = record {
         edge = (put i).1;
         numbered = (put i).2;
         usable = (let P : Option LabelTree → Type 0 = λ l. IfSome l IsSatisfiable in subst P (sym (put_label i)) (word i, both_true i));
         leaves = (put i).3;
-        enters = (put i).4.targets ∙ ap (λ p. number_of is.pairs p ∷ []) (target_is i);
+        enters = (put i).4.targets ∙ ap (λ p. pair_number is.pairs p ∷ []) (target_is i);
       }
 
       put_accepted : both_accept (λ i. marks_at a (put i).0)
@@ -402,12 +402,12 @@ module _ (one other a : Description) (automaton : IsAutomaton one) (automaton' :
 
       both_accepted : IsAccepted a word
       both_accepted = record {
-        states = λ i. number_of is.pairs (pair_at i);
+        states = λ i. pair_number is.pairs (pair_at i);
         edges = λ i. (put i).0;
         accepting = record {
           run = record {
-            begins = (let P : List (List ℕ) → Type 0 = λ starts. Contains starts (number_of is.pairs (pair_at 0) ∷ []) in
-                subst P (sym is.starts) (contains_map (λ (pair : Pair). number_of is.pairs pair ∷ []) (start_pairs one other) (pair_at 0) begins_first));
+            begins = (let P : List (List ℕ) → Type 0 = λ starts. Contains starts (pair_number is.pairs (pair_at 0) ∷ []) in
+                subst P (sym is.starts) (contains_map (λ (pair : Pair). pair_number is.pairs pair ∷ []) (start_pairs one other) (pair_at 0) begins_first));
             steps = put_step;
           };
           accepted = joint_accepts (λ i. marks_at a (put i).0) put_accepted is.accepted;

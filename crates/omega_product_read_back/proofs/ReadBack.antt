@@ -22,7 +22,7 @@ use Rattle.omega_product.specs.Acceptance.{IsJointAcceptance, buchi_name}
 use Rattle.omega_product.specs.Joining.{joined_names}
 use Rattle.omega_product.specs.Limits.{IsWithin}
 use Rattle.omega_written.specs.Limits.{most_states}
-use Rattle.omega_product.specs.Pairs.{Pair, first_leaving, number_of, same_pair, second_leaving, start_pairs}
+use Rattle.omega_product.specs.Pairs.{Pair, first_leaving, pair_number, same_pair, second_leaving, start_pairs}
 use Rattle.omega_product.specs.Product.{joint_transitions}
 use Rattle.omega_product.specs.Written.{IsWritten, name_items, raw_edge, raw_product, raw_start, raw_state_of}
 use Rattle.omega_product.specs.declared.transition.Transition.{Transition}
@@ -54,7 +54,7 @@ writable_name sets small = record {
     longer_f e = omega (arith, e)
 
 module _ (mean : WrittenLabelsMean) (formulas : WrittenFormulasMean) (one other : Description) (pairs : List Pair) (few : length pairs ≤ most_states) where
-  number_small : (pair : Pair) → IsWritableNumber (number_of pairs pair)
+  number_small : (pair : Pair) → IsWritableNumber (pair_number pairs pair)
   number_small pair = let within = place_within (same_pair pair) pairs in omega (arith, within, few)
 
   -- states of the product

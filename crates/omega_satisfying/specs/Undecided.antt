@@ -12,5 +12,5 @@ abbrev pub most_visited : ℕ
 most_visited = 4194304
 
 -- the label mentions more propositions than are always judged, or want of memory
-abbrev pub IsUndecided : LabelTree → Refusal → Type 0
-IsUndecided tree = or_task (λ fault. (fault ≡ TooManyPropositions) × (most_mentioned < length (mentioned tree))) (or_memory never)
+abbrev pub IsUndecidedLabel : LabelTree → Refusal → Type 0
+IsUndecidedLabel tree = or_task (λ fault. (fault ≡ TooManyPropositions) × (most_mentioned < length (mentioned tree))) (or_memory never)

@@ -1,7 +1,7 @@
 ghost use Rattle.std.specs.Prelude.{◌↔◌, IfErr, IfOk, IfSome, IsTrue};
 ghost use Rattle.omega_text.specs.Cases.{IsMemory};
 ghost use Rattle.omega_acc.specs.label.Satisfiable.{IsSatisfiable};
-ghost use Rattle.omega_satisfying.specs.Undecided.{IsUndecided};
+ghost use Rattle.omega_satisfying.specs.Undecided.{IsUndecidedLabel};
 
 use crate::search::search;
 use crate::steps::{DONE, STUCK, first_steps};
@@ -18,7 +18,7 @@ use std::alloc::Global;
 /// such takes about as many as it has atoms and operators. Refusal 42 where they do not suffice.
 pub fn can_be_true(alloc: Global, label: &Label) -> Result<bool, Refusal>
     ensures ok { IfOk result (λ possible. IsTrue possible ↔ IsSatisfiable label.now) }
-    ensures err { IfErr result (IsUndecided label.now) }
+    ensures err { IfErr result (IsUndecidedLabel label.now) }
 {
     match satisfiable(label) {
         Ok(possible) => Ok(possible),

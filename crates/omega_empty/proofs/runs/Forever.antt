@@ -3,7 +3,8 @@ use Rattle.std.proofs.Common.{◌≡◌, ℕ, zero, suc, ◌≤◌, inl, inr, Bo
 use Rattle.std.specs.List.{list_any}
 use Rattle.std.proofs.lemmas.Bool.{and_parts, or_cases, or_parts, not-true}
 use Rattle.omega_acc.specs.formula.Acceptance.{AccTree, accepts, conjunction, constant, disjunction, fin, inf, occurs}
-use Rattle.omega_empty.specs.Runs.{Satisfies, meets}
+use Rattle.omega_walk.specs.Marks.{meets}
+use Rattle.omega_empty.specs.Runs.{Satisfies}
 
 -- numbers in order, and then c and those behind it for ever
 abbrev pub ever : ℕ → List ℕ → List ℕ → ℕ → ℕ

@@ -3,7 +3,8 @@
 use Rattle.std.proofs.Common.{◌≡◌, ℕ, zero, suc, ◌+◌, ◌<◌, ◌≤◌, inl, inr, Bool, true, false, List, [], ◌∷◌, max, sym, ap, refl, ◌∙◌, arith}
 use Rattle.std.proofs.lemmas.Bool.{and_from, or_left, or_right, or_from, not_from_false, cases_lt}
 use Rattle.omega_acc.specs.formula.Acceptance.{AccTree, accepts, conjunction, constant, disjunction, fin, inf, holds, occurs}
-use Rattle.omega_empty.specs.Runs.{Satisfies, meets}
+use Rattle.omega_walk.specs.Marks.{meets}
+use Rattle.omega_empty.specs.Runs.{Satisfies}
 
 module _ (marks : ℕ → List ℕ) where
   -- so many marks from an index on

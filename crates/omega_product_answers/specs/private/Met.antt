@@ -4,11 +4,11 @@ use Rattle.omega_automaton.specs.Automaton.{Description}
 use Rattle.omega_canon.specs.Canonical.{canonical_automaton}
 use Rattle.omega_product.specs.Limits.{IsWithin}
 use Rattle.omega_product.specs.Product.{IsProduct}
-use Rattle.omega_product.specs.Refusing.{IsPlain}
+use Rattle.omega_product.specs.Refusing.{HaveNoBranch}
 
 -- the canonical text of the product of two automata
 pub record IsMet (first second : Description) (output : List ℕ) : Type 0 where
-  pub given : IsPlain first second
+  pub given : HaveNoBranch first second
   pub product : Description
   pub product_is : IsProduct first second product
   pub within : IsWithin product
