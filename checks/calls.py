@@ -70,6 +70,9 @@ RUNS = [
       for call in ("check_strategy", "check_strategy_fast", "counterexample")),
     *((call, CHOICE, b"paritysol 2; 0 0 1; 1 0; 2 0;", 0, b"-+") for call in ("check_strategy", "check_strategy_fast")),
     ("check_strategy_by_order", CHOICE, b"paritysol 2; 0 0 1; 1 0; 2 0;", 0, b"-+"),
+    # By the order of places 2, 1, 0.
+    ("check_solution_by_order", CHOICE, b"paritysol 2; 0 0 2; 1 0; 2 0;", 0, b"+"),
+    ("check_solution_by_order", CHOICE, b"paritysol 2; 0 0 1; 1 0; 2 0;", 0, b"-"),
     ("counterexample", CHOICE, b"paritysol 2; 0 0 1; 1 0; 2 0;", 0, b""),
     *(("Reordered", text, b"", 0, b"") for text in GAMES),
     *((call, text, b"", 0, b"") for call in ("solve_by_search", "search") for text in GAMES),

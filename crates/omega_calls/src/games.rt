@@ -4,7 +4,8 @@ ghost use Rattle.std.specs.Prelude.{◌<◌, length, All, IfOk, IsTrue};
 use crate::lists::{put_all, put_answer};
 use omega_game::{
     Game, GameBuilder, Lasso, MOST_NUMBER, NodeSpec, Player, Refusal, Seq, Solution,
-    check_strategy, check_strategy_by_order, check_strategy_fast, counterexample,
+    check_solution_by_order, check_strategy, check_strategy_by_order, check_strategy_fast,
+    counterexample,
 };
 use omega_game_drawing::{Extent, draw_game, draw_solution};
 use omega_pg::{read_game, read_solution, write_game, write_solution};
@@ -29,6 +30,7 @@ pub(crate) fn called(
         | "check_strategy"
         | "check_strategy_fast"
         | "check_strategy_by_order"
+        | "check_solution_by_order"
         | "counterexample" => { Some(called_of_both(alloc, call, text, other)) }
         _ => None,
     }
@@ -204,10 +206,26 @@ fn of_game(alloc: Global, call: &str, game: &Game, other: &[u8]) -> Result<Vec<u
         Ok(solution) => match call {
             "read_solution" => write_solution(alloc, game.arena(), &solution),
             "draw_solution" => draw_solution(alloc, game.arena(), Extent::Whole, &solution, true),
+            "check_solution_by_order" => judged_by_order(alloc, game, &solution),
             _ => judged(alloc, call, game, &solution),
         },
         Err(refusal) => Err(refusal),
     }
+}
+
+/// Whether the order of places 2, 1, 0 shows that both players' choices win.
+fn judged_by_order(alloc: Global, game: &Game, solution: &Solution) -> Result<Vec<u8>, Refusal> {
+    let fit = solution.zero.fits(game.arena(), Player::Zero)
+        && solution.one.fits(game.arena(), Player::One);
+    if solution.winners.len() != game.len() || !fit {
+        return Err(Refusal::Io);
+    }
+    let mut out = Vec::new(alloc);
+    put_answer(
+        &mut out,
+        check_solution_by_order(alloc, game.arena(), solution, &[2, 1, 0])?,
+    )?;
+    Ok(out)
 }
 
 /// What a call gives of both players' choices.

@@ -1,7 +1,10 @@
-//! `check_strategy_by_order`: which orders show that a strategy wins.
+//! `check_strategy_by_order` and `check_solution_by_order`: which orders show that strategies win.
 use crate::samples::{Row, assert_row, game_of, is_given, strategy_for};
 use omega_game::Player::{One, Zero};
-use omega_game::{Game, Player, Refusal, check_strategy_by_order};
+use omega_game::{
+    Game, Player, Refusal, Seq, Solution, Strategy, check_solution_by_order,
+    check_strategy_by_order,
+};
 use std::alloc::Global;
 
 /// The answer for the first place and the strategy without a choice, or Io where it does not fit.
@@ -54,5 +57,87 @@ fn is_answered(alloc: Global, asked: &Asked) -> bool {
 fn orders_show_what_they_should(rt: HostRuntime) {
     for (row, asked) in ASKED.iter().enumerate() {
         assert_row(&rt, row, is_answered(rt.alloc(), asked));
+    }
+}
+
+/// Two nodes of player 0 that lead to themselves, of priorities 2 and 1.
+const APART: [Row; 2] = [(0, 2, Zero, &[0], None), (1, 1, Zero, &[1], None)];
+
+/// A game, the winners, the choices of player 0, an order, and whether it shows that both players' choices win.
+type AskedOfBoth = (
+    &'static [Row],
+    &'static [Player],
+    &'static [Option<u32>],
+    &'static [u32],
+    bool,
+);
+
+/// As for one player; and no edge may lead to a node given to the other.
+const ASKED_OF_BOTH: [AskedOfBoth; 7] = [
+    (
+        &GREATER_FIRST,
+        &[Zero, Zero],
+        &[Some(1), Some(0)],
+        &[0, 1],
+        true,
+    ),
+    (
+        &GREATER_FIRST,
+        &[Zero, Zero],
+        &[Some(1), Some(0)],
+        &[1, 0],
+        false,
+    ),
+    (
+        &GREATER_FIRST,
+        &[Zero, Zero],
+        &[Some(1), Some(0)],
+        &[0],
+        false,
+    ),
+    (
+        &GREATER_FIRST,
+        &[Zero, One],
+        &[Some(1), None],
+        &[0, 1],
+        false,
+    ),
+    (&APART, &[Zero, One], &[Some(0), None], &[0, 1], true),
+    (&APART, &[Zero, One], &[Some(0), None], &[1, 0], true),
+    (&APART, &[Zero, Zero], &[Some(0), Some(1)], &[0, 1], false),
+];
+
+/// The answer where player 1 has no choice, or Io where a strategy does not fit.
+fn answer_for_both(alloc: Global, game: &Game, asked: &AskedOfBoth) -> Result<bool, Refusal> {
+    let (_, winners, choices, order, _) = *asked;
+    let solution = Solution {
+        winners: Seq::from_vec(Vec::from_slice(alloc, winners)?),
+        zero: Strategy {
+            choice: Seq::from_vec(Vec::from_slice(alloc, choices)?),
+        },
+        one: Strategy {
+            choice: Seq::from_vec(vec![in alloc; None; game.len()]?),
+        },
+    };
+    let fit = solution.zero.fits(game.arena(), Zero) && solution.one.fits(game.arena(), One);
+    if solution.winners.len() != game.len() || !fit {
+        return Err(Refusal::Io);
+    }
+    check_solution_by_order(alloc, game.arena(), &solution, order)
+}
+
+/// Whether the order of a row shows what it should of both.
+fn is_answered_for_both(alloc: Global, asked: &AskedOfBoth) -> bool {
+    let (rows, _, _, _, wins) = *asked;
+    match game_of(alloc, rows) {
+        Ok(game) => is_given(answer_for_both(alloc, &game, asked), wins),
+        Err(_) => false,
+    }
+}
+
+#[test]
+fn orders_show_what_they_should_of_both(rt: HostRuntime) {
+    for (row, asked) in ASKED_OF_BOTH.iter().enumerate() {
+        assert_row(&rt, row, is_answered_for_both(rt.alloc(), asked));
     }
 }
