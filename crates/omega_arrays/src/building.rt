@@ -8,14 +8,14 @@ ghost use Rattle.omega_arrays.specs.private.Specified.{spec_of, specs_below};
 
 use crate::arrays::Arrays;
 use omega_game::{
-    Game, GameBuilder, MOST_NODES, MOST_SUCCESSORS, Player, Refusal, games_have_no_fault,
+    Arena, GameBuilder, MOST_NODES, MOST_SUCCESSORS, Player, Refusal, games_have_no_fault,
     specifications_have_one_game,
 };
 use omega_text::GameFault;
 use std::alloc::Global;
 
-/// The game of arrays that stand for one. 13, 14 or 60.
-pub(crate) fn built(alloc: Global, arrays: &Arrays<'_>) -> Result<Game, Refusal>
+/// The game of arrays that stand for one, without predecessors. 13, 14 or 60.
+pub(crate) fn built(alloc: Global, arrays: &Arrays<'_>) -> Result<Arena, Refusal>
     requires { IsGameShape arrays.now }
     ensures game { IfOk result (λ game. game ≡ nodes_in arrays.now) }
     ensures count { IfOk result (λ game. length game ≡ node_count arrays.now) }
@@ -31,7 +31,7 @@ pub(crate) fn built(alloc: Global, arrays: &Arrays<'_>) -> Result<Game, Refusal>
         return Err(Refusal::Game(GameFault::TooManyEdges));
     }
     let nodes = collected(alloc, arrays)?;
-    nodes.finish()
+    nodes.finish_arena()
 }
 
 /// The specifications of the nodes. 60 alone.

@@ -14,7 +14,7 @@ use crate::arrays::Arrays;
 use crate::building::built;
 use crate::copying::copied;
 use crate::fault::ArrayFault;
-use omega_game::{Game, Lasso, Player, Refusal, Solution, TaskFault, counterexample};
+use omega_game::{Arena, Lasso, Player, Refusal, Solution, TaskFault, counterexample};
 use std::alloc::Global;
 
 /// What is said of a solution.
@@ -61,7 +61,7 @@ pub fn verify_arrays(
 /// Why the solution that arrays hold does not win, none where it does. 53 where it is no solution of the game, or 60.
 fn judged(
     alloc: Global,
-    game: &Game,
+    game: &Arena,
     winners: &[u8],
     choices: &[u32],
 ) -> Result<Option<(Player, Lasso)>, Refusal>
@@ -82,7 +82,7 @@ fn judged(
 /// Why a solution does not win, for the least player whose choices do not; none where they do. 60 alone.
 fn refuted(
     alloc: Global,
-    game: &Game,
+    game: &Arena,
     solution: &Solution,
 ) -> Result<Option<(Player, Lasso)>, Refusal>
     requires { IsSolution game.now solution.now }
@@ -101,7 +101,7 @@ fn refuted(
 /// Why the choices of a player do not win from all nodes given to the player, none where they do. 60 alone.
 fn lost_by(
     alloc: Global,
-    game: &Game,
+    game: &Arena,
     solution: &Solution,
     player: Player,
 ) -> Result<Option<Lasso>, Refusal>

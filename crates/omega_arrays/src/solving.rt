@@ -51,9 +51,10 @@ pub fn solve_arrays(
     if let Some(wrong) = wrong_room(arrays, winners.len(), choices.len()) {
         return Err(ArrayFault::BadShape(wrong));
     }
-    let game = built(alloc, arrays)?;
+    let arena = built(alloc, arrays)?;
+    let game = arena.with_predecessors(alloc)?;
     let (solution, lifts) = solved(alloc, &game, by_search, budget.min(MOST_LIFTS))?;
-    write_solution(&game, &solution, winners, choices);
+    write_solution(game.arena(), &solution, winners, choices);
     Ok(lifts)
 }
 
