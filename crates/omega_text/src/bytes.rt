@@ -34,13 +34,6 @@ pub(crate) fn is_word_byte(byte: u8) -> bool
     WORD_BYTES[byte as usize] != b','
 }
 
-/// How many bytes at the front are white.
-pub(crate) fn white_count(bytes: &[u8]) -> usize
-    ensures { result ≡ prefix_len is_white bytes.now }
-{
-    bytes.iter().take_while(|byte| is_white(**byte)).count()
-}
-
 /// How many bytes at the front may go on in a word.
 pub(crate) fn word_count(bytes: &[u8]) -> usize
     ensures { result ≡ prefix_len is_word_byte bytes.now }
