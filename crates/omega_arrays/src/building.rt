@@ -8,7 +8,7 @@ ghost use Rattle.omega_arrays.specs.private.Specified.{spec_of, specs_below};
 
 use crate::arrays::Arrays;
 use omega_game::{
-    Arena, GameBuilder, MOST_NODES, MOST_SUCCESSORS, Player, Refusal, games_have_no_fault,
+    Arena, Game, GameBuilder, MOST_NODES, MOST_SUCCESSORS, Player, Refusal, games_have_no_fault,
     specifications_have_one_game,
 };
 use omega_text::GameFault;
@@ -32,6 +32,20 @@ pub(crate) fn built(alloc: Global, arrays: &Arrays<'_>) -> Result<Arena, Refusal
     }
     let nodes = collected(alloc, arrays)?;
     nodes.finish_arena()
+}
+
+/// The same with predecessors. 13, 14 or 60.
+pub(crate) fn built_game(alloc: Global, arrays: &Arrays<'_>) -> Result<Game, Refusal>
+    requires { IsGameShape arrays.now }
+    ensures game { IfOk result (λ game. game ≡ nodes_in arrays.now) }
+    ensures count { IfOk result (λ game. length game ≡ node_count arrays.now) }
+    ensures sized { IsOk result → IsSized arrays.now }
+    ensures refused { IfErr result (or_game (IsSizeFault arrays.now) (or_memory never)) }
+{
+    match built(alloc, arrays) {
+        Ok(arena) => arena.with_predecessors(alloc),
+        Err(refusal) => Err(refusal),
+    }
 }
 
 /// The specifications of the nodes. 60 alone.

@@ -9,7 +9,7 @@ ghost use Rattle.omega_arrays.specs.Solving.{AreLifts, IsArraysSolvingRefusal, I
 
 use crate::answer::{write_solution, wrong_room};
 use crate::arrays::Arrays;
-use crate::building::built;
+use crate::building::built_game;
 use crate::fault::ArrayFault;
 use crate::lifting::lifted;
 use omega_game::{Game, Refusal, Solution};
@@ -51,8 +51,7 @@ pub fn solve_arrays(
     if let Some(wrong) = wrong_room(arrays, winners.len(), choices.len()) {
         return Err(ArrayFault::BadShape(wrong));
     }
-    let arena = built(alloc, arrays)?;
-    let game = arena.with_predecessors(alloc)?;
+    let game = built_game(alloc, arrays)?;
     let (solution, lifts) = solved(alloc, &game, by_search, budget.min(MOST_LIFTS))?;
     write_solution(game.arena(), &solution, winners, choices);
     Ok(lifts)
