@@ -1,6 +1,6 @@
-//! Whether what a search suggests is right. Both players' choices are judged at once by the checker of strategies, by an
-//! order of the places that the search suggests too; since no node is in the regions of both players, winners that are
-//! accepted are exact.
+//! Whether what a search suggests is right. Both players' choices are judged at once by the checker of strategies, by
+//! an order of the places that the search suggests too; since no node is in the regions of both players, winners that
+//! are accepted are exact.
 ghost use Rattle.std.specs.Prelude.{◌≡◌, ◌<◌, ◌^◌, length, IfOk, IfSome, IsOkUnless, IsTrue};
 ghost use Rattle.omega_game.specs.Solution.{IsExactSolution};
 ghost use Rattle.omega_search.specs.private.judging.Judging.{ChoosesWhereWon, IsAccepted};
