@@ -29,6 +29,3 @@ pub use omega_text::Refusal;
 pub use reaching::reached;
 pub use room::Room;
 pub use walking::path;
-
-#[cfg(test)]
-mod tests;

@@ -10,8 +10,6 @@ mod limits;
 mod search;
 mod steps;
 mod taking;
-#[cfg(test)]
-mod tests;
 
 pub use answer::can_be_true;
 pub use limits::{MOST_VISITED, visits_limit_is_stated};

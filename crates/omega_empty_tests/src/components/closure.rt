@@ -1,6 +1,6 @@
 //! A plain closure of the edges between eight states, to compare with.
-use crate::tests::graphs::NONE;
-use omega_text::Refusal;
+use crate::components::graphs::NONE;
+use omega_components::Refusal;
 use std::alloc::Global;
 
 /// How many states there are.

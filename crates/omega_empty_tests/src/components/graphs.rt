@@ -2,13 +2,7 @@
 ghost use Rattle.std.specs.Prelude.{◌≡◌, ◌≤◌, IfOk};
 ghost use Rattle.omega_components.specs.Graph.{AreEdges, AreStates};
 
-use crate::graph::Graph;
-use crate::grouping::components;
-use crate::groups::Groups;
-use crate::reaching::reached;
-use crate::room::Room;
-use crate::walking::path;
-use omega_text::Refusal;
+use omega_components::{Graph, Groups, Refusal, Room, components, path, reached};
 use std::alloc::Global;
 use std::process::Abort;
 use std::test::Fail;

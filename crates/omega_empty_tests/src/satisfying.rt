@@ -1,7 +1,7 @@
 //! Labels with many propositions: cubes, disjunctions of cubes, what is true of none, and what takes too long.
 
-use crate::can_be_true;
 use omega_acc::{Label, LabelShape};
+use omega_satisfying::can_be_true;
 use omega_text::Refusal;
 use std::alloc::Global;
 

@@ -1,6 +1,6 @@
 //! Long graphs: neither the machine's stack nor the time may grow with them beyond the linear.
-use crate::tests::graphs::{all_edges, components_of, graph_of, path_by, reached_by};
-use omega_text::Refusal;
+use crate::components::graphs::{all_edges, components_of, graph_of, path_by, reached_by};
+use omega_components::Refusal;
 use std::alloc::Global;
 use std::test::Fail;
 

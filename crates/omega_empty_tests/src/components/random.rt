@@ -1,10 +1,7 @@
-//! Random graphs of eight states, by the judged search and by the plain one.
-use crate::ends::{enters_of, leaves_of};
-use crate::judging::judged_groups;
-use crate::plain::plain_groups;
-use crate::tests::closure::{STATES, expected};
-use crate::tests::graphs::{all_edges, components_of, graph_of, least_of};
-use omega_text::Refusal;
+//! Random graphs of eight states.
+use crate::components::closure::{STATES, expected};
+use crate::components::graphs::{components_of, least_of};
+use omega_components::Refusal;
 use std::alloc::Global;
 use std::process::Abort;
 use std::test::Fail;
@@ -29,22 +26,11 @@ fn edges_of(alloc: Global, seed: u64, count: u32) -> Result<Vec<(u32, u32)>, Ref
     Ok(edges)
 }
 
-/// Compares the groups of a graph, as they are suggested and confirmed and as the plain search finds them.
+/// Compares the groups of a graph with those of the plain closure.
 fn has_components(rt: &impl Abort, alloc: Global, edges: &[(u32, u32)]) -> Result<(), Refusal> {
     let wanted = expected(alloc, edges)?;
     let groups = components_of(alloc, STATES, edges)?;
     let least = least_of(alloc, edges.len(), &groups)?;
-    assert_eq!(rt; least.as_slice(), wanted.as_slice());
-    let graph = graph_of(alloc, STATES, edges)?;
-    let all = all_edges(alloc, &graph)?;
-    let leaves = leaves_of(alloc, &graph, &all)?;
-    let enters = enters_of(alloc, &graph, &all)?;
-    assert_eq!(rt; leaves.len(), all.len());
-    assert_eq!(rt; enters.len(), all.len());
-    let judged = judged_groups(alloc, STATES as usize, &leaves, &enters, &all)?;
-    assert!(rt; judged.is_some());
-    let plain = plain_groups(alloc, STATES as usize, &leaves, &enters, &all)?;
-    let least = least_of(alloc, edges.len(), &plain)?;
     assert_eq!(rt; least.as_slice(), wanted.as_slice());
     Ok(())
 }

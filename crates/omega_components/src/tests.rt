@@ -1,6 +1,0 @@
-//! Tests of the searches: graphs with their groups by hand, random graphs against a plain closure, and long ones for
-//! the machine's stack and time.
-mod closure;
-mod graphs;
-mod long;
-mod random;
