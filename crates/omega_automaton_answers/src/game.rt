@@ -7,7 +7,7 @@ ghost use Rattle.omega_text.specs.Cases.{or_memory};
 use crate::automaton_text::automaton_in;
 use omega_automaton::Automaton;
 use omega_empty::emptiness_game;
-use omega_game::{Game, Refusal};
+use omega_game::{Arena, Refusal};
 use omega_pg::write_game;
 use std::alloc::Global;
 
@@ -19,11 +19,11 @@ pub fn write_emptiness_game(alloc: Global, text: Vec<u8>) -> Result<Vec<u8>, Ref
 {
     let automaton = automaton_in(alloc, text)?;
     let game = game_of(alloc, automaton)?;
-    write_game(alloc, game.arena())
+    write_game(alloc, &game)
 }
 
 /// The emptiness game of an automaton, which is let go. 13, 40, 41, 42 or 60.
-fn game_of(alloc: Global, automaton: Automaton) -> Result<Game, Refusal>
+fn game_of(alloc: Global, automaton: Automaton) -> Result<Arena, Refusal>
     ensures game { IfOk result (IsEmptinessGame automaton) }
     ensures given { OnOk result (IsGiven automaton) }
     ensures refused { IfErr result (IsGameRefusal automaton) }

@@ -1,18 +1,15 @@
 -- Reordering games: reordering back, their edges, and their priorities.
-use Rattle.std.proofs.Common.{◌≡◌, ℕ, ◌<◌, inl, inr, List, Contains, length, map, get_or, refl, sym, ap, ap₂, subst, ◌*◌, nat_lt, Err, IfErr, Ok, Result, ◌∙◌, arith}
+use Rattle.std.proofs.Common.{◌≡◌, ℕ, ◌<◌, inl, inr, List, Contains, length, map, get_or, sym, ap, ap₂, subst, ◌*◌, nat_lt, Err, IfErr, Ok, Result, ◌∙◌, arith}
 use Rattle.std.proofs.lemmas.List.{get_or-map, get_or_past, length-map}
 use Rattle.std.proofs.lemmas.Bool.{cases_lt}
 use Rattle.omega_game.specs.declared.player.Player.{Player}
 use Rattle.omega_game.specs.Bound.{bound_of}
 use Rattle.omega_game.specs.Game.{Node, HasEdge, no_node, node_at, priorities, successors_at}
 use Rattle.omega_game.proofs.elements.Membership.{Contains-nothing, Contains-under, map-Contains, map-map, map_same}
-use Rattle.std.specs.List.{range_with_len}
-use Rattle.std.proofs.lemmas.List.FromFn.{get_or-range_with_len, length-range_with_len}
 use Rattle.omega_text.specs.declared.refusal.Refusal.{Refusal}
 use Rattle.omega_text.specs.declared.refusal.Refusal.TheVariants.{Automaton, Game, Io, Memory, Task, Text}
 use Rattle.omega_measure.specs.Limits.{most_cells}
 use Rattle.omega_measure.specs.Table.{IsPrepareRefusal, is_too_wide}
-use Rattle.omega_order.specs.Ranking.{LeadsBack}
 use Rattle.omega_budget.specs.Reordering.{IsMoved, IsReordering}
 use Rattle.omega_budget.proofs.Priorities.{AreAlike, alike_reordered, bounds_alike}
 
@@ -109,36 +106,6 @@ module _ (nodes other : List Node) (ranks places : List ℕ) (reordering : IsReo
       let found = edge_here (get_or places r 0) u (place_below r lt)
       (subst (λ (i : ℕ). HasEdge other i u) (sym (rank_of_place r lt)) edge) in
       subst (λ (i : ℕ). i < length other) (sym found.2) (rank_below found.0 (closed (get_or places r 0) found.0 (place_below r lt) found.1))
-
--- a game reordered to itself
-pub reordered_to_itself : (nodes : List Node) (ranks places : List ℕ) → IsClosed nodes → ranks ≡ range_with_len 0 (length nodes)
-    → places ≡ range_with_len 0 (length nodes) → IsReordering nodes nodes ranks places
-reordered_to_itself nodes ranks places closed same_ranks same_places = record {
-  inverse = record {
-    ranked = λ v lt. leads_back ranks places v same_ranks same_places lt;
-    placed = λ r lt. leads_back places ranks r same_places same_ranks lt;
-  };
-  ranked = ap (λ (xs : List ℕ). length xs) same_ranks ∙ length-range_with_len 0 (length nodes);
-  placed = ap (λ (xs : List ℕ). length xs) same_places ∙ length-range_with_len 0 (length nodes);
-  entries = refl;
-  moved = λ v lt.
-      subst (λ (r : ℕ). IsMoved ranks (node_at nodes v) (node_at nodes r)) (sym (itself ranks v same_ranks lt))
-      (record {
-        priority = refl;
-        owner = refl;
-        successors = sym (map_same (λ w. get_or ranks w 0) (successors_at nodes v) (λ w edge. itself ranks w same_ranks (closed v w lt edge)));
-      });
-}
-  where
-    itself : (xs : List ℕ) (i : ℕ) → xs ≡ range_with_len 0 (length nodes) → i < length nodes → get_or xs i 0 ≡ i
-    itself xs i same lt = ap (λ (ys : List ℕ). get_or ys i 0) same ∙ (get_or-range_with_len 0 (length nodes) i 0 lt ∙ omega arith)
-
-    leads_back : (xs ys : List ℕ) (i : ℕ) → xs ≡ range_with_len 0 (length nodes) → ys ≡ range_with_len 0 (length nodes) → i < length xs → LeadsBack xs ys i
-    leads_back xs ys i same_xs same_ys lt =
-        let below : i < length nodes = omega (arith, ap (λ (zs : List ℕ). length zs) same_xs, length-range_with_len 0 (length nodes)) in (
-          omega (arith, below, itself xs i same_xs below, ap (λ (zs : List ℕ). length zs) same_ys, length-range_with_len 0 (length nodes)),
-          ap (λ (j : ℕ). get_or ys j 0) (itself xs i same_xs below) ∙ itself ys i same_ys below,
-        )
 
 -- a table is too wide for one exactly if it is for the other
 pub widths_same : (nodes other : List Node) (ranks places : List ℕ) → IsReordering nodes other ranks places → (player : Player)

@@ -16,8 +16,8 @@ use omega_solve::{MeasureTable, Schedule, Solver, headline};
 use std::alloc::Global;
 
 impl Reordered<'_> {
-    /// A solver with every measure 0 and all places pending: of the other game with its places in rising order, which
-    /// is the order that suits it, or of the game that was given. 50 where the table would be too wide, or 60.
+    /// A solver of the other game with every measure 0 and all places pending, in rising order, which is the order that
+    /// suits it. 50 where the table would be too wide, or 60.
     pub(crate) fn prepare<T: MeasureTable, S: Schedule>(
         &self,
         alloc: Global,
@@ -29,11 +29,7 @@ impl Reordered<'_> {
     {
         self.keeps_nodes();
         let game = self.reordered();
-        if self.is_other() {
-            Solver::prepare_in_order(alloc, game, player)
-        } else {
-            Solver::prepare(alloc, game, player)
-        }
+        Solver::prepare_in_order(alloc, game, player)
     }
 
     /// What a solver of the other game that is done has found, by place. 60 alone.

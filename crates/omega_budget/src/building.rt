@@ -5,12 +5,18 @@ ghost use Rattle.omega_order.specs.Ranking.{AreInverse};
 ghost use Rattle.omega_budget.specs.private.steps.Building.{spec_of};
 ghost use Rattle.omega_budget.specs.Reordering.{IsReordering};
 
-use omega_game::{Game, GameBuilder, Refusal, games_have_no_fault, specifications_have_one_game};
+use omega_game::{
+    Arena, Game, GameBuilder, Refusal, games_have_no_fault, specifications_have_one_game,
+};
 use omega_order::Ranking;
 use std::alloc::Global;
 
 /// The game with each node at its rank. 60 alone.
-pub(crate) fn reordered_game(alloc: Global, game: &Game, ranking: &Ranking) -> Result<Game, Refusal>
+pub(crate) fn reordered_game(
+    alloc: Global,
+    game: &Arena,
+    ranking: &Ranking,
+) -> Result<Game, Refusal>
     requires ranked { length ranking.now.ranks ≡ length game.now }
     ensures reordered { IfOk result (λ other. IsReordering game.now other ranking.now.ranks ranking.now.places) }
     ensures memory { IsOkUnless result Refusal.Memory }
@@ -28,7 +34,7 @@ pub(crate) fn reordered_game(alloc: Global, game: &Game, ranking: &Ranking) -> R
 /// Adds the specification of the node with a rank.
 fn add_ranked(
     builder: &mut GameBuilder,
-    game: &Game,
+    game: &Arena,
     ranking: &Ranking,
     rank: u32,
 ) -> Result<(), Refusal>

@@ -6,7 +6,7 @@ ghost use Rattle.omega_solve.specs.Limits.{most_lifts};
 ghost use Rattle.omega_solve.specs.Solver.{start_of};
 
 use crate::watching::{Progress, Watch};
-use omega_game::{Game, Player, bound};
+use omega_game::{Arena, Game, Player, bound};
 use omega_solve::{MeasureTable, Outcome, Schedule, Solver};
 
 /// Runs a new solver for a game and a player, and tells the listener each time that so many lifts more were made and
@@ -43,10 +43,10 @@ pub(crate) fn run_watched<T: MeasureTable, S: Schedule, L, W: Watch<L>>(
 }
 
 /// The most lifts of a run: the bound of the game for the player or, if it is less, the budget.
-pub(crate) fn most_lifts_of(game: &Game, player: Player, budget: u64) -> u64
+pub(crate) fn most_lifts_of(game: &Arena, player: Player, budget: u64) -> u64
     ensures { result ≡ most_of game.now player budget }
 {
-    match bound(game.arena(), player) {
+    match bound(game, player) {
         Some(lifts) if lifts < u128::from(budget) => lifts as u64,
         _ => budget,
     }

@@ -18,7 +18,7 @@ use crate::starting::won_start;
 use crate::verdict::Verdict;
 use omega_automaton::{Automaton, Refusal};
 use omega_budget::{Found, Reordered, Unwatched, Watch};
-use omega_game::{Game, Player};
+use omega_game::{Arena, Player};
 use omega_text::Seq;
 use std::alloc::Global;
 
@@ -58,7 +58,7 @@ pub fn emptiness_watched<L, W: Watch<L>>(
 /// What lifting finds in a game for player 0; the listener is told of the run. 50, 51 or 60.
 fn found_in<L, W: Watch<L>>(
     alloc: Global,
-    game: &Game,
+    game: &Arena,
     budget: u64,
     watch: &W,
     listener: &mut L,
@@ -78,7 +78,7 @@ fn found_in<L, W: Watch<L>>(
 pub fn verdict_of(
     alloc: Global,
     automaton: &Automaton,
-    game: &Game,
+    game: &Arena,
     found: &Found,
 ) -> Result<Verdict, Refusal>
     requires game { IsEmptinessGame automaton.now game.now }
@@ -98,7 +98,7 @@ pub fn verdict_of(
 fn lasso_from(
     alloc: Global,
     automaton: &Automaton,
-    game: &Game,
+    game: &Arena,
     found: &Found,
     start: u32,
 ) -> Result<Verdict, Refusal>

@@ -7,7 +7,7 @@ ghost use Rattle.omega_empty.specs.private.layout.Following.{IsKnotted, IsWonSta
 use crate::game_laws::won_walks_accept;
 use omega_automaton::{Automaton, Refusal};
 use omega_budget::Found;
-use omega_game::Game;
+use omega_game::Arena;
 use std::alloc::Global;
 
 /// Edges passed one behind the other, of which the last leads back to where the knot's begins.
@@ -24,7 +24,7 @@ pub(crate) struct Knotted {
 pub(crate) fn follow_choices(
     alloc: Global,
     automaton: &Automaton,
-    game: &Game,
+    game: &Arena,
     found: &Found,
     start: u32,
 ) -> Result<Knotted, Refusal>

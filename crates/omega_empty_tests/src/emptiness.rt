@@ -2,7 +2,7 @@
 use crate::texts::{automaton_in, is_text};
 use omega_automaton::Automaton;
 use omega_empty::{Refusal, Verdict, emptiness, emptiness_game};
-use omega_game::Game;
+use omega_game::Arena;
 use omega_lasso::lasso;
 use omega_pg::write_game;
 use std::alloc::Global;
@@ -14,17 +14,17 @@ fn assert_row(rt: &impl Abort, row: usize, holds: bool) {
 }
 
 // The text of a game.
-fn written(alloc: Global, game: Game) -> Result<Vec<u8>, Refusal> {
-    write_game(alloc, game.arena())
+fn written(alloc: Global, game: Arena) -> Result<Vec<u8>, Refusal> {
+    write_game(alloc, &game)
 }
 
 // The emptiness game of an automaton.
-fn game_of(alloc: Global, automaton: Automaton) -> Result<Game, Refusal> {
+fn game_of(alloc: Global, automaton: Automaton) -> Result<Arena, Refusal> {
     emptiness_game(alloc, &automaton)
 }
 
 // The emptiness game of the automaton that a text means.
-fn game_in(alloc: Global, text: &str) -> Result<Game, Refusal> {
+fn game_in(alloc: Global, text: &str) -> Result<Arena, Refusal> {
     match automaton_in(alloc, text) {
         Ok(automaton) => game_of(alloc, automaton),
         Err(refusal) => Err(refusal),

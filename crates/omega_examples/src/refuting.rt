@@ -1,20 +1,20 @@
 //! A strategy is checked, and a walk is written that shows why it does not win.
-use omega_game::{Game, Lasso, Player, Refusal, Strategy, counterexample};
+use omega_game::{Arena, Lasso, Player, Refusal, Strategy, counterexample};
 use omega_text::write_number;
 use std::alloc::Global;
 
 /// What is written of a player's strategy at a place: `it wins`, or a walk to a cycle on which the player loses.
 pub fn report(
     alloc: Global,
-    game: &Game,
+    game: &Arena,
     player: Player,
     place: u32,
     strategy: &Strategy,
 ) -> Result<Vec<u8>, Refusal> {
-    if place as usize >= game.len() || !strategy.fits(game.arena(), player) {
+    if place as usize >= game.len() || !strategy.fits(game, player) {
         return Ok(Vec::from_slice(alloc, b"no strategy of this player for this game\n")?);
     }
-    match counterexample(alloc, game.arena(), player, &[place], strategy)? {
+    match counterexample(alloc, game, player, &[place], strategy)? {
         None => Ok(Vec::from_slice(alloc, b"it wins\n")?),
         Some(lasso) => walk_text(alloc, &lasso),
     }

@@ -6,11 +6,11 @@ ghost use Rattle.omega_measure.specs.Limits.{most_cells};
 ghost use Rattle.omega_measure.specs.Table.{is_too_wide};
 
 use crate::limits::MOST_CELLS;
-use omega_game::{Game, Player, PriorityCount};
+use omega_game::{Arena, Player, PriorityCount};
 
 /// Whether a table of the player's measures over a game has at most `MOST_CELLS` cells. Takes no memory, and a step for
 /// each priority that is borne.
-pub fn fits(game: &Game, player: Player) -> bool
+pub fn fits(game: &Arena, player: Player) -> bool
     ensures { result ≡ not (is_too_wide player (priorities game.now)) }
 {
     !is_too_wide(game.len(), losing_among(game.priority_counts(), player))

@@ -13,6 +13,6 @@ mod ranking;
 
 pub use filled_words::{FilledWords, least_from};
 pub use numbers::numbers_below;
-pub use omega_game::Game;
+pub use omega_game::Arena;
 pub use pace::Pace;
 pub use ranking::Ranking;

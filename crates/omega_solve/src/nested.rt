@@ -46,7 +46,7 @@ impl Schedule for Nested {
     }
 
     fn prepare_for(alloc: Global, game: &Game) -> Result<Self, Refusal> {
-        let ranking = Ranking::nested(alloc, game)?;
+        let ranking = Ranking::nested(alloc, game.arena())?;
         Nested::along(alloc, ranking)
     }
 

@@ -342,7 +342,7 @@ fn assert_reordered<R: Abort>(rt: &R, alloc: Global, reordered: &Reordered<'_>, 
 
 /// Asserts that a game is solved in an order of its own.
 fn assert_solved_reordered<R: Abort>(rt: &R, alloc: Global, game: &Game, row: &Row<'_>) {
-    match Reordered::of(alloc, game) {
+    match Reordered::of(alloc, game.arena()) {
         Ok(reordered) => assert_reordered(rt, alloc, &reordered, row),
         Err(_) => assert!(rt; false, "an order"),
     }
