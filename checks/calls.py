@@ -58,8 +58,9 @@ RUNS = [
     *((call, text, b"", 0, b"digraph automaton {\n") for call in ("draw_automaton", "draw_lasso") for text in AUTOMATA),
     *((call, STREAM, b"", 0, b"aborted\nHOA: v1\n") for call in ("read_stream", "feed")),
     *((call, BUCHI + b"x", b"", 3, b"") for call in ("read_stream", "feed")),
-    *((call, text, b"", 0, b"parity ") for call in ("read_game", "GameBuilder", "part") for text in GAMES),
-    ("read_game", b"0 0 0 1;", b"", 11, b""),
+    *((call, text, b"", 0, b"parity ")
+      for call in ("read_game", "read_arena", "with_predecessors", "GameBuilder", "finish_arena", "part") for text in GAMES),
+    *((call, b"0 0 0 1;", b"", 11, b"") for call in ("read_game", "read_arena")),
     ("build", b"", b"", 0, b"parity 7;\n3 2 0 7 \"n\";\n7 1 1 7,3;\n"),
     *((call, text, b"", 0, b"digraph game {\n") for call in ("draw_game", "draw_part") for text in GAMES),
     ("read_solution", CHOICE, b"paritysol 2; 0 0 2; 1 0; 2 0;", 0, b"paritysol 2;\n0 0 2;\n1 0;\n2 0;\n"),

@@ -4,7 +4,7 @@ use omega_arrays::Arrays;
 #[repr(C)]
 #[derive(Clone, Copy)]
 pub struct Game<'a> {
-    /// The priority of each node, at most 2,147,483,647.
+    /// The priority of each node, at most `MOST_NUMBER`.
     pub priorities: &'a [u32],
     /// The player who owns each node, 0 or 1.
     pub owners: &'a [u8],

@@ -1,12 +1,13 @@
 -- Solutions as arrays: for each place its winner, and the winner's choice there, or the mark for none.
 use Rattle.std.specs.Prelude.{ℕ, ◌==◌, if◌then◌else◌, List, Option, Some, None, length, map, slice_index}
 use Rattle.std.specs.List.{range_with_len}
+use Rattle.std.specs.Option.{option_or}
 use Rattle.omega_game.specs.declared.player.Player.{Player}
 use Rattle.omega_game.specs.declared.player.Player.TheVariants.{One, Zero}
 use Rattle.omega_game.specs.declared.solution.Solution.{Solution}
 use Rattle.omega_arrays.specs.declared.fault.WrongEntry.{WrongEntry}
 use Rattle.omega_arrays.specs.Arrays.{GameArrays, node_count, player_of}
-use Rattle.omega_arrays.specs.Shape.{first_above, first_of, miscounted, wrong_entry}
+use Rattle.omega_arrays.specs.Shape.{first_above, miscounted, wrong_entry}
 
 -- the entry that stands for no choice
 abbrev pub no_choice : ℕ
@@ -39,8 +40,8 @@ solution_in winners choices = record {
 -- the first entry that is wrong by the lengths of the arrays for an answer, or else of the game
 abbrev pub wrong_room : GameArrays → (winners choices : ℕ) → Option WrongEntry
 wrong_room a winners choices =
-    first_of (wrong_entry a) (first_of (miscounted 4 winners (node_count a)) (miscounted 5 choices (node_count a)))
+    option_or (wrong_entry a) (option_or (miscounted 4 winners (node_count a)) (miscounted 5 choices (node_count a)))
 
 -- the first entry that is wrong of arrays that are to hold a solution: the same, or else a winner that is no player
 abbrev pub wrong_answer : GameArrays → (winners choices : List ℕ) → Option WrongEntry
-wrong_answer a winners choices = first_of (wrong_room a (length winners) (length choices)) (first_above 4 1 winners)
+wrong_answer a winners choices = option_or (wrong_room a (length winners) (length choices)) (first_above 4 1 winners)

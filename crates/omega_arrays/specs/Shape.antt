@@ -1,6 +1,7 @@
 -- Which arrays stand for a game, and the first entry that is wrong in others.
 use Rattle.std.specs.Prelude.{◌≡◌, ℕ, ◌+◌, ◌-◌, ◌<◌, ◌≤◌, ◌==◌, if◌then◌else◌, List, Option, Some, None, All, length, min, nat_le, nat_lt, option_map, position}
 use Rattle.std.specs.List.{range_with_len}
+use Rattle.std.specs.Option.{option_or}
 use Rattle.omega_text.specs.Limits.{most_number}
 use Rattle.omega_text.specs.declared.refusal.game.GameFault.{GameFault}
 use Rattle.omega_text.specs.declared.refusal.game.GameFault.TheVariants.{TooManyEdges, TooManyNodes}
@@ -24,11 +25,6 @@ pub record IsGameShape (a : GameArrays) : Type 0 where
 abbrev pub entry : ℕ → ℕ → WrongEntry
 entry array place = record { array = array; place = place }
 
--- the first of the two, if there is one
-abbrev pub first_of : {A : Type 0} → Option A → Option A → Option A
-first_of (Some x) other = Some x
-first_of None other = other
-
 -- the first entry that is missing in an array that has so many and is to have so many, or the first that is too many
 abbrev pub miscounted : (array count wanted : ℕ) → Option WrongEntry
 miscounted array count wanted = if count == wanted then None else Some (entry array (min count wanted))
@@ -40,8 +36,8 @@ first_above array most entries = option_map (entry array) (position (λ x. nat_l
 -- what is wrong with the lengths: there is no node, or not an owner for each, or not a start for each and one behind
 abbrev pub wrong_length : GameArrays → Option WrongEntry
 wrong_length a =
-    first_of (if node_count a == 0 then Some (entry 0 0) else None)
-    (first_of (miscounted 1 (length a.owners) (node_count a)) (miscounted 2 (length a.starts) (node_count a + 1)))
+    option_or (if node_count a == 0 then Some (entry 0 0) else None)
+    (option_or (miscounted 1 (length a.owners) (node_count a)) (miscounted 2 (length a.starts) (node_count a + 1)))
 
 -- the first place whose successors end where they begin, or before
 abbrev pub first_fall : GameArrays → Option ℕ
@@ -50,17 +46,17 @@ first_fall a = position (λ v. nat_le (start_at a (v + 1)) (start_at a v)) (rang
 -- the first start that is wrong: it is to be 0, then greater than the one before, at last the number of successors
 abbrev pub wrong_start : GameArrays → Option WrongEntry
 wrong_start a =
-    first_of (if start_at a 0 == 0 then None else Some (entry 2 0))
-    (first_of (option_map (λ v. entry 2 (v + 1)) (first_fall a))
+    option_or (if start_at a 0 == 0 then None else Some (entry 2 0))
+    (option_or (option_map (λ v. entry 2 (v + 1)) (first_fall a))
     (if start_at a (node_count a) == length a.successors then None else Some (entry 2 (node_count a))))
 
 -- the first entry that is wrong: the lengths are judged first, then the arrays one by one
 abbrev pub wrong_entry : GameArrays → Option WrongEntry
 wrong_entry a =
-    first_of (wrong_length a)
-    (first_of (first_above 0 most_number a.priorities)
-    (first_of (first_above 1 1 a.owners)
-    (first_of (wrong_start a)
+    option_or (wrong_length a)
+    (option_or (first_above 0 most_number a.priorities)
+    (option_or (first_above 1 1 a.owners)
+    (option_or (wrong_start a)
     (first_above 3 (node_count a - 1) a.successors))))
 
 -- the fault of arrays that stand for a game, but for one over the limits: 13, or else 14

@@ -5,7 +5,7 @@ use std::marker::Model;
 #[repr(C)]
 #[derive(Drop)]
 pub struct Arrays<'a> {
-    /// The priority of each node, at most 2,147,483,647.
+    /// The priority of each node, at most `MOST_NUMBER`.
     priorities: &'a [u32],
     /// The player who owns each node, 0 or 1.
     owners: &'a [u8],

@@ -1,8 +1,7 @@
 //! Solutions as arrays, judged.
-ghost use Rattle.std.specs.Prelude.{◌≡◌, IfNone, IfOk, IfErr, IfSome, IsOk, IsOkUnless, OnErr, None, length};
+ghost use Rattle.std.specs.Prelude.{◌≡◌, IfOk, IfErr, IsOk, IsOkUnless, OnErr, None, length};
 ghost use Rattle.omega_text.specs.declared.refusal.Refusal.TheVariants.{Memory};
-ghost use Rattle.omega_game.specs.Solution.{IsSolution, WinsGiven};
-ghost use Rattle.omega_game_answers.specs.Verify.{LosesGiven};
+ghost use Rattle.omega_game.specs.Solution.{IsSolution};
 ghost use Rattle.omega_arrays.specs.Answer.{solution_in, wrong_answer};
 ghost use Rattle.omega_arrays.specs.Arrays.{nodes_in};
 ghost use Rattle.omega_arrays.specs.Judging.{IsFinding, IsJudgement, IsArraysJudgingRefusal, IsArraysSolutionRefusal, IsVerdictOf};
@@ -14,7 +13,8 @@ use crate::arrays::Arrays;
 use crate::building::built;
 use crate::copying::copied;
 use crate::fault::ArrayFault;
-use omega_game::{Arena, Lasso, Player, Refusal, Solution, TaskFault, counterexample};
+use omega_game::{Arena, Lasso, Player, Refusal, Solution, TaskFault};
+use omega_game_answers::lost_by;
 use std::alloc::Global;
 
 /// What is said of a solution.
@@ -96,25 +96,6 @@ fn refuted(
         return Ok(Some((Player::One, lasso)));
     }
     Ok(None)
-}
-
-/// Why the choices of a player do not win from all nodes given to the player, none where they do. 60 alone.
-fn lost_by(
-    alloc: Global,
-    game: &Arena,
-    solution: &Solution,
-    player: Player,
-) -> Result<Option<Lasso>, Refusal>
-    requires { IsSolution game.now solution.now }
-    ensures wins { IfOk result (λ found. IfNone found (WinsGiven game.now solution.now player)) }
-    ensures loses { IfOk result (λ found. IfSome found (LosesGiven game.now solution.now player)) }
-    ensures memory { IsOkUnless result Memory }
-{
-    game.keeps_limits();
-    let places = solution.places_given(alloc, player)?;
-    let strategy = solution.strategy(player);
-    let found = counterexample(alloc, game, player, places.as_slice(), strategy)?;
-    Ok(found)
 }
 
 /// The verdict, and the places of a counterexample written.

@@ -1,21 +1,16 @@
 //! Games solved by lifting for both players.
-ghost use Rattle.std.specs.Prelude.{◌≡◌, ◌≤◌, IfOk, IfErr, IsOk, IsOkUnless, false, true};
+ghost use Rattle.std.specs.Prelude.{◌≡◌, ◌≤◌, IfOk, IfErr, false};
 ghost use Rattle.omega_game.specs.declared.player.Player.{Player};
 ghost use Rattle.omega_game.specs.Game.{priorities};
 ghost use Rattle.omega_game.specs.Solution.{IsExactSolution};
 ghost use Rattle.omega_measure.specs.Table.{is_too_wide};
 ghost use Rattle.omega_solve.specs.Limits.{most_lifts};
-ghost use Rattle.omega_text.specs.declared.refusal.Refusal.TheVariants.{Memory, Task};
-ghost use Rattle.omega_text.specs.declared.refusal.task.TaskFault.TheVariants.{TooWide};
-ghost use Rattle.omega_game_answers.specs.declared.solve.asked.Asked.TheVariants.{Both};
-ghost use Rattle.omega_game_answers.specs.solve.Refusing.{IsTooWide};
-ghost use Rattle.omega_game_answers.specs.private.steps.Winners.{winners_of};
 ghost use Rattle.omega_arrays.specs.Solving.{AreLifts, EndBoth, IsWholeRefusal};
 
 use crate::solving::Lifts;
 use omega_budget::{Reordered, Unwatched};
-use omega_game::{Game, Player, Refusal, Seq, Solution, Strategy, TaskFault};
-use omega_measure::fits;
+use omega_game::{Game, Player, Refusal, Seq, Solution, Strategy};
+use omega_game_answers::{fits_both, winners_of};
 use omega_region::{regions_are_apart, regions_cover};
 use std::alloc::Global;
 
@@ -66,37 +61,4 @@ fn lifted_for_both(
         },
     };
     Ok((solution, lifts))
-}
-
-/// Refuses a game that is too wide for either player. 50 alone.
-fn fits_both(game: &Game) -> Result<(), Refusal>
-    ensures narrow { IsOk result → (player : Player) → is_too_wide player (priorities game.now) ≡ false }
-    ensures refused { IfErr result (λ refusal. (refusal ≡ Task TooWide) × IsTooWide game.now Both) }
-{
-    fits_for(game, Player::Zero)?;
-    fits_for(game, Player::One)
-}
-
-/// Refuses a game that is too wide for a player. 50 alone.
-fn fits_for(game: &Game, player: Player) -> Result<(), Refusal>
-    ensures narrow { IsOk result → is_too_wide player (priorities game.now) ≡ false }
-    ensures refused { IfErr result (λ refusal. (refusal ≡ Task TooWide) × (is_too_wide player (priorities game.now) ≡ true)) }
-{
-    if fits(game, player) {
-        Ok(())
-    } else {
-        Err(Refusal::Task(TaskFault::TooWide))
-    }
-}
-
-/// The winner of each node, of which player 0 wins these. 60 alone.
-fn winners_of(alloc: Global, won: &[bool]) -> Result<Vec<Player>, Refusal>
-    ensures winners { IfOk result (λ winners. winners.items ≡ winners_of won.now) }
-    ensures memory { IsOkUnless result Memory }
-{
-    let mut winners = Vec::with_capacity(alloc, won.len())?;
-    for is_won in won {
-        winners.push(if *is_won { Player::Zero } else { Player::One })?;
-    }
-    Ok(winners)
 }

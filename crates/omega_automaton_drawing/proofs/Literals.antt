@@ -1,17 +1,11 @@
--- The label of a valuation, one proposition more at a time, and its text.
-use Rattle.std.proofs.Common.{◌≡◌, ◌==◌, ℕ, zero, suc, ◌+◌, ◌<◌, ◌≤◌, ◌/◌, ◌%◌, ◌^◌, Bool, true, false, cond, List, ◌++◌, ap, refl, sym, ◌∙◌, append_assoc, arith}
-use Rattle.std.proofs.Math.Nat.{div-eq_of_lt}
-use Rattle.std.proofs.Math.Pow.{pow_mono}
+-- The text of the label of a valuation, one proposition more at a time.
+use Rattle.std.proofs.Common.{◌≡◌, ◌==◌, ℕ, zero, suc, ◌+◌, ◌≤◌, ◌/◌, ◌%◌, ◌^◌, Bool, true, false, cond, List, ◌++◌, ap, refl, sym, ◌∙◌, append_assoc, arith}
 use Rattle.std.specs.Prelude.{codes, nat_le, nat_lt}
 use Rattle.omega_acc.specs.Writing.{bracketed, label_text}
-use Rattle.omega_acc.specs.label.Label.{conjunction, negation, proposition}
+use Rattle.omega_acc.specs.label.Label.{negation, proposition}
 use Rattle.omega_automaton_drawing.specs.Expressions.{named_text}
-use Rattle.omega_automaton_drawing.specs.Valuations.{literal, valuation_label}
-
--- one proposition more
-valuation_more : (index p : ℕ) → 1 ≤ p → valuation_label index (p + 1) ≡ conjunction (valuation_label index p) (literal index p)
-valuation_more index zero some = absurd (omega arith)
-valuation_more index (suc p) some = let e : suc p + 1 ≡ suc (suc p) = omega arith in ap (valuation_label index) e
+use Rattle.omega_written.proofs.Valuations.{valuation_more}
+use Rattle.omega_written.specs.Labels.{literal, valuation_label}
 
 -- a proposition and its negation bind tightly
 literal_tight : (set : Bool) (p : ℕ) → (label_text (cond set (proposition p) (negation (proposition p)))).rank ≡ 3
@@ -50,12 +44,3 @@ pub literal_named : (names : List (List ℕ)) (set : Bool) (p : ℕ) → named_t
     ≡ cond set (named_text names (proposition p)) (codes "!" ++ named_text names (proposition p))
 literal_named names true p = refl
 literal_named names false p = refl
-
--- bits of numbers that are too small have none
-not_below : (k n : ℕ) → n ≤ k → nat_lt k n ≡ false
-not_below k n least = grind arith
-
-pub far_bit : (index p : ℕ) → 64 ≤ p → index < 2 ^ 64 → nat_lt p 64 ≡ ((index / 2 ^ p) % 2 == 1)
-far_bit index p far small =
-    let e : index / 2 ^ p ≡ 0 = div-eq_of_lt (omega (arith, small, pow_mono far)) in
-    not_below p 64 far ∙ ap (λ (n : ℕ). n % 2 == 1) (sym e)

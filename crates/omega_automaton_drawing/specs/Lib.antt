@@ -2,7 +2,6 @@
 pub mod Roles
 pub mod Names
 pub mod Expressions
-pub mod Valuations
 pub mod States
 pub mod EdgeLines
 pub mod Arrows

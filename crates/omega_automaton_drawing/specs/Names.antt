@@ -1,18 +1,8 @@
 -- How the names of propositions stand in a drawing.
-use Rattle.std.specs.Prelude.{ℕ, ◌&&◌, ◌||◌, Bool, false, not, if◌then◌else◌, List, [], ◌∷◌, ◌++◌, codes, slice_index_or}
-use Rattle.std.specs.List.{list_all}
+use Rattle.std.specs.Prelude.{ℕ, ◌&&◌, ◌||◌, Bool, not, if◌then◌else◌, List, [], ◌++◌, codes, slice_index_or}
 use Rattle.std.specs.Str.{bytes_eq}
 use Rattle.omega_dot.specs.Labels.{escaped}
-use Rattle.omega_text.specs.Bytes.{is_digit, is_letter}
-
--- whether a byte goes on in an identifier: a letter, an underscore or a digit
-abbrev pub goes_on : ℕ → Bool
-goes_on byte = is_letter byte || is_digit byte
-
--- whether a name is an identifier: a letter or an underscore, and then letters, underscores and digits
-abbrev pub is_identifier : List ℕ → Bool
-is_identifier [] = false
-is_identifier (byte ∷ rest) = is_letter byte && list_all goes_on rest
+use Rattle.omega_written.specs.Names.{is_identifier}
 
 -- whether a name is that of a constant, `t` or `f`
 abbrev pub is_constant : List ℕ → Bool

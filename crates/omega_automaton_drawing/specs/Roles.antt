@@ -9,9 +9,9 @@ abbrev pub is_member : ℕ → List ℕ → Bool
 is_member number numbers = list_any (λ other. other == number) numbers
 
 -- the role that the numbers of a list have, and the role of any other number
-abbrev pub marked : List ℕ → Role → Role → ℕ → Role
-marked numbers role other number = if is_member number numbers then role else other
+abbrev pub role_among : List ℕ → Role → Role → ℕ → Role
+role_among numbers role other number = if is_member number numbers then role else other
 
 -- an edge is on the cycle, or else on the stem, or else on neither
 abbrev pub role_of : List ℕ → List ℕ → ℕ → Role
-role_of stem cycle number = marked cycle Cycle (marked stem Stem Plain number) number
+role_of stem cycle number = role_among cycle Cycle (role_among stem Stem Plain number) number

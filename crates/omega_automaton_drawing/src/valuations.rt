@@ -1,11 +1,12 @@
 //! The valuations of edges without labels.
 
-ghost use Rattle.std.specs.Prelude.{◌≡◌, ◌==◌, ◌<◌, ◌/◌, ◌%◌, ◌^◌, ◌++◌, IsOkUnless, OnOk, length};
+ghost use Rattle.std.specs.Prelude.{◌≡◌, ◌++◌, IsOkUnless, OnOk, length};
 ghost use Rattle.omega_automaton_drawing.specs.Expressions.{named_text};
-ghost use Rattle.omega_automaton_drawing.specs.Valuations.{literal, valuation_label};
+ghost use Rattle.omega_written.specs.Labels.{literal, valuation_label};
 
 use crate::names::write_name_at;
 use omega_text::{ByteString, Refusal};
+use omega_written::has_bit;
 
 /// Appends the label of the valuation of an index over all propositions.
 pub(crate) fn write_valuation(
@@ -42,11 +43,4 @@ fn write_literal(
         out.push(b'!')?;
     }
     write_name_at(names, p, out)
-}
-
-/// Whether a bit of an index is set.
-fn has_bit(index: usize, p: usize) -> bool
-    ensures { result ≡ ((index / 2 ^ p) % 2 == 1) }
-{
-    p < 64 && (index >> p) % 2 == 1
 }

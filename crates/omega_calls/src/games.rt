@@ -3,12 +3,12 @@ ghost use Rattle.std.specs.Prelude.{◌<◌, length, All, IfOk, IsTrue};
 
 use crate::lists::{put_all, put_answer};
 use omega_game::{
-    Game, GameBuilder, Lasso, MOST_NUMBER, NodeSpec, Player, Refusal, Seq, Solution,
+    Arena, Game, GameBuilder, Lasso, MOST_NUMBER, NodeSpec, Player, Refusal, Seq, Solution,
     check_solution_by_order, check_strategy, check_strategy_by_order, check_strategy_fast,
     counterexample,
 };
 use omega_game_drawing::{Extent, draw_game, draw_solution};
-use omega_pg::{read_game, read_solution, write_game, write_solution};
+use omega_pg::{read_arena, read_game, read_solution, write_game, write_solution};
 use std::alloc::Global;
 
 pub(crate) fn called(
@@ -19,7 +19,10 @@ pub(crate) fn called(
 ) -> Option<Result<Vec<u8>, Refusal>> {
     match call {
         "read_game" => Some(written(alloc, read_game(alloc, text))),
+        "read_arena" => Some(arena_written(alloc, read_arena(alloc, text))),
+        "with_predecessors" => Some(written(alloc, completed(alloc, text))),
         "GameBuilder" => Some(written(alloc, built_again(alloc, text))),
+        "finish_arena" => Some(arena_written(alloc, arena_built_again(alloc, text))),
         "build" => Some(written(alloc, built_of_two(alloc))),
         "part" => Some(written(alloc, part(alloc, text))),
         "draw_game" => Some(drawn(alloc, text)),
@@ -39,6 +42,21 @@ pub(crate) fn called(
 fn written(alloc: Global, game: Result<Game, Refusal>) -> Result<Vec<u8>, Refusal> {
     match game {
         Ok(game) => write_game(alloc, game.arena()),
+        Err(refusal) => Err(refusal),
+    }
+}
+
+fn arena_written(alloc: Global, arena: Result<Arena, Refusal>) -> Result<Vec<u8>, Refusal> {
+    match arena {
+        Ok(arena) => write_game(alloc, &arena),
+        Err(refusal) => Err(refusal),
+    }
+}
+
+/// The game of a text, its predecessors made behind the rest.
+fn completed(alloc: Global, text: &[u8]) -> Result<Game, Refusal> {
+    match read_arena(alloc, text) {
+        Ok(arena) => arena.with_predecessors(alloc),
         Err(refusal) => Err(refusal),
     }
 }
@@ -110,20 +128,34 @@ fn built_of_two(alloc: Global) -> Result<Game, Refusal> {
 
 /// The game of a text, its nodes handed to a builder one by one.
 fn built_again(alloc: Global, text: &[u8]) -> Result<Game, Refusal> {
+    filled(alloc, text)?.finish()
+}
+
+/// The same without predecessors.
+fn arena_built_again(alloc: Global, text: &[u8]) -> Result<Arena, Refusal> {
+    filled(alloc, text)?.finish_arena()
+}
+
+/// A builder with the nodes of the game of a text.
+fn filled(alloc: Global, text: &[u8]) -> Result<GameBuilder, Refusal>
+    ensures { IfOk result (λ builder. 0 < length builder) }
+{
     match read_game(alloc, text) {
-        Ok(game) => rebuilt(GameBuilder::with_room(alloc, 1, 1)?, &game),
+        Ok(game) => refilled(GameBuilder::with_room(alloc, 1, 1)?, &game),
         Err(refusal) => Err(refusal),
     }
 }
 
-fn rebuilt(mut builder: GameBuilder, game: &Game) -> Result<Game, Refusal> {
+fn refilled(mut builder: GameBuilder, game: &Game) -> Result<GameBuilder, Refusal>
+    ensures { IfOk result (λ builder. 0 < length builder) }
+{
     for place in 0..game.len() as u32 {
         add_node(&mut builder, game, place)?;
     }
     if builder.len() == 0 {
         return Err(Refusal::Io);
     }
-    builder.finish()
+    Ok(builder)
 }
 
 /// Adds the node at a place, with a name. A refused request adds nothing, so that it may be added once more.

@@ -25,7 +25,7 @@ pub record IsUnsigned (text : List ℕ) : Type 0 where
   pub unsigned : BeginsWithSign text → ⊥
 
 -- the digits stand for a number above the greatest, and both are told
-pub record IsAbove (most : ℕ) (text : List ℕ) (number limit : ℕ) : Type 0 where
+pub record IsAboveLimit (most : ℕ) (text : List ℕ) (number limit : ℕ) : Type 0 where
   pub digits : IsNumeral 10 text
   pub value : digits_value 10 text ≡ number
   pub above : most < number
@@ -38,7 +38,7 @@ IsNumberReason most text reason.Empty = text ≡ []
 IsNumberReason most text reason.Sign = BeginsWithSign text
 IsNumberReason most text reason.NotDigits = IsUnsigned text × (IsNumeral 10 text → ⊥)
 IsNumberReason most text reason.TooLarge = IsUnsigned text × (IsNumeral 10 text → 2 ^ 64 ≤ digits_value 10 text)
-IsNumberReason most text (reason.Above number limit) = IsAbove most text number limit
+IsNumberReason most text (reason.Above number limit) = IsAboveLimit most text number limit
 IsNumberReason most text reason.NoFormat = ⊥
 IsNumberReason most text reason.NoTruth = ⊥
 

@@ -52,9 +52,9 @@ pub struct Options<'a> {
     pub format: Option<&'a str>,
     /// The number of a player, 0 or 1.
     pub player: Option<&'a str>,
-    /// The identifier of a node, at most 2,147,483,647.
+    /// The identifier of a node, at most `MOST_NUMBER`.
     pub from: Option<&'a str>,
-    /// The most lifts of each run, at most 1,099,511,627,776.
+    /// The most lifts of each run, at most `MOST_BUDGET`.
     pub budget: Option<&'a str>,
     /// `true` where the flag is given; `clap` may say `false` where it is not.
     pub search: Option<&'a str>,
@@ -74,7 +74,7 @@ pub struct Options<'a> {
     pub legend: Option<&'a str>,
     /// As `search`.
     pub lasso: Option<&'a str>,
-    /// How many steps from the node of `from`, at most 2,147,483,647.
+    /// How many steps from the node of `from`, at most `MOST_NUMBER`.
     pub depth: Option<&'a str>,
     /// As `search`.
     pub progress: Option<&'a str>,

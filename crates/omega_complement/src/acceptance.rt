@@ -15,7 +15,7 @@ use omega_text::Refusal;
 use omega_written::written_formula;
 use std::alloc::Global;
 
-/// The dual of the acceptance of an automaton. 55 where it is over 256 deep as it is written, or 60.
+/// The dual of the acceptance of an automaton. 55 where it is deeper than `MOST_DEPTH` as it is written, or 60.
 pub(crate) fn dual_acceptance(alloc: Global, automaton: &Automaton) -> Result<RawAcc, Refusal>
     ensures dual { IfOk result (λ raw. raw ≡ acc_written (dual automaton.now.acceptance)) }
     ensures err { IfErr result (IsLarge (most_depth < raw_acc_depth (acc_written (dual automaton.now.acceptance)))) }

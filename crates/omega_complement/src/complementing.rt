@@ -23,13 +23,14 @@ use std::alloc::Global;
 /// set of its own, behind the others: then the acceptance is `dual | Inf(set)`. Without a start the sink is the start.
 ///
 /// Refusals, the first that applies: 41 where a start or an edge lists several states; 55 where a further state, a
-/// further edge for each state, a further set or, as it is written, a formula one deeper would pass a limit (1,048,576
-/// states, 8,388,608 edges, 2,147,483,647 sets, depth 256); 56 where there are two starts, with the state of the
-/// second; then, state by state in the order of their numbers, 56 with the number of a state two of whose edges can be
-/// taken at one letter, 42 where a label that is judged mentions over 12 propositions and `can_be_true` gave it up, and
-/// 55 where a label that is judged, or one that is written with the parentheses that it needs, is over 256 deep or has
-/// over 65,536 atoms and operators; 55 where all labels together would pass their limit; or 60. So what is written is
-/// within the limits of what is read, and its canonical text is read back.
+/// further edge for each state, a further set or, as it is written, a formula one deeper would pass a limit
+/// (`MOST_STATES`, `MOST_EDGES`, `MOST_NUMBER` sets, `MOST_DEPTH`); 56 where there are two starts, with the state of
+/// the second; then, state by state in the order of their numbers, 56 with the number of a state two of whose edges can
+/// be taken at one letter, 42 where a label that is judged mentions over `MOST_MENTIONED` propositions and
+/// `can_be_true` gave it up, and 55 where a label that is judged, or one that is written with the parentheses that it
+/// needs, is deeper than `MOST_DEPTH` or has over `MOST_SIZE` atoms and operators; 55 where all labels together would
+/// pass their limit; or 60. So what is written is within the limits of what is read, and its canonical text is read
+/// back.
 ///
 /// Judges each two edges of a state together and the letters that all of them leave; of a state that has an edge for
 /// each valuation nothing.

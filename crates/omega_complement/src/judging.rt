@@ -15,8 +15,8 @@ use omega_text::{Refusal, TaskFault};
 use omega_written::fitting_label;
 use std::alloc::Global;
 
-/// Whether a label can be true. 55 where it is over 256 deep or has over 65,536 atoms and operators, 42 where it
-/// mentions over 12 propositions and `can_be_true` gave it up, or 60.
+/// Whether a label can be true. 55 where it is deeper than `MOST_DEPTH` or has over `MOST_SIZE` atoms and operators, 42
+/// where it mentions over `MOST_MENTIONED` propositions and `can_be_true` gave it up, or 60.
 pub(crate) fn can_hold(alloc: Global, shape: &LabelShape) -> Result<bool, Refusal>
     ensures judged { IfOk result (λ possible. IsTrue possible ↔ IsSatisfiable (label_tree_of_shape shape.now)) }
     ensures fits { OnOk result (FitsALabel (label_tree_of_shape shape.now)) }

@@ -12,8 +12,8 @@ use omega_text::Refusal;
 use omega_written::{fitting_label, label_at};
 use std::alloc::Global;
 
-/// The labels of the edges of a state, over so many propositions. 55 where one would be over 256 deep or have over
-/// 65,536 atoms and operators, or 60.
+/// The labels of the edges of a state, over so many propositions. 55 where one would be deeper than `MOST_DEPTH`
+/// or have over `MOST_SIZE` atoms and operators, or 60.
 pub(crate) fn labels_of(alloc: Global, count: usize, state: &State) -> Result<Vec<Label>, Refusal>
     ensures labels { IfOk result (λ labels. labels.items ≡ labels_of_state count state.now) }
     ensures fits { OnOk result (All FitsALabel (labels_of_state count state.now)) }

@@ -135,7 +135,7 @@ fn turned_edges(
 }
 
 /// The edge of a state at an index, of its label. The count and the index are named for the contract alone. 55 where
-/// the label is over 256 deep as it is written, or 60.
+/// the label is deeper than `MOST_DEPTH` as it is written, or 60.
 fn turned_edge(
     alloc: Global,
     _count: usize,

@@ -10,7 +10,7 @@ use Rattle.omega_automaton.specs.Automaton.{BodyEdge, Description, edge_at, edge
 use Rattle.omega_automaton.specs.declared.edge.Edge.{Edge}
 use Rattle.omega_automaton.specs.declared.state.State.{State}
 use Rattle.omega_empty.specs.Words.{index_in}
-use Rattle.omega_edge_table.specs.Places.{ArePlaces, StandsAt}
+use Rattle.omega_edge_table.specs.Places.{ArePlaces, EdgeStandsAt}
 use Rattle.omega_edge_table.specs.declared.place.EdgePlace.{EdgePlace}
 use Rattle.omega_edge_table.specs.private.Placing.{places_in}
 use Rattle.omega_edge_table.proofs.Standing.{StandsFrom, drop_here, found_here, none_left, index_here, left_part, right_part, split_at, stands_later}
@@ -18,7 +18,7 @@ use Rattle.omega_edge_table.proofs.Standing.{StandsFrom, drop_here, found_here, 
 -- the places of the edges of the states before an index
 pub record ArePlacedTo (a : Description) (at : ℕ) (places : List EdgePlace) : Type 0 where
   pub count : length places + length (flat_map edges_from (drop at a.defined)) ≡ edge_count a
-  pub each : (number : ℕ) (place : EdgePlace) → slice_get places number ≡ Some place → StandsAt a number place
+  pub each : (number : ℕ) (place : EdgePlace) → slice_get places number ≡ Some place → EdgeStandsAt a number place
   pub stands : (k : ℕ) → StandsFrom a.defined (length places + k) (drop at a.defined) k
 
 -- before the first state there are none
@@ -58,7 +58,7 @@ module _ (a : Description) (at : ℕ) (state : State) (places : List EdgePlace) 
   split k = split_at a.defined at state (length places + k) k below here (before.stands k)
 
   -- an edge of this state
-  own_stands : (k : ℕ) → k < length state.edges → StandsAt a (length places + k) (record { state = at; index = k })
+  own_stands : (k : ℕ) → k < length state.edges → EdgeStandsAt a (length places + k) (record { state = at; index = k })
   own_stands k inside =
       let found = element state.edges k inside in
       let edge = found.0 in
@@ -74,14 +74,14 @@ module _ (a : Description) (at : ℕ) (state : State) (places : List EdgePlace) 
       }
 
   -- an edge of this state or one before
-  each_more : (number : ℕ) (place : EdgePlace) → slice_get (places ++ places_in at (length state.edges)) number ≡ Some place → StandsAt a number place
+  each_more : (number : ℕ) (place : EdgePlace) → slice_get (places ++ places_in at (length state.edges)) number ≡ Some place → EdgeStandsAt a number place
   each_more number place there = ⊎_elim
       (λ early. before.each number place (sym (left_part places (places_in at (length state.edges)) number early) ∙ there))
       (λ late.
       let k = number - length places in
       let own = placed_in at (length state.edges) k place (sym (right_part places (places_in at (length state.edges)) number late) ∙ there) in
       let sum : length places + k ≡ number = omega arith in
-      subst (λ n. StandsAt a n place) sum (subst (StandsAt a (length places + k)) (sym own.1) (own_stands k own.0)))
+      subst (λ n. EdgeStandsAt a n place) sum (subst (EdgeStandsAt a (length places + k)) (sym own.1) (own_stands k own.0)))
       (cases_lt number (length places))
 
   -- the edges behind this state
@@ -123,7 +123,7 @@ all_placed a at places past placed =
 module _ (a : Description) (places : List EdgePlace) (number : ℕ) (place : EdgePlace) (placed : ArePlaces a places)
     (here : slice_get places number ≡ Some place) where
   -- the edge there
-  pub placed_there : StandsAt a number place
+  pub placed_there : EdgeStandsAt a number place
   placed_there = placed.each number place here
 
   -- its state is one of the automaton

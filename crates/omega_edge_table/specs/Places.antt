@@ -7,7 +7,7 @@ use Rattle.omega_empty.specs.Words.{index_in}
 use Rattle.omega_edge_table.specs.declared.place.EdgePlace.{EdgePlace}
 
 -- the edge of a number stands at a place: the state there has it at its index
-pub record StandsAt (a : Description) (number : ℕ) (place : EdgePlace) : Type 0 where
+pub record EdgeStandsAt (a : Description) (number : ℕ) (place : EdgePlace) : Type 0 where
   pub state : State
   pub edge : Edge
   pub state_there : slice_get a.defined place.state ≡ Some state
@@ -18,4 +18,4 @@ pub record StandsAt (a : Description) (number : ℕ) (place : EdgePlace) : Type 
 -- the places of all edges, by their numbers
 pub record ArePlaces (a : Description) (places : List EdgePlace) : Type 0 where
   pub all : length places ≡ edge_count a
-  pub each : (number : ℕ) (place : EdgePlace) → slice_get places number ≡ Some place → StandsAt a number place
+  pub each : (number : ℕ) (place : EdgePlace) → slice_get places number ≡ Some place → EdgeStandsAt a number place

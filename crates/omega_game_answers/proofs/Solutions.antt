@@ -15,7 +15,7 @@ use Rattle.omega_solve.specs.Headline.{IsExact}
 use Rattle.omega_budget.specs.Within.{EndsWithin, IsFound}
 use Rattle.omega_budget.specs.declared.found.Found.{Found}
 use Rattle.omega_game_answers.specs.solve.Solution.{IsRight}
-use Rattle.omega_game_answers.specs.private.steps.Winners.{winner_of, winners_of}
+use Rattle.omega_game_answers.specs.solve.Winners.{winner_of, winners_of}
 use Rattle.omega_game_answers.proofs.Places.{slice_get-true}
 
 -- ---- the winners

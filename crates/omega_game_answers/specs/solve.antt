@@ -3,3 +3,4 @@ pub mod AnswerText
 pub mod Refusing
 pub mod Solution
 pub mod Solving
+pub mod Winners

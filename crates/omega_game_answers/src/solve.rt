@@ -10,7 +10,7 @@ ghost use Rattle.omega_budget.specs.Watching.{IsWatched, refusal_in};
 
 mod answer_text;
 pub mod asked;
-mod both;
+pub mod both;
 mod one;
 mod searched;
 

@@ -10,7 +10,7 @@ ghost use Rattle.omega_refused.specs.Refused.{IsRefusedOf};
 ghost use Rattle.omega_game_answers.specs.private.steps.Solved.{IsSolutionJudged};
 ghost use Rattle.omega_game_answers.specs.private.steps.Verdict.{verdict_exit, verdict_text};
 
-mod explaining;
+pub mod explaining;
 
 use crate::part::part_from;
 use explaining::explained;

@@ -7,7 +7,7 @@ use Rattle.omega_game.specs.declared.solution.Solution.{Solution}
 use Rattle.omega_game.specs.Solution.{choices_of, winner_at}
 use Rattle.omega_game_drawing.specs.Extent.{AreDrawn}
 use Rattle.omega_game_drawing.specs.Legend.{legend_text}
-use Rattle.omega_game_drawing.specs.Nodes.{place_text}
+use Rattle.omega_game_drawing.specs.Nodes.{node_text_if_drawn}
 use Rattle.omega_game_drawing.specs.declared.extent.Extent.{Extent}
 use Rattle.omega_dot.specs.Numbered.{numbered}
 
@@ -19,7 +19,7 @@ legend_part legend = if legend then legend_text else []
 -- where they are known
 abbrev pub game_drawing : List Node → List Bool → (ℕ → Option Player) → (ℕ → Option ℕ) → (legend : Bool) → List ℕ
 game_drawing nodes drawn winner choice legend =
-    codes "digraph game {\n" ++ (numbered (λ place node. place_text nodes drawn (winner place) (choice place) place node) 0 nodes
+    codes "digraph game {\n" ++ (numbered (λ place node. node_text_if_drawn nodes drawn (winner place) (choice place) place node) 0 nodes
     ++ (legend_part legend ++ codes "}\n"))
 
 -- the text is the drawing of what is to be drawn of a game

@@ -43,14 +43,14 @@ abbrev pub edge_end : Bool → List ℕ
 edge_end chosen = if chosen then codes " [style=bold];\n" else codes ";\n"
 
 -- an edge from a node to a place, bold if it is the choice
-abbrev pub drawn_edge : List Node → Option ℕ → Node → ℕ → List ℕ
-drawn_edge nodes choice node place =
+abbrev pub successor_line : List Node → Option ℕ → Node → ℕ → List ℕ
+successor_line nodes choice node place =
     codes "  " ++ (decimal node.identifier ++ (codes " -> " ++ (decimal (identifier_at nodes place)
     ++ edge_end (is_chosen choice place))))
 
 -- the edge to a place, where the node there is drawn
 abbrev pub edge_to : List Node → List Bool → Option ℕ → Node → ℕ → List ℕ
-edge_to nodes drawn choice node place = if is_drawn drawn place then drawn_edge nodes choice node place else []
+edge_to nodes drawn choice node place = if is_drawn drawn place then successor_line nodes choice node place else []
 
 -- whether the node leads on, to a node that is not drawn
 abbrev pub leads_on : List Bool → Node → Bool
@@ -74,5 +74,5 @@ node_text nodes drawn winner choice node =
     drawn_node winner node ++ (flat_map (edge_to nodes drawn choice node) node.successors ++ edge_beyond drawn node)
 
 -- what stands for the node at a place: nothing where it is not drawn
-abbrev pub place_text : List Node → List Bool → Option Player → Option ℕ → ℕ → Node → List ℕ
-place_text nodes drawn winner choice place node = if is_drawn drawn place then node_text nodes drawn winner choice node else []
+abbrev pub node_text_if_drawn : List Node → List Bool → Option Player → Option ℕ → ℕ → Node → List ℕ
+node_text_if_drawn nodes drawn winner choice place node = if is_drawn drawn place then node_text nodes drawn winner choice node else []

@@ -5,7 +5,7 @@ ghost use Rattle.omega_game.specs.Game.{node_at};
 ghost use Rattle.omega_game.specs.Solution.{IsSolution, winner_at};
 ghost use Rattle.omega_game_drawing.specs.Extent.{IsPlaced};
 ghost use Rattle.omega_game_drawing.specs.GameDrawing.{IsGameDrawing, IsSolutionDrawing, choice_in, legend_part};
-ghost use Rattle.omega_game_drawing.specs.Nodes.{place_text};
+ghost use Rattle.omega_game_drawing.specs.Nodes.{node_text_if_drawn};
 
 use crate::extent::{Extent, drawn_places};
 use crate::legend::write_legend;
@@ -83,7 +83,7 @@ fn write_solved(
     requires solution { IsSolution game.now solution.now }
     requires place { place < length game.now }
     requires entries { length drawn.now ≡ length game.now }
-    ensures ok { OnOk result (out.new.items ≡ out.old.items ++ place_text game.now drawn.now (Some (winner_at solution.now place)) (choice_in game.now solution.now place) place (node_at game.now place)) }
+    ensures ok { OnOk result (out.new.items ≡ out.old.items ++ node_text_if_drawn game.now drawn.now (Some (winner_at solution.now place)) (choice_in game.now solution.now place) place (node_at game.now place)) }
     ensures memory { IsOkUnless result Refusal.Memory }
 {
     let winner = solution.winners.as_slice()[place as usize];

@@ -3,7 +3,7 @@
 ghost use Rattle.std.specs.Prelude.{◌≡◌, ◌<◌, ◌++◌, All, IsOkUnless, OnOk, codes, decimal, length};
 ghost use Rattle.std.specs.List.{flat_map};
 ghost use Rattle.omega_game.specs.Game.{node_at};
-ghost use Rattle.omega_game_drawing.specs.Nodes.{colour_of, drawn_edge, drawn_node, dots, edge_beyond, edge_end, edge_to, edge_to_dots, fill_part, is_chosen, leads_on, node_label, node_text, place_text, shape_of};
+ghost use Rattle.omega_game_drawing.specs.Nodes.{colour_of, drawn_node, dots, edge_beyond, edge_end, edge_to, edge_to_dots, fill_part, is_chosen, leads_on, node_label, node_text, node_text_if_drawn, shape_of, successor_line};
 
 use omega_dot::write_name_line;
 use omega_game::{Arena, Player, Refusal};
@@ -21,7 +21,7 @@ pub(crate) fn write_place(
 ) -> Result<(), Refusal>
     requires place { place < length game.now }
     requires entries { length drawn.now ≡ length game.now }
-    ensures ok { OnOk result (out.new.items ≡ out.old.items ++ place_text game.now drawn.now winner choice place (node_at game.now place)) }
+    ensures ok { OnOk result (out.new.items ≡ out.old.items ++ node_text_if_drawn game.now drawn.now winner choice place (node_at game.now place)) }
     ensures memory { IsOkUnless result Refusal.Memory }
 {
     if !drawn[place as usize] {
@@ -157,7 +157,7 @@ fn write_edge(
 ) -> Result<(), Refusal>
     requires place { place < length game.now }
     requires successor { successor < length game.now }
-    ensures ok { OnOk result (out.new.items ≡ out.old.items ++ drawn_edge game.now choice (node_at game.now place) successor) }
+    ensures ok { OnOk result (out.new.items ≡ out.old.items ++ successor_line game.now choice (node_at game.now place) successor) }
     ensures memory { IsOkUnless result Refusal.Memory }
 {
     out.extend_from_slice(b"  ")?;

@@ -23,9 +23,10 @@ use omega_text::TaskFault;
 use std::alloc::Global;
 
 /// Whether an automaton is empty, or an accepting lasso, whatever its acceptance formula and its name. Refused are, the
-/// first by number: 41 (a start or an edge lists several states), 42 (a label mentions over 12 propositions, and
-/// `can_be_true` gave it up), or 60. The cost is that of `can_be_true` for each label, and of `accepting_walk` in the
-/// usable edges, and in those that a start reaches where no start leads to the closed walk that was found.
+/// first by number: 41 (a start or an edge lists several states), 42 (a label mentions over `MOST_MENTIONED`
+/// propositions, and `can_be_true` gave it up), or 60. The cost is that of `can_be_true` for each label, and of
+/// `accepting_walk` in the usable edges, and in those that a start reaches where no start leads to the closed walk that
+/// was found.
 pub fn lasso(alloc: Global, automaton: &Automaton) -> Result<Verdict, Refusal>
     ensures verdict { IfOk result (IsVerdict automaton.now) }
     ensures given { OnOk result (IsSearchable automaton.now) }

@@ -17,7 +17,7 @@ use omega_satisfying::can_be_true;
 use std::alloc::Global;
 
 /// The numbers of the usable edges, rising. A label of a state is judged once, and those of its edges then are not.
-/// 42 where a label mentions over 12 propositions and `can_be_true` gave it up, or 60.
+/// 42 where a label mentions over `MOST_MENTIONED` propositions and `can_be_true` gave it up, or 60.
 pub(crate) fn usable_edges(alloc: Global, automaton: &Automaton) -> Result<Vec<u32>, Refusal>
     ensures usable { IfOk result (λ edges. AreUsableEdges automaton.now edges.items) }
     ensures refused { IfErr result (or_task (λ fault. (fault ≡ TooManyPropositions) × HasWideLabel automaton.now) (or_memory never)) }

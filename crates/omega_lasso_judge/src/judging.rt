@@ -22,9 +22,9 @@ use std::alloc::Global;
 /// given.
 ///
 /// Refused are, the first by number: 41 (a start or an edge lists several states), 42 (the label of an edge of the
-/// lasso mentions over 12 propositions, and `can_be_true` gave it up), or 60. The cost is linear in the automaton and
-/// the lasso, and beyond that of `can_be_true` for each edge of the lasso; the acceptance formula is walked by a
-/// recursion as deep as it is.
+/// lasso mentions over `MOST_MENTIONED` propositions, and `can_be_true` gave it up), or 60. The cost is linear in the
+/// automaton and the lasso, and beyond that of `can_be_true` for each edge of the lasso; the acceptance formula is
+/// walked by a recursion as deep as it is.
 pub fn judge_lasso(
     alloc: Global,
     automaton: &Automaton,

@@ -16,8 +16,8 @@ use omega_automaton::Refusal;
 use omega_satisfying::can_be_true;
 use std::alloc::Global;
 
-/// The first of some edges whose label is never true. 42 where a label in front of that mentions over 12 propositions
-/// and `can_be_true` gave it up, or 60.
+/// The first of some edges whose label is never true. 42 where a label in front of that mentions over
+/// `MOST_MENTIONED` propositions and `can_be_true` gave it up, or 60.
 pub(crate) fn first_never_true(
     alloc: Global,
     table: &EdgeTable<'_>,

@@ -1,20 +1,8 @@
--- Literals, one more at a time, and bits of numbers that are too small for them.
-use Rattle.std.proofs.Common.{◌≡◌, ◌==◌, ℕ, ◌+◌, ◌<◌, ◌≤◌, ◌/◌, ◌%◌, ◌^◌, false, nat_lt, List, [], ◌∷◌, ◌++◌, length, take, get_or, refl, sym, ap, ◌∙◌, arith, append_assoc}
+-- Literals, one more at a time.
+use Rattle.std.proofs.Common.{◌≡◌, ℕ, ◌+◌, ◌<◌, List, [], ◌∷◌, ◌++◌, length, take, get_or, refl, sym, ap, ◌∙◌, arith, append_assoc}
 use Rattle.std.specs.Prelude.{codes}
-use Rattle.std.proofs.Math.Nat.{div-eq_of_lt}
-use Rattle.std.proofs.Math.Pow.{pow_mono}
 use Rattle.std.proofs.lemmas.List.{length-take, take_more}
 use Rattle.omega_lasso_word.specs.Letters.{literal_text, literals_behind}
-
--- a number that is not below another
-not_below : (k n : ℕ) → n ≤ k → nat_lt k n ≡ false
-not_below k n least = grind arith
-
--- no bit from 64 on is set in a number of 64 bits
-pub far_bit : (index p : ℕ) → 64 ≤ p → index < 2 ^ 64 → nat_lt p 64 ≡ ((index / 2 ^ p) % 2 == 1)
-far_bit index p far small =
-    let e : index / 2 ^ p ≡ 0 = div-eq_of_lt (omega (arith, small, pow_mono far)) in
-    not_below p 64 far ∙ ap (λ (n : ℕ). n % 2 == 1) (sym e)
 
 -- the literals of names and of one more
 literals_more : (index p : ℕ) (names : List (List ℕ)) (name : List ℕ)

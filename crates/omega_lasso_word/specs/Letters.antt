@@ -1,20 +1,10 @@
 -- Letters of words as text: what a label demands of the propositions, by their names, as Spot writes formulas.
-use Rattle.std.specs.Prelude.{ℕ, ◌+◌, Bool, false, ◌&&◌, ◌||◌, if◌then◌else◌, nat_lt, List, [], ◌∷◌, ◌++◌, get_or, Option, None, Some, codes}
-use Rattle.std.specs.List.{list_all}
-use Rattle.omega_text.specs.Bytes.{is_digit, is_letter}
+use Rattle.std.specs.Prelude.{ℕ, ◌+◌, Bool, if◌then◌else◌, nat_lt, List, [], ◌∷◌, ◌++◌, get_or, Option, None, Some, codes}
 use Rattle.omega_acc.specs.label.Label.{LabelTree, conjunction, constant, disjunction, negation, proposition}
 use Rattle.omega_automaton.specs.Automaton.{BodyEdge, Description, edge_at}
 use Rattle.omega_empty.specs.Lasso.{label_of}
 use Rattle.omega_empty.specs.Words.{has_bit, index_in}
-
--- whether a byte goes on in an identifier: a letter, an underscore or a digit
-abbrev pub goes_on : ℕ → Bool
-goes_on byte = is_letter byte || is_digit byte
-
--- whether a name is an identifier
-abbrev pub is_identifier : List ℕ → Bool
-is_identifier [] = false
-is_identifier (byte ∷ rest) = is_letter byte && list_all goes_on rest
+use Rattle.omega_written.specs.Names.{is_identifier}
 
 -- a name, in quotes where it is no identifier
 abbrev pub name_text : List ℕ → List ℕ

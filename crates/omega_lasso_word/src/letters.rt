@@ -1,13 +1,13 @@
 //! Letters: what edges demand of the propositions.
 
 ghost use Rattle.std.specs.Prelude.{◌≡◌, ◌++◌, [], get_or, IsOkUnless, OnOk};
-ghost use Rattle.omega_empty.specs.Words.{has_bit as is_bit_set};
 ghost use Rattle.omega_lasso_word.specs.Letters.{label_words, literal_text, name_text, valuation_text};
 ghost use Rattle.omega_acc.specs.label.Shape.{label_tree_of_shape};
 
 use crate::names::write_name;
 use omega_acc::{Label, LabelShape};
 use omega_text::{ByteString, Refusal};
+use omega_written::has_bit;
 
 /// Appends a label by the names of the propositions.
 pub(crate) fn write_label(
@@ -110,11 +110,4 @@ fn write_literal(index: usize, p: usize, name: &[u8], out: &mut Vec<u8>) -> Resu
         out.push(b'!')?;
     }
     write_name(name, out)
-}
-
-/// Whether a bit of an index is set.
-fn has_bit(index: usize, p: usize) -> bool
-    ensures { result ≡ is_bit_set index p }
-{
-    p < 64 && (index >> p) % 2 == 1
 }

@@ -1,11 +1,10 @@
 //! Names of propositions.
 
 ghost use Rattle.std.specs.Prelude.{◌≡◌, ◌++◌, IsOkUnless, OnOk};
-ghost use Rattle.std.specs.List.{list_all};
-ghost use Rattle.omega_text.specs.Bytes.{is_letter as is_letter_byte};
-ghost use Rattle.omega_lasso_word.specs.Letters.{goes_on as goes_on_in_identifier, is_identifier as is_identifier_text, name_text};
+ghost use Rattle.omega_lasso_word.specs.Letters.{name_text};
 
 use omega_text::Refusal;
+use omega_written::is_identifier;
 
 /// Appends a name, in quotes where it is no identifier.
 pub(crate) fn write_name(name: &[u8], out: &mut Vec<u8>) -> Result<(), Refusal>
@@ -20,40 +19,4 @@ pub(crate) fn write_name(name: &[u8], out: &mut Vec<u8>) -> Result<(), Refusal>
     out.extend_from_slice(name)?;
     out.push(b'"')?;
     Ok(())
-}
-
-/// Whether a name is an identifier: a letter or an underscore, and then letters, underscores and digits.
-fn is_identifier(name: &[u8]) -> bool
-    ensures { result ≡ is_identifier_text name.now }
-{
-    match name {
-        [] => false,
-        [byte, rest @ ..] => is_letter(*byte) && all_go_on(rest),
-    }
-}
-
-/// Whether all bytes go on in an identifier.
-fn all_go_on(bytes: &[u8]) -> bool
-    ensures { result ≡ list_all goes_on_in_identifier bytes.now }
-{
-    for byte in bytes {
-        if !goes_on(*byte) {
-            return false;
-        }
-    }
-    true
-}
-
-/// Whether a byte is a letter or an underscore.
-fn is_letter(byte: u8) -> bool
-    ensures { result ≡ is_letter_byte byte }
-{
-    byte.is_ascii_alphabetic() || byte == b'_'
-}
-
-/// Whether a byte is a letter, an underscore or a digit.
-fn goes_on(byte: u8) -> bool
-    ensures { result ≡ goes_on_in_identifier byte }
-{
-    is_letter(byte) || byte.is_ascii_digit()
 }

@@ -33,9 +33,9 @@ use std::alloc::Global;
 /// first; the acceptance is the conjunction, named where both are Büchi or generalized Büchi.
 ///
 /// Refused are: 41 where a start or an edge lists several states; then 42 where it is not decided whether the labels of
-/// two edges can hold together, and 55 where the product would have over 1,048,576 states or 8,388,608 edges or break a
-/// limit of automata: over 1,024 propositions, 2,147,483,647 sets, a label or an acceptance that is too deep or too
-/// large. Takes time by the pairs of edges of each pair of states that is reached.
+/// two edges can hold together, and 55 where the product would have over `MOST_STATES` states or `MOST_EDGES` edges or
+/// break a limit of automata: over `MOST_PROPOSITIONS` propositions, `MOST_NUMBER` sets, a label or an acceptance that
+/// is too deep or too large. Takes time by the pairs of edges of each pair of states that is reached.
 pub fn product(alloc: Global, first: &Automaton, second: &Automaton) -> Result<Automaton, Refusal>
     ensures product { IfOk result (IsProduct first.now second.now) }
     ensures written { IfOk result (IsWritten first.now second.now) }

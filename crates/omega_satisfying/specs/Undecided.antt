@@ -1,15 +1,11 @@
 -- Where it is not decided whether a label can be true.
-use Rattle.std.specs.Prelude.{◌≡◌, ◌<◌, ℕ, length}
+use Rattle.std.specs.Prelude.{◌≡◌, ◌<◌, length}
 use Rattle.omega_text.specs.Cases.{never, or_memory, or_task}
 use Rattle.omega_text.specs.declared.refusal.Refusal.{Refusal}
 use Rattle.omega_text.specs.declared.refusal.task.TaskFault.TheVariants.{TooManyPropositions}
 use Rattle.omega_acc.specs.Limits.{most_mentioned}
 use Rattle.omega_acc.specs.label.Label.{LabelTree}
 use Rattle.omega_acc.specs.label.Satisfiable.{mentioned}
-
--- the most steps that are visited for a label
-abbrev pub most_visited : ℕ
-most_visited = 4194304
 
 -- the label mentions more propositions than are always judged, or want of memory
 abbrev pub IsUndecidedLabel : LabelTree → Refusal → Type 0

@@ -12,10 +12,10 @@ use std::alloc::Global;
 
 /// Whether some set of propositions makes a label true.
 ///
-/// A label that mentions at most 12 propositions is judged by [`satisfiable`], without memory. For another one the
-/// search assumes the first literal that it needs and goes on; where this fails it tries what else the label offers.
-/// It visits at most [`MOST_VISITED`](crate::MOST_VISITED) steps, and a conjunction of literals or a disjunction of
-/// such takes about as many as it has atoms and operators. Refusal 42 where they do not suffice.
+/// A label that mentions at most `MOST_MENTIONED` propositions is judged by [`satisfiable`], without memory. For
+/// another one the search assumes the first literal that it needs and goes on; where this fails it tries what else the
+/// label offers. It visits at most [`MOST_VISITED`](crate::MOST_VISITED) steps, and a conjunction of literals or a
+/// disjunction of such takes about as many as it has atoms and operators. Refusal 42 where they do not suffice.
 pub fn can_be_true(alloc: Global, label: &Label) -> Result<bool, Refusal>
     ensures ok { IfOk result (λ possible. IsTrue possible ↔ IsSatisfiable label.now) }
     ensures err { IfErr result (IsUndecidedLabel label.now) }

@@ -1,5 +1,5 @@
 ghost use Rattle.std.specs.Prelude.{◌≡◌};
-ghost use Rattle.omega_satisfying.specs.Undecided.{most_visited};
+ghost use Rattle.omega_satisfying.specs.Limits.{most_visited};
 
 /// The most steps of a label that are visited before it is given up, refused 42.
 pub const MOST_VISITED: u32 = 4_194_304;

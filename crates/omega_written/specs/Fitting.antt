@@ -9,7 +9,7 @@ use Rattle.omega_acc.specs.label.Label.{LabelTree, label_size}
 use Rattle.omega_acc.specs.label.Raw.{raw_depth}
 use Rattle.omega_acc.specs.label.Shape.{FitsALabel}
 
--- a label can be written in a text: it is not over 256 deep with the parentheses that it needs, and not too large
+-- a label can be written in a text: it is not too deep with the parentheses that it needs, and not too large
 pub record FitsAText (label : LabelTree) : Type 0 where
   pub shallow : raw_depth (label_written label) ≤ most_depth
   pub small : label_size label ≤ most_size

@@ -2,5 +2,6 @@
 pub use Rattle.omega_text.specs.Cases
 pub use Rattle.omega_text.specs.Refusal
 pub mod Labels
+pub mod Names
 pub mod Fitting
 pub mod Limits

@@ -64,8 +64,8 @@ fn literal(alloc: Global, index: usize, p: usize) -> Result<LabelShape, Refusal>
     }
 }
 
-/// Whether a bit of an index is set.
-fn has_bit(index: usize, p: usize) -> bool
+/// Whether a bit of an index is set: whether the proposition of this number holds in the valuation of the index.
+pub fn has_bit(index: usize, p: usize) -> bool
     ensures { result ≡ ((index / 2 ^ p) % 2 == 1) }
 {
     p < 64 && (index >> p) % 2 == 1

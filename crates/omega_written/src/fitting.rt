@@ -6,7 +6,8 @@ use omega_acc::{Label, LabelShape};
 use omega_text::{Refusal, TaskFault};
 use std::alloc::Global;
 
-/// The label of a tree. 55 where it is over 256 deep or has over 65,536 atoms and operators, or 60. Linear in the tree.
+/// The label of a tree. 55 where it is deeper than `MOST_DEPTH` or has over `MOST_SIZE` atoms and operators, or 60.
+/// Linear in the tree.
 pub fn fitting_label(alloc: Global, shape: &LabelShape) -> Result<Label, Refusal>
     ensures label { IfOk result (λ label. label ≡ label_tree_of_shape shape.now) }
     ensures fits { OnOk result (FitsALabel (label_tree_of_shape shape.now)) }

@@ -13,7 +13,7 @@ use omega_acc::{AccShape, RawAcc};
 use omega_text::{Refusal, TaskFault};
 use std::alloc::Global;
 
-/// A formula as it is written. 55 where it is over 256 deep so, or 60. Linear in the formula.
+/// A formula as it is written. 55 where it is deeper than `MOST_DEPTH` so, or 60. Linear in the formula.
 pub fn written_formula(alloc: Global, shape: &AccShape) -> Result<RawAcc, Refusal>
     ensures ok { IfOk result (λ raw. raw ≡ acc_written (acc_tree_of_shape shape.now)) }
     ensures err { IfErr result (IsLarge (most_depth < raw_acc_depth (acc_written (acc_tree_of_shape shape.now)))) }
@@ -25,7 +25,7 @@ pub fn written_formula(alloc: Global, shape: &AccShape) -> Result<RawAcc, Refusa
     }
 }
 
-/// A formula as it is written. 32 where it is over 256 deep so.
+/// A formula as it is written. 32 where it is deeper than `MOST_DEPTH` so.
 fn written(alloc: Global, shape: &AccShape) -> Result<RawAcc, Refusal>
     ensures ok { IfOk result (λ raw. raw ≡ acc_written (acc_tree_of_shape shape.now)) }
     ensures err { IfErr result (IsDeeper (most_depth < raw_acc_depth (acc_written (acc_tree_of_shape shape.now)))) }
@@ -47,7 +47,7 @@ fn written(alloc: Global, shape: &AccShape) -> Result<RawAcc, Refusal>
     }
 }
 
-/// A formula in parentheses or not. 32 where it is over 256 deep so.
+/// A formula in parentheses or not. 32 where it is deeper than `MOST_DEPTH` so.
 fn within(formula: RawAcc, parentheses: bool) -> Result<RawAcc, Refusal>
     ensures ok { IfOk result (λ raw. raw ≡ acc_grouped parentheses formula) }
     ensures err { IfErr result (IsDeeper (most_depth < raw_acc_depth (acc_grouped parentheses formula))) }

@@ -13,7 +13,7 @@ use omega_acc::{LabelShape, RawLabel};
 use omega_text::{Refusal, TaskFault};
 use std::alloc::Global;
 
-/// A label as it is written. 55 where it is over 256 deep so, or 60. Linear in the label.
+/// A label as it is written. 55 where it is deeper than `MOST_DEPTH` so, or 60. Linear in the label.
 pub fn written_label(alloc: Global, shape: &LabelShape) -> Result<RawLabel, Refusal>
     ensures shallow { OnOk result (raw_depth (label_written (label_tree_of_shape shape.now)) ≤ most_depth) }
     ensures ok { IfOk result (λ raw. raw ≡ label_written (label_tree_of_shape shape.now)) }
@@ -26,7 +26,7 @@ pub fn written_label(alloc: Global, shape: &LabelShape) -> Result<RawLabel, Refu
     }
 }
 
-/// A label as it is written. 32 where it is over 256 deep so.
+/// A label as it is written. 32 where it is deeper than `MOST_DEPTH` so.
 fn written(alloc: Global, shape: &LabelShape) -> Result<RawLabel, Refusal>
     ensures shallow { OnOk result (raw_depth (label_written (label_tree_of_shape shape.now)) ≤ most_depth) }
     ensures ok { IfOk result (λ raw. raw ≡ label_written (label_tree_of_shape shape.now)) }
@@ -52,7 +52,7 @@ fn written(alloc: Global, shape: &LabelShape) -> Result<RawLabel, Refusal>
     }
 }
 
-/// A label in parentheses or not. 32 where it is over 256 deep so.
+/// A label in parentheses or not. 32 where it is deeper than `MOST_DEPTH` so.
 fn within(label: RawLabel, parentheses: bool) -> Result<RawLabel, Refusal>
     ensures ok { IfOk result (λ raw. raw ≡ grouped parentheses label) }
     ensures err { IfErr result (IsDeeper (most_depth < raw_depth (grouped parentheses label))) }

@@ -5,5 +5,4 @@ pub mod Places
 pub mod Drawn
 pub mod Solved
 pub mod Verdict
-pub mod Winners
 pub mod Lifts

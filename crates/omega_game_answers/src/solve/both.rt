@@ -9,7 +9,7 @@ ghost use Rattle.omega_text.specs.declared.refusal.Refusal.TheVariants.{Memory, 
 ghost use Rattle.omega_game_answers.specs.declared.solve.asked.Asked.TheVariants.{Both};
 ghost use Rattle.omega_game_answers.specs.solve.Solution.{IsRight, IsSolutionOf};
 ghost use Rattle.omega_game_answers.specs.private.steps.SolveGameRefusal.{IsSolveGameRefusal};
-ghost use Rattle.omega_game_answers.specs.private.steps.Winners.{winners_of};
+ghost use Rattle.omega_game_answers.specs.solve.Winners.{winners_of};
 ghost use Rattle.omega_game_answers.specs.private.steps.Lifts.{LiftsWholeGame};
 ghost use Rattle.omega_budget.specs.Watching.{IsWatched, refusal_in};
 
@@ -91,7 +91,7 @@ fn lifted_solution<L, W: Watch<L>>(
 }
 
 /// Refuses a game that is too wide for either player. 50 alone.
-fn fits_both(game: &Game) -> Result<(), Refusal>
+pub fn fits_both(game: &Game) -> Result<(), Refusal>
     ensures narrow { IsOk result → (player : Player) → is_too_wide player (priorities game.now) ≡ false }
     ensures refused { IfErr result (λ refusal. (refusal ≡ Task TooWide) × IsTooWide game.now Both) }
 {
@@ -111,8 +111,8 @@ fn fits_for(game: &Game, player: Player) -> Result<(), Refusal>
     }
 }
 
-/// The winner of each node, of which player 0 wins these.
-fn winners_of(alloc: Global, won: &[bool]) -> Result<Vec<Player>, Refusal>
+/// The winner of each node, of which player 0 wins these. 60 alone.
+pub fn winners_of(alloc: Global, won: &[bool]) -> Result<Vec<Player>, Refusal>
     ensures winners { IfOk result (λ winners. winners.items ≡ winners_of won.now) }
     ensures memory { IsOkUnless result Memory }
 {

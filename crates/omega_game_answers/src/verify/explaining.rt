@@ -31,7 +31,7 @@ pub(crate) fn explained(
 }
 
 /// Why the choices of a player do not win from all nodes given to the player, none where they do. 60 alone.
-fn lost_by(
+pub fn lost_by(
     alloc: Global,
     game: &Arena,
     solution: &Solution,

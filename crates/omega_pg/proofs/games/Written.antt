@@ -11,7 +11,7 @@ use Rattle.omega_text.specs.Limits.{most_number}
 use Rattle.omega_game.specs.declared.node_spec.NodeSpec.{NodeSpec}
 use Rattle.omega_game.specs.declared.player.Player.{Player}
 use Rattle.omega_game.specs.declared.player.Player.TheVariants.{One, Zero}
-use Rattle.omega_pg.specs.game.Canonical.{header_line, listed, listed_behind, name_part, node_line}
+use Rattle.omega_pg.specs.game.Canonical.{header_line, name_part, node_line, successors_behind, successors_text}
 use Rattle.omega_pg.specs.game.Grammar.{header_symbols, name_symbols, node_symbols, successor_symbols}
 use Rattle.omega_pg.specs.Symbols.{PgSymbol, comma, number, semicolon}
 use Rattle.omega_game.specs.Player.{player_number}
@@ -40,7 +40,7 @@ name_ends None rest = refl
 name_ends (Some bytes) rest = refl
 
 -- so does a comma
-others_end : (others rest : List ℕ) → EndsNumber rest → EndsNumber (listed_behind others ++ rest)
+others_end : (others rest : List ℕ) → EndsNumber rest → EndsNumber (successors_behind others ++ rest)
 others_end [] rest ends = ends
 others_end (id ∷ others) rest ends = refl
 
@@ -55,25 +55,25 @@ module _ (tokens : TokensFollow) (gaps : EndsAreGaps) (numbers : NumbersAreLonge
 
   -- further identifiers, each behind a comma
   others_written : (others rest : List ℕ) (symbols : List PgSymbol) → All (λ id. id ≤ most_number) others → EndsNumber rest → IsWritten rest symbols
-      → IsWritten (listed_behind others ++ rest) (flat_map (λ id. comma ∷ number id ∷ []) others ++ symbols)
+      → IsWritten (successors_behind others ++ rest) (flat_map (λ id. comma ∷ number id ∷ []) others ++ symbols)
   others_written [] rest symbols fits ends then = then
   others_written (id ∷ others) rest symbols fits ends then =
       comma_written tokens gaps numbers words signs names _ _
       (subst (λ text. IsWritten text (number id ∷ (flat_map (λ id. comma ∷ number id ∷ []) others ++ symbols)))
-      (sym (append_assoc (decimal id) (listed_behind others) rest))
-      (number_written tokens gaps numbers words signs names [] (listed_behind others ++ rest) id _ nothing
+      (sym (append_assoc (decimal id) (successors_behind others) rest))
+      (number_written tokens gaps numbers words signs names [] (successors_behind others ++ rest) id _ nothing
       (All-head (λ id. id ≤ most_number) id others fits)
       (others_end others rest ends)
       (others_written others rest symbols (All-tail (λ id. id ≤ most_number) id others fits) ends then)))
 
   -- identifiers behind a space
   listed_written : (ids rest : List ℕ) (symbols : List PgSymbol) → 0 < length ids → All (λ id. id ≤ most_number) ids → EndsNumber rest → IsWritten rest symbols
-      → IsWritten (32 ∷ (listed ids ++ rest)) (successor_symbols ids ++ symbols)
+      → IsWritten (32 ∷ (successors_text ids ++ rest)) (successor_symbols ids ++ symbols)
   listed_written [] rest symbols some fits ends then = absurd (omega (arith, some))
   listed_written (first ∷ others) rest symbols some fits ends then =
       subst (λ text. IsWritten (32 ∷ text) (number first ∷ (flat_map (λ id. comma ∷ number id ∷ []) others ++ symbols)))
-      (sym (append_assoc (decimal first) (listed_behind others) rest))
-      (number_written tokens gaps numbers words signs names (32 ∷ []) (listed_behind others ++ rest) first _ space
+      (sym (append_assoc (decimal first) (successors_behind others) rest))
+      (number_written tokens gaps numbers words signs names (32 ∷ []) (successors_behind others ++ rest) first _ space
       (All-head (λ id. id ≤ most_number) first others fits)
       (others_end others rest ends)
       (others_written others rest symbols (All-tail (λ id. id ≤ most_number) first others fits) ends then))
@@ -83,7 +83,7 @@ module _ (tokens : TokensFollow) (gaps : EndsAreGaps) (numbers : NumbersAreLonge
       → IsWritten (10 ∷ (node_line spec ++ rest)) (node_symbols spec ++ symbols)
   line_written spec rest symbols well then =
       let ending = name_part spec.name ++ (59 ∷ 10 ∷ rest) in
-      let tail = listed spec.successors ++ ending in
+      let tail = successors_text spec.successors ++ ending in
       let owner = decimal (player_number spec.owner) ++ (32 ∷ tail) in
       let priority = decimal spec.priority ++ (32 ∷ owner) in
       let text : decimal spec.id ++ (32 ∷ priority) ≡ node_line spec ++ rest = sym (simp append_assoc) in

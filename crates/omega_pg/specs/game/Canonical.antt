@@ -12,13 +12,13 @@ abbrev pub header_line : ℕ → List ℕ
 header_line number = codes "parity " ++ (decimal number ++ codes ";\n")
 
 -- identifiers with a comma before each
-abbrev pub listed_behind : List ℕ → List ℕ
-listed_behind ids = flat_map (λ id. codes "," ++ decimal id) ids
+abbrev pub successors_behind : List ℕ → List ℕ
+successors_behind ids = flat_map (λ id. codes "," ++ decimal id) ids
 
 -- identifiers with a comma between each two
-abbrev pub listed : List ℕ → List ℕ
-listed [] = []
-listed (first ∷ others) = decimal first ++ listed_behind others
+abbrev pub successors_text : List ℕ → List ℕ
+successors_text [] = []
+successors_text (first ∷ others) = decimal first ++ successors_behind others
 
 -- a space and the quoted name, if there is one
 abbrev pub name_part : Option (List ℕ) → List ℕ
@@ -29,7 +29,7 @@ name_part (Some bytes) = codes " " ++ quoted bytes
 abbrev pub node_line : NodeSpec → List ℕ
 node_line spec =
     decimal spec.id ++ (codes " " ++ (decimal spec.priority ++ (codes " " ++ (decimal (player_number spec.owner)
-    ++ (codes " " ++ (listed spec.successors ++ (name_part spec.name ++ codes ";\n")))))))
+    ++ (codes " " ++ (successors_text spec.successors ++ (name_part spec.name ++ codes ";\n")))))))
 
 -- the canonical text of a game
 abbrev pub canonical_game : List Node → List ℕ

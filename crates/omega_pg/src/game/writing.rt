@@ -1,7 +1,7 @@
 ghost use Rattle.std.specs.Prelude.{◌≡◌, ◌<◌, ◌++◌, All, IfOk, IsOkUnless, OnOk, codes, decimal, length, map, option_map};
 ghost use Rattle.omega_game.specs.Building.{specified};
 ghost use Rattle.omega_game.specs.Game.{IsGame, node_at, identifier_at};
-ghost use Rattle.omega_pg.specs.game.Canonical.{canonical_game, header_line, listed, listed_behind, name_part, node_line};
+ghost use Rattle.omega_pg.specs.game.Canonical.{canonical_game, header_line, name_part, node_line, successors_behind, successors_text};
 
 use omega_game::{Arena, Refusal};
 use omega_text::write_number;
@@ -64,7 +64,7 @@ pub(crate) fn write_part(number: u32, out: &mut Vec<u8>) -> Result<(), Refusal>
 /// Appends the identifiers of nodes at places, with a comma between each two.
 fn write_listed(game: &Arena, places: &[u32], out: &mut Vec<u8>) -> Result<(), Refusal>
     requires { All (λ place. place < length game.now) places.now }
-    ensures ok { OnOk result (out.new.items ≡ out.old.items ++ listed (map (identifier_at game.now) places.now)) }
+    ensures ok { OnOk result (out.new.items ≡ out.old.items ++ successors_text (map (identifier_at game.now) places.now)) }
     ensures memory { IsOkUnless result Refusal.Memory }
 {
     if let [first, others @ ..] = places {
@@ -77,7 +77,7 @@ fn write_listed(game: &Arena, places: &[u32], out: &mut Vec<u8>) -> Result<(), R
 /// Appends the identifiers of nodes at places, with a comma before each.
 fn write_others(game: &Arena, places: &[u32], out: &mut Vec<u8>) -> Result<(), Refusal>
     requires { All (λ place. place < length game.now) places.now }
-    ensures ok { OnOk result (out.new.items ≡ out.old.items ++ listed_behind (map (identifier_at game.now) places.now)) }
+    ensures ok { OnOk result (out.new.items ≡ out.old.items ++ successors_behind (map (identifier_at game.now) places.now)) }
     ensures memory { IsOkUnless result Refusal.Memory }
 {
     for place in places {

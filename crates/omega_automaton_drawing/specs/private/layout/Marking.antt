@@ -1,6 +1,6 @@
 -- Roles by number, in a table.
 use Rattle.std.specs.Prelude.{◌≡◌, ℕ, ◌<◌, List, length, slice_index_or}
-use Rattle.omega_automaton_drawing.specs.Roles.{marked, role_of}
+use Rattle.omega_automaton_drawing.specs.Roles.{role_among, role_of}
 use Rattle.omega_automaton_drawing.specs.declared.role.Role.{Role}
 use Rattle.omega_automaton_drawing.specs.declared.role.Role.TheVariants.{Plain}
 
@@ -11,7 +11,7 @@ role_at roles number = slice_index_or roles number Plain
 -- a table has the roles of another, but for these numbers, which have this role
 abbrev pub AreMarked : List ℕ → Role → List Role → List Role → Type 0
 AreMarked numbers role before after =
-    (number : ℕ) → number < length before → role_at after number ≡ marked numbers role (role_at before number) number
+    (number : ℕ) → number < length before → role_at after number ≡ role_among numbers role (role_at before number) number
 
 -- a table has an entry for each of so many edges: its role in the lasso
 pub record AreRoles (stem cycle : List ℕ) (edges : ℕ) (roles : List Role) : Type 0 where

@@ -4,7 +4,7 @@ use Rattle.omega_game.specs.declared.player.Player.TheVariants.{One, Zero}
 use Rattle.omega_text.specs.declared.refusal.Refusal.TheVariants.{Memory}
 use Rattle.omega_game_answers.specs.declared.solve.asked.Asked.TheVariants.{Both}
 use Rattle.omega_game_answers.specs.private.steps.SolveGameRefusal.{IsSolveGameRefusal}
-use Rattle.omega_game_answers.specs.private.steps.Winners.{winners_of}
+use Rattle.omega_game_answers.specs.solve.Winners.{winners_of}
 use Rattle.omega_game_answers.proofs.Solving.{found_for, refused-solving, solving_for, told_for}
 use Rattle.omega_game_answers.proofs.Solutions.{right_solution}
 use Rattle.omega_budget.proofs.Watched.{first_made, one_solved, run_refused, spares, two_made, two_solved, two_watched, watched_alike}

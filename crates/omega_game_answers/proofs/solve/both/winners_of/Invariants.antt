@@ -1,6 +1,6 @@
 -- `winners_of`: the winners before this place are listed.
 use Rattle.std.proofs.Common.{◌≡◌, take}
-use Rattle.omega_game_answers.specs.private.steps.Winners.{winners_of}
+use Rattle.omega_game_answers.specs.solve.Winners.{winners_of}
 use Rattle.omega_game_answers.proofs.solve.both.winners_of.Given as goal
 
 abbrev pub invariant-loop-is_won : goal.invariant-loop-is_won
