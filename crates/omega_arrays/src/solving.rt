@@ -72,5 +72,5 @@ fn solved(
     if by_search && let Some(solution) = solve_by_search(alloc, game)? {
         return Ok((solution, Lifts { zero: 0, one: 0 }));
     }
-    lifted(alloc, game, budget)
+    lifted(alloc, game.arena(), budget)
 }

@@ -37,7 +37,7 @@ fn of_automaton(alloc: Global, call: &str, automaton: &Automaton) -> Result<Vec<
 
 fn game_written(alloc: Global, automaton: &Automaton) -> Result<Vec<u8>, Refusal> {
     match emptiness_game(alloc, automaton) {
-        Ok(game) => write_game(alloc, game.arena()),
+        Ok(game) => write_game(alloc, &game),
         Err(refusal) => Err(refusal),
     }
 }

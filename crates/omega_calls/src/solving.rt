@@ -113,7 +113,7 @@ fn reordered(alloc: Global, text: &[u8]) -> Result<Vec<u8>, Refusal> {
 
 fn in_order(alloc: Global, game: &Game) -> Result<Vec<u8>, Refusal> {
     let mut out = Vec::new(alloc);
-    let reordered = Reordered::of(alloc, game)?;
+    let reordered = Reordered::of(alloc, game.arena())?;
     let zero = reordered.solve(alloc, Player::Zero, MOST_LIFTS, &Unwatched, &mut ());
     put_solved(&mut out, zero)?;
     let one = reordered.solve(alloc, Player::One, MOST_LIFTS, &Unwatched, &mut ());
@@ -170,7 +170,7 @@ fn ordered(alloc: Global, text: &[u8]) -> Result<Vec<u8>, Refusal> {
 
 /// The places of a game in the order of their ranks, and how many words its sets of ranks have.
 fn order(alloc: Global, game: &Game) -> Result<Vec<u8>, Refusal> {
-    let ranking = Ranking::nested(alloc, game)?;
+    let ranking = Ranking::nested(alloc, game.arena())?;
     let mut out = Vec::new(alloc);
     for rank in 0..ranking.len() {
         put(&mut out, u128::from(ranking.place(rank)))?;

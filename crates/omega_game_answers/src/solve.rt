@@ -19,7 +19,7 @@ use crate::part::part_from;
 use asked::Asked;
 use both::solve_both;
 use omega_budget::Watch;
-use omega_game::{Arena, Game, Refusal};
+use omega_game::{Arena, Refusal};
 use omega_region::regions_of_parts;
 use one::solve_one;
 use searched::solve_by_judged_search;
@@ -72,7 +72,7 @@ fn solve_part<L, W: Watch<L>>(
     solve_whole(alloc, part, asked, budget, watch, listener)
 }
 
-/// The text for a whole game, whose predecessors are listed first. 50, 51 or 60.
+/// The text for a whole game, as it is asked for. 50, 51 or 60.
 fn solve_whole<L, W: Watch<L>>(
     alloc: Global,
     game: Arena,
@@ -87,28 +87,9 @@ fn solve_whole<L, W: Watch<L>>(
     ensures told { IsWatched (LiftsWholeGame game asked) (refusal_in result) (W.tells watch.now) (W.pace watch.now) budget listener.old listener.new }
     ensures counted { IfOk result (λ output. CountsTold (W.tells watch.now) (W.pace watch.now) game asked budget output.items listener.old listener.new) }
 {
-    let whole = game.with_predecessors(alloc)?;
-    answer_whole(alloc, &whole, asked, budget, watch, listener)
-}
-
-/// The text for a whole game, as it is asked for. 50, 51 or 60.
-fn answer_whole<L, W: Watch<L>>(
-    alloc: Global,
-    game: &Game,
-    asked: Asked,
-    budget: u64,
-    watch: &W,
-    listener: &mut L,
-) -> Result<Vec<u8>, Refusal>
-    requires { budget ≤ most_lifts }
-    ensures answer { IfOk result (λ output. SolvesWhole game.now asked budget output.items) }
-    ensures refused { IfErr result (IsSolveGameRefusal game.now asked None budget) }
-    ensures told { IsWatched (LiftsWholeGame game.now asked) (refusal_in result) (W.tells watch.now) (W.pace watch.now) budget listener.old listener.new }
-    ensures counted { IfOk result (λ output. CountsTold (W.tells watch.now) (W.pace watch.now) game.now asked budget output.items listener.old listener.new) }
-{
     match asked {
-        Asked::Both => solve_both(alloc, game, budget, watch, listener),
+        Asked::Both => solve_both(alloc, &game, budget, watch, listener),
         Asked::Search => { solve_by_judged_search(alloc, game, budget, watch, listener) }
-        Asked::Player(player) => { solve_one(alloc, game, player, budget, watch, listener) }
+        Asked::Player(player) => { solve_one(alloc, &game, player, budget, watch, listener) }
     }
 }

@@ -5,7 +5,7 @@ ghost use Rattle.omega_game_answers.specs.solve.AnswerText.{answer_text, lifts_l
 ghost use Rattle.omega_game_answers.specs.private.steps.Places.{places_from};
 
 use crate::player_text::append_player;
-use omega_game::{Game, Player, Refusal};
+use omega_game::{Arena, Player, Refusal};
 use omega_text::write_number;
 use std::alloc::Global;
 
@@ -13,7 +13,7 @@ use std::alloc::Global;
 /// successor. 60 alone.
 pub fn write_answer(
     alloc: Global,
-    game: &Game,
+    game: &Arena,
     player: Player,
     lifts: u64,
     won: &[bool],
@@ -47,7 +47,7 @@ fn append_lifts(player: Player, lifts: u64, out: &mut Vec<u8>) -> Result<(), Ref
 }
 
 fn append_won(
-    game: &Game,
+    game: &Arena,
     place: u32,
     choice: Option<u32>,
     out: &mut Vec<u8>,

@@ -14,7 +14,7 @@ ghost use Rattle.omega_game_answers.specs.private.steps.Lifts.{LiftsWholeGame};
 ghost use Rattle.omega_budget.specs.Watching.{IsWatched, refusal_in};
 
 use omega_budget::{Reordered, Watch};
-use omega_game::{Game, Player, Refusal, Seq, Solution, Strategy, TaskFault};
+use omega_game::{Arena, Player, Refusal, Seq, Solution, Strategy, TaskFault};
 use omega_measure::fits;
 use omega_pg::write_solution;
 use omega_region::{regions_are_apart, regions_cover};
@@ -23,7 +23,7 @@ use std::alloc::Global;
 /// The solution text of a game. 50, 51 or 60.
 pub fn solve_both<L, W: Watch<L>>(
     alloc: Global,
-    game: &Game,
+    game: &Arena,
     budget: u64,
     watch: &W,
     listener: &mut L,
@@ -34,14 +34,14 @@ pub fn solve_both<L, W: Watch<L>>(
     ensures told { IsWatched (LiftsWholeGame game.now Both) (refusal_in result) (W.tells watch.now) (W.pace watch.now) budget listener.old listener.new }
 {
     let solution = solution_of(alloc, game, budget, watch, listener)?;
-    write_solution(alloc, game.arena(), &solution)
+    write_solution(alloc, game, &solution)
 }
 
 /// The solution of a game. Whether the tables of both players fit is asked before either is lifted for, so that 50
 /// comes before 51; the game is put in order once for both, and each may make the whole budget of lifts. 50, 51 or 60.
 pub fn solution_of<L, W: Watch<L>>(
     alloc: Global,
-    game: &Game,
+    game: &Arena,
     budget: u64,
     watch: &W,
     listener: &mut L,
@@ -60,7 +60,7 @@ pub fn solution_of<L, W: Watch<L>>(
 /// 51 or 60.
 fn lifted_solution<L, W: Watch<L>>(
     alloc: Global,
-    game: &Game,
+    game: &Arena,
     reordered: &Reordered<'_>,
     budget: u64,
     watch: &W,
@@ -91,7 +91,7 @@ fn lifted_solution<L, W: Watch<L>>(
 }
 
 /// Refuses a game that is too wide for either player. 50 alone.
-pub fn fits_both(game: &Game) -> Result<(), Refusal>
+pub fn fits_both(game: &Arena) -> Result<(), Refusal>
     ensures narrow { IsOk result → (player : Player) → is_too_wide player (priorities game.now) ≡ false }
     ensures refused { IfErr result (λ refusal. (refusal ≡ Task TooWide) × IsTooWide game.now Both) }
 {

@@ -8,13 +8,13 @@ ghost use Rattle.omega_budget.specs.Watching.{IsWatched, refusal_in};
 
 use super::answer_text::write_answer;
 use omega_budget::{Reordered, Watch};
-use omega_game::{Game, Player, Refusal};
+use omega_game::{Arena, Player, Refusal};
 use std::alloc::Global;
 
 /// The answer text of a player for a game; the listener is told of the run. 50, 51 or 60.
 pub fn solve_one<L, W: Watch<L>>(
     alloc: Global,
-    game: &Game,
+    game: &Arena,
     player: Player,
     budget: u64,
     watch: &W,

@@ -1,22 +1,26 @@
--- `solve_whole`: what is answered for the game with its predecessors is answered for the game.
-use Rattle.std.proofs.Common.{◌≡◌}
-use Rattle.omega_text.specs.declared.refusal.Refusal.TheVariants.{Memory}
-use Rattle.omega_budget.proofs.Watched.{none_watched, spares, watched_alike}
+-- `solve_whole`: what is told is told of what is asked, and the answer for one player counts it.
+use Rattle.std.proofs.lemmas.Result.{IfOk-weaker}
 use Rattle.omega_game_answers.proofs.solve.solve_whole.Goals as goal
 
-pub returns-in_err-whole-clause-told : goal.returns-in_err-whole-clause-told
-returns-in_err-whole-clause-told g c =
-    watched_alike _ _ _ _ c.from_residual.result _ c.in_err-whole.field-0.0 _ _ c.from_residual.ensures.1 (λ e same. same)
-    (none_watched _ _ _ _ _ _ (spares (λ refusal. refusal ≡ Memory) _ c.in_err-whole.ensures.memory (λ e. cc)))
+pub returns-in-Both-clause-told : goal.returns-in-Both-clause-told
+returns-in-Both-clause-told g c = rw c.in-Both.is c.solve_both.ensures.told
 
-pub returns-clause-answer : goal.returns-clause-answer
-returns-clause-answer g c = rw c.in_ok-whole.ensures.game at c.answer_whole.ensures.answer
+pub returns-in-Search-clause-told : goal.returns-in-Search-clause-told
+returns-in-Search-clause-told g c = rw c.in-Search.is c.solve_by_judged_search.ensures.told
 
-pub returns-clause-refused : goal.returns-clause-refused
-returns-clause-refused g c = rw c.in_ok-whole.ensures.game at c.answer_whole.ensures.refused
+pub returns-in-Player-clause-told : goal.returns-in-Player-clause-told
+returns-in-Player-clause-told g c = rw c.in-Player.is c.solve_one.ensures.told
 
-pub returns-clause-told : goal.returns-clause-told
-returns-clause-told g c = rw c.in_ok-whole.ensures.game at c.answer_whole.ensures.told
+pub returns-in-Player-clause-answer : goal.returns-in-Player-clause-answer
+returns-in-Player-clause-answer g c =
+    rw c.in-Player.is (IfOk-weaker c.solve_one.result _ _ (λ output counted. (counted.0, counted.1)) c.solve_one.ensures.answer)
 
-pub returns-clause-counted : goal.returns-clause-counted
-returns-clause-counted g c = rw c.in_ok-whole.ensures.game at c.answer_whole.ensures.counted
+pub returns-in-Player-clause-counted : goal.returns-in-Player-clause-counted
+returns-in-Player-clause-counted g c = rw c.in-Player.is c.solve_one.ensures.answer
+
+pub returns-in-Both-clause-counted : goal.returns-in-Both-clause-counted
+returns-in-Both-clause-counted g c = rw c.in-Both.is (IfOk-weaker c.solve_both.result _ _ (λ output answer. tt) c.solve_both.ensures.answer)
+
+pub returns-in-Search-clause-counted : goal.returns-in-Search-clause-counted
+returns-in-Search-clause-counted g c =
+    rw c.in-Search.is (IfOk-weaker c.solve_by_judged_search.result _ _ (λ output answer. tt) c.solve_by_judged_search.ensures.answer)
