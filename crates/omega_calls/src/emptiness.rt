@@ -2,7 +2,7 @@
 use crate::lists::put_all;
 use omega_budget::{Found, Reordered, Unwatched};
 use omega_empty::{Automaton, Verdict, emptiness, emptiness_game, emptiness_watched, verdict_of};
-use omega_game::{Game, Player, Refusal};
+use omega_game::{Player, Refusal};
 use omega_hoa::read_one;
 use omega_lasso::lasso;
 use omega_pg::write_game;
