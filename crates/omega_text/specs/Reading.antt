@@ -1,7 +1,7 @@
 -- What was read of a text, token by token.
 use Rattle.std.specs.Prelude.{ℕ, Bool, true, false, List, [], ◌∷◌, ◌++◌, length, ◌≤◌}
 use Rattle.omega_text.specs.Cases.{never, or_memory, or_text}
-use Rattle.omega_text.specs.Cut.{IsCut}
+use Rattle.omega_text.specs.Cut.{Cuts, IsCut}
 use Rattle.omega_text.specs.Format.{TextFormat}
 use Rattle.omega_text.specs.Lexeme.{Lexeme}
 use Rattle.omega_text.specs.Limits.{most_text}
@@ -16,6 +16,12 @@ IsTokenOf format lexeme = (source : List ℕ) × (from : ℕ) × format.follows 
 abbrev pub TakesOrRefuses : {Kind : Type 0} → Bool → (List (Lexeme Kind) → Type 0) → (List (Lexeme Kind) → Type 0) → List (Lexeme Kind) → Lexeme Kind → Type 0
 TakesOrRefuses true begins taken lexemes lexeme = taken (lexemes ++ lexeme ∷ [])
 TakesOrRefuses false begins taken lexemes lexeme = begins lexemes × (begins (lexemes ++ lexeme ∷ []) → ⊥)
+
+-- a call took the tokens of a text between two places behind others
+pub record TakesRun {Kind : Type 0} (format : TextFormat Kind) (taken : List (Lexeme Kind) → Type 0) (source : List ℕ) (from to : ℕ) (before : List (Lexeme Kind)) : Type 0 where
+  pub run : List (Lexeme Kind)
+  pub cuts : Cuts format source from run to
+  pub all_taken : taken (before ++ run)
 
 -- a call said of tokens whether they are a text
 abbrev pub IsWholeOrUnfinished : {Kind : Type 0} → Bool → (begins completes : List (Lexeme Kind) → Type 0) → List (Lexeme Kind) → Type 0

@@ -1,7 +1,8 @@
-ghost use Rattle.std.specs.Prelude.{IfErr, List, OnOk};
+ghost use Rattle.std.specs.Prelude.{◌≤◌, length, IfErr, List, OnOk};
 ghost use Rattle.omega_text.specs.Cut.{IsCut, IsFault};
 ghost use Rattle.omega_text.specs.Format.{IsLexical};
 ghost use Rattle.omega_text.specs.Lexeme.{Lexeme};
+ghost use Rattle.omega_text.specs.private.Left.{IsFaultFrom, IsRestOfText};
 
 use crate::refusal::TextFault;
 use crate::token_kind::TokenKind;
@@ -14,7 +15,17 @@ pub fn check_tokens<K: TokenKind>(source: &[u8]) -> Result<(), TextFault>
     ensures fault { IfErr result (IsFault K.format source.now) }
     ensures lexical { IfErr result IsLexical }
 {
-    let mut at = 0;
+    check_from::<K>(source, 0)
+}
+
+/// The same of a text from a place on.
+pub(crate) fn check_from<K: TokenKind>(source: &[u8], from: usize) -> Result<(), TextFault>
+    requires { from ≤ length source.now }
+    ensures cut { OnOk result ((lexemes : List (Lexeme K)) × IsRestOfText K.format source.now from lexemes) }
+    ensures fault { IfErr result (IsFaultFrom K.format source.now from) }
+    ensures lexical { IfErr result IsLexical }
+{
+    let mut at = from;
     while let Some(token) = K::next_token(source, at)? {
         at = token.span.end;
     }

@@ -36,7 +36,7 @@ pub use limits::{MOST_NUMBER, MOST_TEXT};
 pub use marks::Marks;
 pub use number::write_number;
 pub use numbers::Numbers;
-pub use pg::{PgKind, next_pg_token, pg_tokens};
+pub use pg::{PgKind, next_pg_number, next_pg_token, pg_tokens};
 pub use reading::read_text;
 pub use refusal::{AutomatonFault, GameFault, Refusal, TaskFault, TextFault};
 pub use seq::Seq;

@@ -27,6 +27,11 @@ fn write_digits(n: u128, out: &mut Vec<u8>) -> Result<(), Refusal>
     ensures only_memory { IsOkUnless result Refusal.Memory }
 {
     let mut buffer = Buffer::new();
-    out.extend_from_slice(buffer.format(n).as_bytes())?;
+    // Nearly every number has 64 bits at most, which are written in fewer steps.
+    let text = match u64::try_from(n) {
+        Ok(short) => buffer.format(short),
+        Err(_) => buffer.format(n),
+    };
+    out.extend_from_slice(text.as_bytes())?;
     Ok(())
 }

@@ -9,5 +9,5 @@ mod token;
 mod tokens;
 
 pub use kind::PgKind;
-pub use token::next_pg_token;
+pub use token::{next_pg_number, next_pg_token};
 pub use tokens::pg_tokens;

@@ -1,15 +1,16 @@
 ghost use Rattle.std.specs.Prelude.{[], IfErr, IfOk};
 ghost use Rattle.omega_text.specs.private.reader.Taking.{IsReadWhole, IsTokenRefusal};
 
+use crate::checking::check_from;
 use crate::refusal::{Refusal, TextFault};
 use crate::token::Token;
 use crate::token_kind::TokenKind;
 
-/// What takes the tokens of a text one by one, as long as some text of its grammar goes on so.
+/// What takes the tokens of a text one by one or in runs, as long as some text of its grammar goes on so.
 pub trait TokenReader<K: TokenKind>: Drop {
-    ghost use Rattle.std.specs.Prelude.{List, IsOkUnless};
+    ghost use Rattle.std.specs.Prelude.{List, IsOkUnless, ◌≤◌, length};
     ghost use Rattle.omega_text.specs.Lexeme.{Lexeme, lexeme_of};
-    ghost use Rattle.omega_text.specs.Reading.{IsTokenOf, IsWholeOrUnfinished, TakesOrRefuses};
+    ghost use Rattle.omega_text.specs.Reading.{IsTokenOf, IsWholeOrUnfinished, TakesOrRefuses, TakesRun};
 
     /// A new reader, by taking these tokens, became another.
     ghost becomes: { Self → List (Lexeme K) → Self → Type 0 };
@@ -28,6 +29,20 @@ pub trait TokenReader<K: TokenKind>: Drop {
             → TakesOrRefuses taken begins (λ all. becomes start all self.new) before (lexeme_of token.now)) }
         ensures memory { IsOkUnless result Refusal.Memory };
 
+    /// Takes as many tokens from a place on as can be taken at once, and answers the place behind them. A reader that
+    /// takes its tokens one by one takes none here.
+    fn take_run(&mut self, source: &[u8], from: usize) -> Result<usize, Refusal>
+        requires begun { ((start : Self) × ((before : List (Lexeme K)) × becomes start before self.old)) }
+        requires within { from ≤ length source.now }
+        ensures takes { IfOk result (λ to. (start : Self) (before : List (Lexeme K)) → becomes start before self.old
+            → TakesRun K.format (λ all. becomes start all self.new) source.now from to before) }
+        ensures forward { IfOk result (λ to. from ≤ to) }
+        ensures inside { IfOk result (λ to. to ≤ length source.now) }
+        ensures memory { IsOkUnless result Refusal.Memory }
+    {
+        Ok(from)
+    }
+
     /// Whether the tokens that were taken are a text.
     fn is_complete(&self) -> bool
         requires { ((start : Self) × ((before : List (Lexeme K)) × becomes start before self.now)) }
@@ -45,16 +60,15 @@ pub(crate) fn read_tokens<K: TokenKind, R: TokenReader<K>>(
     ensures read { IfOk result (λ after. IsReadWhole K.format (λ lexemes. R.becomes reader lexemes after) bytes.now) }
     ensures refused { IfErr result (IsTokenRefusal K.format R.begins bytes.now) }
 {
-    let mut wrong = None;
-    let mut at = 0;
+    let mut at = reader.take_run(bytes, 0)?;
     while let Some(token) = K::next_token(bytes, at)? {
-        at = token.span.end;
-        if wrong.is_none() && !reader.take(&token)? {
-            wrong = Some(token.span.start);
+        if !reader.take(&token)? {
+            check_from::<K>(bytes, token.span.end)?;
+            return Err(Refusal::Text(TextFault::Syntax {
+                at: token.span.start,
+            }));
         }
+        at = reader.take_run(bytes, token.span.end)?;
     }
-    match wrong {
-        Some(at) => Err(Refusal::Text(TextFault::Syntax { at })),
-        None => Ok(reader),
-    }
+    Ok(reader)
 }

@@ -1,16 +1,18 @@
 -- Cuts, piece by piece, and that each text has one or a fault.
 use Rattle.std.proofs.Common.{ℕ, zero, suc, ◌+◌, ◌≤◌, ◌⊎◌, inl, inr, ⊎_elim, List, [], ◌∷◌, ◌++◌, length, map, refl, sym, subst, arith}
 use Rattle.std.proofs.lemmas.List.{map_push}
-use Rattle.omega_text.specs.Cut.{CutOrFault, Cuts}
+use Rattle.std.specs.Prelude.{Result, Ok, Err, IfErr, OnOk}
+use Rattle.omega_text.specs.Cut.{CutOrFault, Cuts, IsCut, IsFault}
 use Rattle.omega_text.specs.Format.{TextFormat, GoesOneWay}
 use Rattle.omega_text.specs.Lexeme.{Lexeme, lexeme_of}
+use Rattle.omega_text.specs.private.Left.{IsFaultFrom, IsRestOfText}
 use Rattle.omega_text.specs.declared.refusal.text.TextFault.{TextFault}
 use Rattle.omega_text.specs.declared.token.Token.{Token}
 
--- some tokens are the text up to a place
-pub record IsCutTo {Kind : Type 0} (format : TextFormat Kind) (source : List ℕ) (to : ℕ) : Type 0 where
+-- some tokens are the text from one place up to another
+pub record IsCutTo {Kind : Type 0} (format : TextFormat Kind) (source : List ℕ) (from to : ℕ) : Type 0 where
   pub lexemes : List (Lexeme Kind)
-  pub cuts : Cuts format source 0 lexemes to
+  pub cuts : Cuts format source from lexemes to
 
 module _ {Kind : Type 0} (format : TextFormat Kind) where
   -- two cuts, one behind the other, are a cut
@@ -23,8 +25,19 @@ module _ {Kind : Type 0} (format : TextFormat Kind) where
   cuts_more source from at lexemes lexeme cuts follows = cuts_join source from at lexeme.span.end lexemes (lexeme ∷ []) cuts (follows, refl)
 
   -- and so does one whose tokens are not named
-  pub cut_more : (source : List ℕ) (at : ℕ) (lexeme : Lexeme Kind) → IsCutTo format source at → format.follows source at lexeme → IsCutTo format source lexeme.span.end
-  cut_more source at lexeme cut follows = record { lexemes = cut.lexemes ++ lexeme ∷ []; cuts = cuts_more source 0 at cut.lexemes lexeme cut.cuts follows }
+  pub cut_more : (source : List ℕ) (from at : ℕ) (lexeme : Lexeme Kind) → IsCutTo format source from at → format.follows source at lexeme → IsCutTo format source from lexeme.span.end
+  cut_more source from at lexeme cut follows = record { lexemes = cut.lexemes ++ lexeme ∷ []; cuts = cuts_more source from at cut.lexemes lexeme cut.cuts follows }
+
+  -- what is said of the rest of a text from its first place on is said of the text
+  pub cut_from_start : (source : List ℕ) (result : Result (Unit {0}) TextFault)
+      → OnOk result ((lexemes : List (Lexeme Kind)) × IsRestOfText format source 0 lexemes) → OnOk result ((lexemes : List (Lexeme Kind)) × IsCut format source lexemes)
+  cut_from_start source (Ok done) rest = (rest.0, record { end = rest.1.end; cuts = rest.1.cuts; rest = rest.1.rest })
+  cut_from_start source (Err fault) rest = tt
+
+  -- and so is its fault
+  pub fault_from_start : (source : List ℕ) (result : Result (Unit {0}) TextFault) → IfErr result (IsFaultFrom format source 0) → IfErr result (IsFault format source)
+  fault_from_start source (Ok done) none = tt
+  fault_from_start source (Err fault) found = record { lexemes = found.lexemes; end = found.end; cuts = found.cuts; faults = found.fault_there }
 
   -- the same of tokens
   pub cuts_push : (source : List ℕ) (tokens : List (Token Kind)) (at : ℕ) (token : Token Kind) → Cuts format source 0 (map lexeme_of tokens) at → format.follows source at (lexeme_of token) → Cuts format source 0 (map lexeme_of (tokens ++ token ∷ [])) token.span.end

@@ -7,6 +7,7 @@ use mathlib.Core.HLevel.{is_prop→PathP}
 use Rattle.omega_text.specs.Cut.{Cuts}
 use Rattle.omega_text.specs.Format.{TextFormat}
 use Rattle.omega_text.specs.Lexeme.{Lexeme}
+use Rattle.omega_text.specs.declared.refusal.text.TextFault.{TextFault}
 use Rattle.omega_text.specs.declared.token.Span.{Span}
 
 -- from a place on, the tokens are the rest of the text, and nothing more follows
@@ -14,6 +15,13 @@ pub record IsRestOfText {Kind : Type 0} (format : TextFormat Kind) (source : Lis
   pub end : ℕ
   pub cuts : Cuts format source from lexemes end
   pub rest : format.ends source end
+
+-- from a place on, the text can be cut up to this fault
+pub record IsFaultFrom {Kind : Type 0} (format : TextFormat Kind) (source : List ℕ) (from : ℕ) (fault : TextFault) : Type 0 where
+  pub lexemes : List (Lexeme Kind)
+  pub end : ℕ
+  pub cuts : Cuts format source from lexemes end
+  pub fault_there : format.faults source end fault
 
 -- the token is the first of those that are left, and the others are the rest of the text behind it
 pub record IsNextOfLeft {Kind : Type 0} (format : TextFormat Kind) (source : List ℕ) (lexeme : Lexeme Kind) (lexemes : List (Lexeme Kind)) : Type 0 where

@@ -10,6 +10,7 @@ ghost use Rattle.omega_text.specs.pg.Forms.{IsNoToken};
 ghost use Rattle.omega_text.specs.Format.{IsPartBehind};
 ghost use Rattle.omega_text.specs.Lexeme.{lexeme_at, lexeme_of};
 ghost use Rattle.omega_text.specs.Limits.{most_number};
+ghost use Rattle.omega_text.specs.declared.pg.kind.PgKind.TheVariants.{Number};
 
 use super::digits::ended_digits;
 use super::kind::PgKind;
@@ -42,6 +43,25 @@ pub fn next_pg_token(source: &[u8], at: usize) -> Result<Option<Token<'_, PgKind
     }
     let front = first_form(bytes, start)?;
     Ok(Some(front_token(bytes, start, front)))
+}
+
+/// The number that is the next token from a place on, if it can be told at once. None says nothing: `next_pg_token`
+/// tells then.
+#[inline(always)]
+pub fn next_pg_number(source: &[u8], at: usize) -> Option<Token<'_, PgKind>>
+    requires { at ≤ length source.now }
+    ensures token { IfSome result (λ token. Follows source.now at (lexeme_of token)) }
+    ensures number { IfSome result (λ token. token.kind ≡ Number) }
+    ensures small { IfSome result (λ token. token.value ≤ most_number) }
+    ensures progress { IfSome result (λ token. IsPartBehind source.now at token.span) }
+{
+    let start = gap_end(source, at);
+    if start == source.len() {
+        return None;
+    }
+    let bytes = tail(source, start);
+    let front = plain_number(bytes)?;
+    Some(front_token(bytes, start, front))
 }
 
 /// Where the white space ends that stands at a place.
@@ -112,7 +132,9 @@ fn plain_form(kind: PgKind, count: usize) -> Form
 #[inline(always)]
 fn plain_number(bytes: &[u8]) -> Option<Form>
     requires { 0 < length bytes.now }
-    ensures { IfSome result (λ form. IsFirstForm bytes.now form.kind form.value form.count) }
+    ensures form { IfSome result (λ form. IsFirstForm bytes.now form.kind form.value form.count) }
+    ensures number { IfSome result (λ form. form.kind ≡ Number) }
+    ensures small { IfSome result (λ form. form.value ≤ most_number) }
 {
     if !bytes[0].is_ascii_digit() {
         return None;

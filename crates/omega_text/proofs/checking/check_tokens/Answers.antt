@@ -1,30 +1,9 @@
--- The cut goes on with each token, to the end or to a fault.
-use Rattle.std.proofs.Common.{[], refl, rules}
-use Rattle.omega_text.specs.Cut.{IsFault}
-use Rattle.omega_text.proofs.formats.Cutting.{cut_more}
+-- From the first place on is the whole text.
+use Rattle.omega_text.proofs.formats.Cutting.{cut_from_start, fault_from_start}
 use Rattle.omega_text.proofs.checking.check_tokens.Goals as goal
 
-pub loop-token-init : goal.loop-token-init
-loop-token-init g c = record { cut = record { lexemes = []; cuts = refl }; inside = search rules }
-
-pub loop-token-preserved : goal.loop-token-preserved
-loop-token-preserved g c =
-    let follows = rw c.in-Some.is at c.in_ok-token.ensures.token in
-    let progress = rw c.in-Some.is at c.in_ok-token.ensures.progress in
-    record { cut = cut_more _ _ _ _ c.loop-token.invariant.cut follows; inside = progress.within }
-
-pub returns-in_err-token-clause-fault : goal.returns-in_err-token-clause-fault
-returns-in_err-token-clause-fault g c =
-    let faulty : IsFault g.K.TokenKind.format c.args.source.now c.in_err-token.field-0.0 = record {
-      lexemes = c.loop-token.invariant.cut.lexemes;
-      end = c.loop-token.at;
-      cuts = c.loop-token.invariant.cut.cuts;
-      faults = c.in_err-token.ensures.fault;
-    } in
-    search rules
-
 pub returns-clause-cut : goal.returns-clause-cut
-returns-clause-cut g c =
-    let ends = rw c.in_default.is at c.in_ok-token.ensures.end in
-    let cut = c.loop-token.invariant.cut in
-    (cut.lexemes, record { end = c.loop-token.at; cuts = cut.cuts; rest = ends })
+returns-clause-cut g c = cut_from_start _ _ _ c.check_from.ensures.cut
+
+pub returns-clause-fault : goal.returns-clause-fault
+returns-clause-fault g c = fault_from_start _ _ _ c.check_from.ensures.fault

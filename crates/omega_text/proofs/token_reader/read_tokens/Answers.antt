@@ -1,35 +1,30 @@
--- One token more, which is taken, is the first wrong one, or comes behind that.
-use Rattle.std.proofs.Common.{ap, ◌∙◌, not, rules}
-use Rattle.omega_text.proofs.syntaxes.Taking.{read_faulty, read_past, read_refused, read_taken}
+-- One token more, which is taken with the run behind it, or is the first wrong one.
+use Rattle.std.proofs.Common.{rules}
+use Rattle.omega_text.proofs.syntaxes.Taking.{fault_behind, fault_here, read_faulty, read_refused, read_run, read_taken}
 use Rattle.omega_text.proofs.token_reader.read_tokens.Goals as goal
-use Rattle.omega_text.proofs.token_reader.read_tokens.Goals.{else-is_none-via-then-is_none+in_ok-take+else-not-branch, else-is_none-via-else-is_none}
-
-pub loop-reader-preserved-then-not-branch : goal.loop-reader-preserved-then-not-branch
-loop-reader-preserved-then-not-branch g c =
-    let follows = rw c.in-Some.is at c.in_ok-token.ensures.token in
-    let progress = rw c.in-Some.is at c.in_ok-token.ensures.progress in
-    record {
-      within = progress.within;
-      read = read_refused _ _ _ _ _ _ follows _ _ _ c.loop-reader.invariant.read (c.is_none.ensures ∙ ap not c.if-is_none.true)
-          (c.in_ok-take.ensures.takes c.args.reader) c.if-not-branch.true;
-    }
 
 pub loop-reader-preserved : goal.loop-reader-preserved
 loop-reader-preserved g c =
     let follows = rw c.in-Some.is at c.in_ok-token.ensures.token in
-    let progress = rw c.in-Some.is at c.in_ok-token.ensures.progress in
     record {
-      within = progress.within;
-      read = elim c.else-is_none.branch [
-        | else-is_none-via-then-is_none+in_ok-take+else-not-branch w ↦
-            rw w.reader-is (read_taken _ _ _ _ _ _ follows _ _ _ c.loop-reader.invariant.read (c.is_none.ensures ∙ ap not w.if-is_none.true)
-            (w.in_ok-take.ensures.takes c.args.reader) w.if-not-branch.false)
-        | else-is_none-via-else-is_none w ↦
-            rw w.reader-is (read_past _ _ _ _ _ _ follows _ c.loop-reader.invariant.read (c.is_none.ensures ∙ ap not w.if-is_none.false))
-      ];
+      within = c.in_ok-at-2.ensures.inside;
+      read = read_run _ _ _ _
+          (read_taken _ _ _ _ c.loop-reader.invariant.read _ follows _ _ _ (c.in_ok-take.ensures.takes c.args.reader) c.if-not-branch.false)
+          _ _ (c.in_ok-at-2.ensures.takes c.args.reader);
     }
 
 pub returns-in_err-token-clause-refused : goal.returns-in_err-token-clause-refused
 returns-in_err-token-clause-refused g c =
-    let fault = read_faulty _ _ _ _ _ _ c.loop-reader.invariant.read _ c.in_err-token.ensures.lexical c.in_err-token.ensures.fault in
+    let fault = read_faulty _ _ _ _ c.loop-reader.invariant.read g.R.TokenReader.begins c.in_err-token.field-0.0 c.in_err-token.ensures.lexical (fault_here _ _ _ _ c.in_err-token.ensures.fault) in
     search rules
+
+pub returns-in_err-check_from-clause-refused : goal.returns-in_err-check_from-clause-refused
+returns-in_err-check_from-clause-refused g c =
+    let follows = rw c.in-Some.is at c.in_ok-token.ensures.token in
+    let fault = read_faulty _ _ _ _ c.loop-reader.invariant.read g.R.TokenReader.begins c.in_err-check_from.field-0.0 c.in_err-check_from.ensures.lexical (fault_behind _ _ _ _ _ follows c.in_err-check_from.ensures.fault) in
+    search rules
+
+pub returns-then-not-branch-clause-refused : goal.returns-then-not-branch-clause-refused
+returns-then-not-branch-clause-refused g c =
+    let follows = rw c.in-Some.is at c.in_ok-token.ensures.token in
+    read_refused _ _ _ _ c.loop-reader.invariant.read _ follows _ _ _ (c.in_ok-take.ensures.takes c.args.reader) c.if-not-branch.true c.in_ok-check_from.ensures.cut

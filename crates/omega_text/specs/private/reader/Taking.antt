@@ -1,5 +1,5 @@
 -- How far a text was read, token by token.
-use Rattle.std.specs.Prelude.{ℕ, Option, Some, None, List}
+use Rattle.std.specs.Prelude.{ℕ, List}
 use Rattle.omega_text.specs.Cases.{never, or_memory, or_text}
 use Rattle.omega_text.specs.Cut.{Cuts, IsCut, IsFault}
 use Rattle.omega_text.specs.Format.{TextFormat}
@@ -9,16 +9,11 @@ use Rattle.omega_text.specs.declared.refusal.Refusal.{Refusal}
 use Rattle.omega_text.specs.declared.refusal.text.TextFault.{TextFault}
 use Rattle.omega_text.specs.declared.refusal.text.TextFault.TheVariants.{Lex, Number, Syntax, TooLong}
 
--- the tokens were taken, or the first wrong one among them stands at the place that was noted
-abbrev pub IsSoFar : {Kind : Type 0} → (List (Lexeme Kind) → Type 0) → (List (Lexeme Kind) → Type 0) → Option ℕ → List (Lexeme Kind) → Type 0
-IsSoFar begins taken None lexemes = taken lexemes
-IsSoFar begins taken (Some place) lexemes = IsWrongAt begins lexemes place
-
--- the text was read up to a place
-pub record IsReadTo {Kind : Type 0} (format : TextFormat Kind) (begins taken : List (Lexeme Kind) → Type 0) (source : List ℕ) (place : ℕ) (wrong : Option ℕ) : Type 0 where
+-- the text was read up to a place, and its tokens were taken
+pub record IsReadTo {Kind : Type 0} (format : TextFormat Kind) (taken : List (Lexeme Kind) → Type 0) (source : List ℕ) (place : ℕ) : Type 0 where
   pub lexemes : List (Lexeme Kind)
   pub cuts : Cuts format source 0 lexemes place
-  pub so_far : IsSoFar begins taken wrong lexemes
+  pub all_taken : taken lexemes
 
 -- the whole text was read, and its tokens were taken
 pub record IsReadWhole {Kind : Type 0} (format : TextFormat Kind) (taken : List (Lexeme Kind) → Type 0) (source : List ℕ) : Type 0 where

@@ -28,8 +28,8 @@ long c = length-take-le c.ended_digits-count.result.0 c.args.bytes.now (counted 
 first : (c : Else-value) → get_or (take c.ended_digits-count.result.0 c.args.bytes.now) 0 0 ≡ get_or c.args.bytes.now 0 0
 first c = get_or-take c.ended_digits-count.result.0 c.args.bytes.now 0 0 (some c)
 
-pub returns : goal.returns
-returns c =
+pub returns-clause-form : goal.returns-clause-form
+returns-clause-form c =
     let front = counted c in
     let small : c.ended_digits-count.result.1 ≤ most_number = omega (arith, c.if-value.false) in
     record {
