@@ -4,9 +4,9 @@ use omega_text::Seq;
 /// A node as a game text specifies it.
 #[derive(Debug, Drop)]
 pub struct NodeSpec {
-    /// The identifier, at most `MOST_NUMBER`.
+    /// The identifier, at most 2,147,483,647.
     pub id: u32,
-    /// The priority, at most `MOST_NUMBER`.
+    /// The priority, at most 2,147,483,647.
     pub priority: u32,
     /// The player who chooses the successor.
     pub owner: Player,
