@@ -259,7 +259,7 @@ static HELP: [(&str, &str); 10] = [
         "omega help show",
         "Usage: omega show --format <FORMAT> [FILE]",
     ),
-    ("omega --version", "omega 1.3.0\\nproved by rattle-kit"),
+    ("omega --version", "omega 1.4.0\\nproved by rattle-kit"),
     ("omega check -h", "see more with '--help'"),
     (
         "omega canon --help",
