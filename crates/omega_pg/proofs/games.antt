@@ -4,6 +4,7 @@ pub mod Changes
 pub mod Decided
 pub mod Grammar
 pub mod Listed
+pub mod Pieces
 pub mod Players
 pub mod RoundTrip
 pub mod Shown

@@ -1,4 +1,4 @@
-ghost use Rattle.std.specs.Prelude.{◌≡◌, ◌≤◌, ◌↔◌, IfOk, OnOk, IsOkUnless, IsTrue, All, option_map};
+ghost use Rattle.std.specs.Prelude.{◌≡◌, ◌≤◌, ◌↔◌, length, IfOk, OnOk, IsOkUnless, IsTrue, All, option_map};
 ghost use Rattle.omega_text.specs.pg.Forms.{IsQuoted};
 ghost use Rattle.omega_text.specs.Limits.{most_number};
 ghost use Rattle.omega_game.specs.Game.{IsNameByte};
@@ -100,7 +100,7 @@ impl Reader {
     }
 
     /// Adds a node with its first successor.
-    fn begin_node(
+    pub(crate) fn begin_node(
         &mut self,
         id: u32,
         priority: u32,
@@ -189,6 +189,7 @@ impl TokenReader<PgKind> for Reader {
     ghost use Rattle.omega_pg.specs.private.reader.Symbols.{symbols_of};
     ghost use Rattle.omega_pg.specs.game.Grammar.{game_syntax};
     ghost use Rattle.omega_pg.specs.private.game.reader.Automaton.{IsReachedBy, IsReady, Takes, step};
+    ghost use Rattle.omega_pg.specs.private.game.reader.Pieces.{LeadsOn};
     ghost use Rattle.omega_pg.specs.private.game.reader.Reader.{game_reader_state};
     ghost use Rattle.omega_pg.specs.declared.game.stage.Stage.TheVariants.{Ended};
     ghost use Rattle.omega_text.specs.Lexeme.{lexeme_of};
@@ -214,6 +215,19 @@ impl TokenReader<PgKind> for Reader {
             PgKind::Semicolon => Ok(self.take_semicolon()),
             PgKind::Comma => Ok(self.take_comma()),
             PgKind::Name => self.take_name(name_between_quotes(token.text)),
+        }
+    }
+
+    fn take_run(&mut self, source: &[u8], from: usize) -> Result<usize, Refusal>
+        requires ready { IsReady (game_reader_state self.old) }
+        requires within { from ≤ length source.now }
+        ensures leads { IfOk result (λ to. LeadsOn source.now from to (game_reader_state self.old) (game_reader_state self.new)) }
+        ensures memory { IsOkUnless result Refusal.Memory }
+    {
+        match self.stage {
+            Stage::Start | Stage::Headed | Stage::Ended => self.take_nodes(source, from),
+            Stage::Listed => self.take_successors(source, from),
+            _ => Ok(from),
         }
     }
 
