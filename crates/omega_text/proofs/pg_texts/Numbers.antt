@@ -1,16 +1,17 @@
 -- Which texts are tokens: digits that are a number, and words.
-use Rattle.std.proofs.Common.{◌≡◌, ◌≢◌, ℕ, zero, suc, ◌+◌, ◌-◌, ◌<◌, ◌*◌, ◌/◌, ◌%◌, ◌≤◌, ◌^◌, ⊎_elim, Bool, true, false, cond, eqb, List, [], ◌∷◌, length, get_or, take, sym, ap, ◌∙◌, arith, add-one, codes}
+use Rattle.std.proofs.Common.{◌≡◌, ◌≢◌, ℕ, zero, suc, ◌+◌, ◌-◌, ◌<◌, ◌*◌, ◌/◌, ◌%◌, ◌≤◌, ◌^◌, ⊎_elim, Bool, true, false, cond, eqb, List, [], ◌∷◌, length, get_or, take, refl, sym, subst, ap, ◌∙◌, arith, add-one, codes}
 use Rattle.std.proofs.Math.Nat.{pow-suc}
 use Rattle.std.proofs.lemmas.Fmt.{decimal_digit, decimal_is_IsNumeral, decimal-digits_value, first_decimal}
 use Rattle.std.proofs.lemmas.Str.Parse.{IsNumeralModel, numerals_by_value, tells_by_index}
 use Rattle.std.proofs.lemmas.Bool.Decides.{nat_tests}
 use Rattle.std.proofs.lemmas.Int.Digits.{digits_value_more}
+use Rattle.std.proofs.lemmas.List.Sums.{prefix_len_is}
 use Rattle.std.proofs.lemmas.List.Elements.{All-cons, All-nil}
 use Rattle.std.proofs.str.Laws.{order}
 use Rattle.std.specs.Char.{digit_value}
 use Rattle.std.specs.Fmt.{decimal, digit_glyph, digits, digits_onto}
 use Rattle.std.specs.Int.{IsInRange}
-use Rattle.std.specs.List.{AllPass}
+use Rattle.std.specs.List.{AllPass, prefix_len}
 use Rattle.std.specs.Str.Parse.{digits_value}
 use Rattle.omega_text.specs.Bytes.{is_digit}
 use Rattle.omega_text.specs.Limits.{most_number}
@@ -116,6 +117,15 @@ value_no_less text i inside = omega (arith, digits_value_more 10 text i inside)
 -- a digit is worth at most nine
 pub worth_small : (byte : ℕ) → is_digit byte ≡ true → byte - 48 ≤ 9
 worth_small byte digit = grind (arith, nat_tests)
+
+-- where one digit stands, it is all that is counted
+pub one_counted : (bytes : List ℕ) → is_digit (get_or bytes 0 0) ≡ true → 1 < length bytes → is_digit (get_or bytes 1 0) ≡ false → prefix_len is_digit bytes ≡ 1
+one_counted bytes digit long other =
+    prefix_len_is is_digit bytes 1 0 (omega arith) (λ k below. let first : 0 ≡ k = omega arith in subst (λ at. is_digit (get_or bytes at 0) ≡ true) first digit) (λ inside. other)
+
+-- and this is its value
+pub one_value : (bytes : List ℕ) (worth : ℕ) → 0 < length bytes → is_digit (get_or bytes 0 0) ≡ true → worth ≡ get_or bytes 0 0 - 48 → worth ≡ digits_value 10 (take 1 bytes)
+one_value bytes worth some digit is = let more = value_more bytes 0 0 worth some digit refl is in omega (arith, more)
 
 -- with each digit values may be ten times as great
 pub power_more : (count : ℕ) → 10 ^ (count + 1) ≡ 10 ^ count * 10

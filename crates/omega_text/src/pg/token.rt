@@ -45,8 +45,8 @@ pub fn next_pg_token(source: &[u8], at: usize) -> Result<Option<Token<'_, PgKind
     Ok(Some(front_token(bytes, start, front)))
 }
 
-/// The number that is the next token from a place on, if it can be told at once. None says nothing: `next_pg_token`
-/// tells then.
+/// The number that is the next token from a place on, if it can be told at once: behind one byte of white space at most,
+/// and with few digits. None says nothing: `next_pg_token` tells then.
 #[inline(always)]
 pub fn next_pg_number(source: &[u8], at: usize) -> Option<Token<'_, PgKind>>
     requires { at ≤ length source.now }
@@ -55,13 +55,22 @@ pub fn next_pg_number(source: &[u8], at: usize) -> Option<Token<'_, PgKind>>
     ensures small { IfSome result (λ token. token.value ≤ most_number) }
     ensures progress { IfSome result (λ token. IsPartBehind source.now at token.span) }
 {
-    let start = gap_end(source, at);
-    if start == source.len() {
-        return None;
-    }
+    let start = blank_end(source, at);
     let bytes = tail(source, start);
     let front = plain_number(bytes)?;
     Some(front_token(bytes, start, front))
+}
+
+/// Where white space of one byte at most ends that stands at a place.
+#[inline(always)]
+fn blank_end(source: &[u8], from: usize) -> usize
+    requires { from ≤ length source.now }
+    ensures { IsGap source.now from result }
+{
+    if from == source.len() || !is_white(source[from]) {
+        return from;
+    }
+    from + 1
 }
 
 /// Where the white space ends that stands at a place.
@@ -131,13 +140,20 @@ fn plain_form(kind: PgKind, count: usize) -> Form
 /// The number that bytes begin with, if it has few digits and another byte ends them. None says nothing.
 #[inline(always)]
 fn plain_number(bytes: &[u8]) -> Option<Form>
-    requires { 0 < length bytes.now }
     ensures form { IfSome result (λ form. IsFirstForm bytes.now form.kind form.value form.count) }
     ensures number { IfSome result (λ form. form.kind ≡ Number) }
     ensures small { IfSome result (λ form. form.value ≤ most_number) }
 {
-    if !bytes[0].is_ascii_digit() {
+    if bytes.len() < 2 || !bytes[0].is_ascii_digit() {
         return None;
+    }
+    if !bytes[1].is_ascii_digit() {
+        // Most numbers have one digit, which needs no comparison.
+        return Some(Form {
+            kind: PgKind::Number,
+            value: u32::from(bytes[0] - b'0'),
+            count: 1,
+        });
     }
     let (count, value) = ended_digits(bytes);
     if count == 0 || has_needless_zero(bytes, count) || value > MOST_NUMBER as u64 {

@@ -1,21 +1,11 @@
 -- One digit more, and the first byte that is none.
-use Rattle.std.proofs.Common.{◌≡◌, ◌+◌, ◌-◌, ◌<◌, ℕ, true, false, List, length, get_or, take, inl, inr, refl, subst, sym, ◌∙◌, arith}
-use Rattle.std.specs.List.{prefix_len}
-use Rattle.std.specs.Str.Parse.{digits_value}
+use Rattle.std.proofs.Common.{◌≡◌, ◌+◌, ◌<◌, ℕ, true, get_or, inl, inr, subst, sym, ◌∙◌, arith}
 use Rattle.std.proofs.lemmas.Bool.{cases_order}
 use Rattle.std.proofs.lemmas.List.Sums.{prefix_len_is}
 use Rattle.omega_text.specs.Bytes.{is_digit}
-use Rattle.omega_text.proofs.pg_texts.Numbers.{value_more, value_no_less, worth_small}
+use Rattle.omega_text.proofs.pg_texts.Numbers.{one_counted, one_value, value_more, value_no_less, worth_small}
 use Rattle.omega_text.proofs.digits.front_digits.Goals as goal
 use Rattle.omega_text.proofs.digits.front_digits.Goals.{then-value, else-value}
-
--- one digit, and its value
-one_counted : (bytes : List ℕ) → is_digit (get_or bytes 0 0) ≡ true → 1 < length bytes → is_digit (get_or bytes 1 0) ≡ false → prefix_len is_digit bytes ≡ 1
-one_counted bytes digit long other =
-    prefix_len_is is_digit bytes 1 0 (omega arith) (λ k below. let first : 0 ≡ k = omega arith in subst (λ at. is_digit (get_or bytes at 0) ≡ true) first digit) (λ inside. other)
-
-one_value : (bytes : List ℕ) (worth : ℕ) → 0 < length bytes → is_digit (get_or bytes 0 0) ≡ true → worth ≡ get_or bytes 0 0 - 48 → worth ≡ digits_value 10 (take 1 bytes)
-one_value bytes worth some digit is = let more = value_more bytes 0 0 worth some digit refl is in omega (arith, more)
 
 pub returns-then-not-is_ascii_digit-clause-count : goal.returns-then-not-is_ascii_digit-clause-count
 returns-then-not-is_ascii_digit-clause-count c =
