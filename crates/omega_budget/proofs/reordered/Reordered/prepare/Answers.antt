@@ -6,14 +6,14 @@ use Rattle.omega_budget.proofs.Games.{refusals_same, widths_same}
 use Rattle.omega_budget.proofs.reordered.Reordered.prepare.Goals as goal
 
 pub returns-clause-fits : goal.returns-clause-fits
-returns-clause-fits c = λ ok.
+returns-clause-fits g c = λ ok.
     let self = c.args.self.now in
     sym (widths_same self.given self.reordered self.ranks self.places c.keeps_nodes.ensures.reordered c.args.player)
     ∙ ap (λ (nodes : List Node). is_too_wide c.args.player (priorities nodes)) (sym c.reordered-game.ensures)
     ∙ c.prepare_in_order.ensures.fits ok
 
 pub returns-clause-refused : goal.returns-clause-refused
-returns-clause-refused c =
+returns-clause-refused g c =
     let self = c.args.self.now in
     refusals_same self.given self.reordered self.ranks self.places c.keeps_nodes.ensures.reordered c.args.player c.prepare_in_order.result
     (subst (λ (nodes : List Node). IfErr c.prepare_in_order.result (IsPrepareRefusal c.args.player (priorities nodes))) c.reordered-game.ensures c.prepare_in_order.ensures.refused)
