@@ -1,2 +1,3 @@
 -- Lemmas of the command line.
 pub mod Given
+pub mod Numbers

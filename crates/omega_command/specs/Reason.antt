@@ -31,13 +31,13 @@ pub record IsAboveLimit (most : ℕ) (text : List ℕ) (number limit : ℕ) : Ty
   pub above : most < number
   pub limit_is : limit ≡ most
 
--- why a text stands for no number up to the greatest: it is empty, begins with a sign, is not of digits alone, is not
--- that of a number of 64 bits, or is that of a number above the greatest
+-- why a text stands for no number up to the greatest: it is empty, begins with a sign, is not of digits alone, is that
+-- of a number of more than 64 bits, or is that of a number above the greatest
 abbrev pub IsNumberReason : ℕ → List ℕ → Reason → Type 0
 IsNumberReason most text reason.Empty = text ≡ []
 IsNumberReason most text reason.Sign = BeginsWithSign text
 IsNumberReason most text reason.NotDigits = IsUnsigned text × (IsNumeral 10 text → ⊥)
-IsNumberReason most text reason.TooLarge = IsUnsigned text × (IsNumeral 10 text → 2 ^ 64 ≤ digits_value 10 text)
+IsNumberReason most text reason.TooLarge = IsNumeral 10 text × (2 ^ 64 ≤ digits_value 10 text)
 IsNumberReason most text (reason.Above number limit) = IsAboveLimit most text number limit
 IsNumberReason most text reason.NoFormat = ⊥
 IsNumberReason most text reason.NoTruth = ⊥

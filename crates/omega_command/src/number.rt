@@ -1,7 +1,8 @@
 ghost use Rattle.std.specs.Prelude.{◌≡◌, ℕ, IfOk, IfErr};
+ghost use Rattle.std.specs.List.{list_all};
 ghost use Rattle.omega_command.specs.CommandLine.{IsNumberText};
 ghost use Rattle.omega_command.specs.Reason.{IsNumberReason};
-ghost use Rattle.omega_command.specs.private.Numbers.{reason_for};
+ghost use Rattle.omega_command.specs.private.Numbers.{is_decimal, reason_for};
 
 use crate::mistake::Reason;
 use std::num::IntErrorKind;
@@ -24,17 +25,30 @@ pub fn number_in(text: &str, most: u64) -> Result<u64, Reason>
                 Err(Reason::Above { number, most })
             }
         }
-        Err(error) => Err(reason_of(error.kind())),
+        Err(error) => Err(reason_of(error.kind(), text.as_bytes())),
     }
 }
 
-/// Why `std` reads no number of 64 bits.
-fn reason_of(kind: &IntErrorKind) -> Reason
-    ensures { result ≡ reason_for kind.now }
+/// Why `std` reads no number of 64 bits in a text. It may tell that a number is too large before it comes to a byte that
+/// is no digit.
+fn reason_of(kind: &IntErrorKind, text: &[u8]) -> Reason
+    ensures { result ≡ reason_for (list_all is_decimal text.now) kind.now }
 {
     match kind {
         IntErrorKind::Empty => Reason::Empty,
-        IntErrorKind::PosOverflow => Reason::TooLarge,
+        IntErrorKind::PosOverflow if has_digits_alone(text) => Reason::TooLarge,
         _ => Reason::NotDigits,
     }
+}
+
+/// Whether each byte of a text is a digit.
+fn has_digits_alone(text: &[u8]) -> bool
+    ensures { result ≡ list_all is_decimal text.now }
+{
+    for byte in text {
+        if !char::from(*byte).is_digit(10) {
+            return false;
+        }
+    }
+    true
 }

@@ -1,13 +1,19 @@
 -- What is said where `std` reads no number.
+use Rattle.std.specs.Prelude.{ℕ, Bool, cond, nat_lt}
+use Rattle.std.specs.Char.{digit_value}
 use Rattle.std.specs.declared.num.IntErrorKind.{IntErrorKind}
 use Rattle.std.specs.declared.num.IntErrorKind.TheVariants as kind
 use Rattle.omega_command.specs.declared.mistake.Reason.{Reason}
 use Rattle.omega_command.specs.declared.mistake.Reason.TheVariants as reason
 
--- the reason that stands for a kind of error
-abbrev pub reason_for : IntErrorKind → Reason
-reason_for kind.Empty = reason.Empty
-reason_for kind.InvalidDigit = reason.NotDigits
-reason_for kind.PosOverflow = reason.TooLarge
-reason_for kind.NegOverflow = reason.NotDigits
-reason_for kind.Zero = reason.NotDigits
+-- whether a byte is a decimal digit
+abbrev pub is_decimal : ℕ → Bool
+is_decimal byte = nat_lt (digit_value byte) 10
+
+-- the reason that stands for a kind of error, where the text is of digits alone or not
+abbrev pub reason_for : Bool → IntErrorKind → Reason
+reason_for digits kind.Empty = reason.Empty
+reason_for digits kind.InvalidDigit = reason.NotDigits
+reason_for digits kind.PosOverflow = cond digits reason.TooLarge reason.NotDigits
+reason_for digits kind.NegOverflow = reason.NotDigits
+reason_for digits kind.Zero = reason.NotDigits
