@@ -13,7 +13,7 @@ use std::alloc::Global;
 /// The text of an expression, made from its last node to its first and from its last byte to its first: whether a part
 /// stands in parentheses is known where its operator is met, which is before any of its bytes, and so no byte moves.
 ///
-/// Up to 64 bytes and 24 signs take no memory.
+/// Up to 128 bytes and 64 signs take no memory.
 #[derive(Drop)]
 pub(crate) struct Backward {
     /// The bytes so far, which are the end of the text.

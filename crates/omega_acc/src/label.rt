@@ -1,6 +1,6 @@
 //! Labels: read, expanded, held in little memory, and whether they can be true.
 
-ghost use Rattle.std.specs.Prelude.{◌≡◌, ◌<◌, ◌≤◌, Some, length, slice_get, IfErr, IfOk};
+ghost use Rattle.std.specs.Prelude.{◌≡◌, ◌≤◌, IfErr, IfOk};
 ghost use Rattle.omega_text.specs.Cases.{IsMemory};
 
 pub(crate) mod aliases;
@@ -97,14 +97,6 @@ impl Label {
         ensures { result ≡ tree_of written.nodes }
     {
         Label { written }
-    }
-
-    /// Its node at a place, parts before their operators.
-    pub(crate) fn node(&self, at: usize) -> LabelNode
-        requires { at < length (postfix self.now) }
-        ensures { slice_get (postfix self.now) at ≡ Some result }
-    {
-        self.written.node(at)
     }
 
     /// Its nodes, parts before their operators, in the room where they stand in place.

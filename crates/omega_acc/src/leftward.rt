@@ -6,13 +6,13 @@ use std::alloc::Global;
 use std::marker::Model;
 
 /// How many bytes take no memory.
-const ROOM: usize = 64;
+const ROOM: usize = 128;
 
-/// Bytes that grow to the left. Up to 64 of them take no memory and are never moved.
+/// Bytes that grow to the left. Up to 128 of them take no memory and are never moved.
 #[derive(Drop)]
 pub(crate) struct Leftward {
     /// The first bytes, from `start` on.
-    room: [u8; 64],
+    room: [u8; 128],
     start: usize,
     /// The bytes behind those, the last one first.
     behind: Vec<u8>,
@@ -25,7 +25,7 @@ impl Model for Leftward {
 
     ghost view = { λ l. drop l.start l.room ++ reverse l.behind.items };
 
-    ghost invariant = { λ l. l.start ≤ 64 };
+    ghost invariant = { λ l. l.start ≤ 128 };
 }
 
 impl Leftward {
@@ -34,7 +34,7 @@ impl Leftward {
         ensures { result ≡ [] }
     {
         Leftward {
-            room: [0; 64],
+            room: [0; 128],
             start: ROOM,
             behind: Vec::new(alloc),
         }

@@ -16,10 +16,10 @@ pub(crate) enum Sign {
     Or,
 }
 
-/// Signs that wait for a part, the next on top. Up to 24 take no memory.
+/// Signs that wait for a part, the next on top. Up to 64 take no memory.
 #[derive(Drop)]
 pub(crate) struct Signs {
-    items: SmallVec<Sign, 24>,
+    items: SmallVec<Sign, 64>,
 }
 
 impl Model for Signs {

@@ -8,6 +8,7 @@ ghost use Rattle.omega_acc.specs.private.layout.Texts.{acc_texts_behind, texts_b
 
 use crate::backward::Backward;
 use crate::formula::{Acc, AccNode};
+use crate::label::codes::ROOM;
 use crate::label::{Label, LabelNode};
 use omega_text::Refusal;
 
@@ -39,17 +40,26 @@ pub fn write_acc(formula: &Acc, out: &mut Vec<u8>) -> Result<(), Refusal>
     Ok(())
 }
 
-/// Writes the nodes of a label before what is written.
+/// Writes a label before what is written.
 fn put_label(text: &mut Backward, label: &Label) -> Result<(), Refusal>
     ensures ok { OnOk result (whole_text text.new [] ≡ whole_text text.old (texts_behind [] (postfix label.now))) }
     ensures err { IfErr result IsMemory }
 {
-    let mut left = label.size();
-    while left > 0 {
-        left -= 1;
-        match label.node(left) {
-            LabelNode::Constant(value) => text.truth(value)?,
-            LabelNode::Proposition(number) => text.number(number)?,
+    let mut room = ROOM;
+    put_nodes(text, label.nodes(&mut room))
+}
+
+/// Writes the nodes of a label before what is written.
+fn put_nodes(text: &mut Backward, nodes: &[LabelNode]) -> Result<(), Refusal>
+    ensures ok { OnOk result (whole_text text.new [] ≡ whole_text text.old (texts_behind [] nodes.now)) }
+    ensures err { IfErr result IsMemory }
+{
+    let mut left = nodes;
+    while let Some((node, before)) = left.split_last() {
+        left = before;
+        match node {
+            LabelNode::Constant(value) => text.truth(*value)?,
+            LabelNode::Proposition(number) => text.number(*number)?,
             LabelNode::Not => text.negate()?,
             LabelNode::And => text.and()?,
             LabelNode::Or => text.or()?,

@@ -158,3 +158,16 @@ expansion-bare definitions tree label none sound is = record {
   sound = sound;
   tree_is = ap (option_map (λ (m : Meaning). m.tree)) (replaced-bare (entries_of [] definitions) tree none) ∙ ap Some (sym is);
 }
+
+-- one node more, where as many are kept as there are
+kept_more : (test : Bool) (node : LabelNode) (nodes kept : List LabelNode) (count : ℕ) → count ≤ length nodes → cond test 1 0 + count ≡ length nodes + 1
+    → (count ≡ length nodes → kept ≡ nodes) → cond test (node ∷ kept) kept ≡ node ∷ nodes
+kept_more true node nodes kept count within all same = ap (λ others. node ∷ others) (same (omega (arith, all)))
+kept_more false node nodes kept count within all same = absurd (omega (arith, within, all))
+
+-- nodes of which as many are no parentheses as there are stay as they are
+pub all_bare : (nodes : List LabelNode) → count_by is_bare nodes ≡ length nodes → filter is_bare nodes ≡ nodes
+all_bare [] all = refl
+all_bare (node ∷ nodes) all =
+    let counted : count_by is_bare (node ∷ nodes) ≡ (0 + cond (is_bare node) 1 0) + count_by is_bare nodes = count-append (node ∷ []) nodes in
+    kept_more (is_bare node) node nodes (filter is_bare nodes) (count_by is_bare nodes) (count_by-le-length is_bare nodes) (omega (arith, counted, all)) (all_bare nodes)

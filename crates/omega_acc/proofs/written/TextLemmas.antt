@@ -1,8 +1,6 @@
 -- The text that nodes make is that of their tree.
-use Rattle.std.proofs.Common.{◌≡◌, ℕ, ◌+◌, Some, List, [], ◌∷◌, ◌++◌, ap, append-nil, append_assoc, refl, sym, take, ◌∙◌}
-use Rattle.std.proofs.lemmas.List.{take_more}
-use Rattle.std.proofs.lemmas.Option.{get_or_from_slice_get, slice_get_within}
-use Rattle.std.specs.List.{IsLastAndRest, slice_get}
+use Rattle.std.proofs.Common.{◌≡◌, List, [], ◌∷◌, ◌++◌, ap, append-nil, append_assoc, refl, sym, ◌∙◌}
+use Rattle.std.specs.List.{IsLastAndRest}
 use Rattle.omega_acc.specs.formula.Acceptance.{AccTree}
 use Rattle.omega_acc.specs.formula.Acceptance as acc
 use Rattle.omega_acc.specs.label.Label.{LabelTree, conjunction, constant, disjunction, negation, proposition}
@@ -58,12 +56,10 @@ texts_behind-append (Or ∷ front) stack rest = texts_behind-append front _ rest
 texts_behind-append (Alias count ∷ front) stack rest = texts_behind-append front stack rest
 texts_behind-append (Group ∷ front) stack rest = texts_behind-append front stack rest
 
-pub texts-step : (nodes : List LabelNode) (left before : ℕ) (last shape : LabelNode) → left ≡ before + 1 → slice_get nodes before ≡ Some last → last ≡ shape
-    → texts_behind (texts_behind [] (take before nodes)) (shape ∷ []) ≡ texts_behind [] (take left nodes)
-texts-step nodes left before last shape next is same =
-    let more = take_more nodes before last (slice_get_within nodes before last is)
-    ∙ ap (λ node. take before nodes ++ node ∷ []) (get_or_from_slice_get nodes before last last is ∙ same) in
-    sym (ap (texts_behind []) (ap (λ n. take n nodes) next ∙ more) ∙ texts_behind-append (take before nodes) [] (shape ∷ []))
+pub texts-last : (nodes before : List LabelNode) (last shape : LabelNode) → IsLastAndRest nodes last before → last ≡ shape
+    → texts_behind (texts_behind [] before) (shape ∷ []) ≡ texts_behind [] nodes
+texts-last nodes before last shape is same =
+    sym (ap (texts_behind []) (is.0 ∙ ap (λ node. before ++ node ∷ []) same) ∙ texts_behind-append before [] (shape ∷ []))
 
 acc_texts_behind-append : (front : List AccNode) (stack : List Text) (rest : List AccNode) → acc_texts_behind stack (front ++ rest) ≡ acc_texts_behind (acc_texts_behind stack front) rest
 acc_texts_behind-append [] stack rest = refl

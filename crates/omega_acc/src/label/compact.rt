@@ -1,4 +1,4 @@
-ghost use Rattle.std.specs.Prelude.{◌≡◌, ◌<◌, ◌≤◌, ◌++◌, [], ◌∷◌, Some, count_by, false, filter, length, map, slice_get, take, IfErr, IfOk, IfSome};
+ghost use Rattle.std.specs.Prelude.{◌≡◌, ◌≤◌, ◌++◌, [], ◌∷◌, count_by, false, filter, length, map, take, IfErr, IfOk, IfSome};
 ghost use Rattle.std.specs.List.{list_all, list_any};
 ghost use Rattle.std.specs.Option.{SomeIff};
 ghost use Rattle.omega_text.specs.Cases.{IsMemory};
@@ -135,17 +135,6 @@ impl Compact {
         }
     }
 
-    /// The node at a place.
-    pub(crate) fn node(&self, at: usize) -> LabelNode
-        requires { at < length self.now.nodes }
-        ensures { slice_get self.now.nodes at ≡ Some result }
-    {
-        match &self.held {
-            Held::Short { count, codes, .. } => decoded(codes[..*count as usize][at]),
-            Held::Long(notation) => notation.nodes.as_slice()[at],
-        }
-    }
-
     /// The alias names from left to right, joined.
     pub(crate) fn names(&self) -> &[u8]
         ensures { result.now ≡ self.now.names }
@@ -215,14 +204,7 @@ impl Compact {
                 count,
                 depth,
                 codes,
-            } => {
-                let (count, codes) = bare_codes(&codes[..count as usize]);
-                Held::Short {
-                    count,
-                    depth,
-                    codes,
-                }
-            }
+            } => bare_in_place(count, depth, codes),
             Held::Long(notation) => {
                 let mut notation = notation;
                 notation.drop_parentheses(alloc);
@@ -322,6 +304,28 @@ fn is_code_below(code: u8, limit: u32) -> bool
     ensures { result ≡ proposition_below limit (node_of code) }
 {
     is_proposition_below(decoded(code), limit)
+}
+
+/// What stands in place, without parentheses. Most labels have none, and stay as they are.
+fn bare_in_place(count: u8, depth: u8, codes: [u8; 21]) -> Held
+    requires { count ≤ 21 }
+    ensures held { notation_in result ≡ record { nodes = filter is_bare (map node_of (take count codes)); names = []; depth = depth } }
+    ensures fits { fits_in_place result }
+{
+    let kept = count_bare_codes(&codes[..count as usize]);
+    if kept == count as usize {
+        return Held::Short {
+            count,
+            depth,
+            codes,
+        };
+    }
+    let (count, codes) = bare_codes(&codes[..count as usize]);
+    Held::Short {
+        count,
+        depth,
+        codes,
+    }
 }
 
 /// The bytes that stand for no parentheses, and how many they are.
