@@ -1,6 +1,6 @@
 use crate::rows::assert_row;
 use crate::source::{has_kind, has_value};
-use omega_text::{PgKind, TextFault, Token, next_pg_token, pg_tokens};
+use omega_text::{PgKind, TextFault, Token, next_pg_number, next_pg_token, pg_tokens};
 use std::alloc::Global;
 use std::test::Fail;
 
@@ -114,6 +114,40 @@ fn tokens_come_one_at_a_time(rt: HostRuntime) -> Result<(), Fail> {
     assert!(rt; next_pg_token(text, 4)?.is_none());
     assert!(rt; next_pg_token(text, 3).err() == Some(TextFault::Lex { at: 3 }));
     Ok(())
+}
+
+// The value, the beginning and the end of the number that is told at once from a place of a text on.
+fn number_at(text: &str, at: usize) -> Option<(u32, usize, usize)> {
+    let bytes = text.as_bytes();
+    if at > bytes.len() {
+        return None;
+    }
+    let token = next_pg_number(bytes, at)?;
+    Some((token.value, token.span.start, token.span.end))
+}
+
+// Places of texts, and the numbers there. Where none is, the text has no number, or what ends it is not there yet.
+static NUMBERS: [(&str, usize, Option<(u32, usize, usize)>); 13] = [
+    ("7;", 0, Some((7, 0, 1))),
+    (" 0,", 0, Some((0, 1, 2))),
+    ("\n9 ", 0, Some((9, 1, 2))),
+    ("1,2;", 2, Some((2, 2, 3))),
+    ("12 3 4 5 6 7;", 0, Some((12, 0, 2))),
+    (" 2147483647;  ", 0, Some((2_147_483_647, 1, 11))),
+    ("2147483648;   ", 0, None),
+    ("100000000000; ", 0, None),
+    ("00;           ", 0, None),
+    (";7            ", 0, None),
+    ("x7            ", 0, None),
+    ("7", 0, None),
+    ("", 0, None),
+];
+
+#[test]
+fn numbers_are_told_at_once(rt: HostRuntime) {
+    for (row, (text, at, want)) in NUMBERS.iter().enumerate() {
+        assert_row(&rt, row, number_at(text, *at) == *want);
+    }
 }
 
 // Whether a text is one name.

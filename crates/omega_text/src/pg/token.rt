@@ -45,8 +45,8 @@ pub fn next_pg_token(source: &[u8], at: usize) -> Result<Option<Token<'_, PgKind
     Ok(Some(front_token(bytes, start, front)))
 }
 
-/// The number that is the next token from a place on, if it can be told at once: behind one byte of white space at most,
-/// and with few digits. None says nothing: `next_pg_token` tells then.
+/// The number that is the next token from a place on, if it can be told at once: behind one byte of white space at
+/// most, and with few digits. None says nothing: `next_pg_token` tells then.
 #[inline(always)]
 pub fn next_pg_number(source: &[u8], at: usize) -> Option<Token<'_, PgKind>>
     requires { at ≤ length source.now }
