@@ -39,6 +39,7 @@ impl<'a, S: TokenSource<'a, HoaKind>> Part<'a, S> for Joined {
 }
 
 /// Reads a conj: states that are joined by `&`, at least one.
+#[inline(always)]
 pub(crate) fn conj<'a, S: TokenSource<'a, HoaKind>>(
     alloc: Global,
     source: &mut S,
@@ -54,6 +55,7 @@ pub(crate) fn conj<'a, S: TokenSource<'a, HoaKind>>(
 }
 
 /// A number and others behind it.
+#[inline(always)]
 fn with_first(alloc: Global, first: u32, others: Numbers) -> Result<Numbers, Refusal>
     ensures ok { IfOk result (λ numbers. numbers ≡ first ∷ others) }
     ensures err { IfErr result IsMemory }

@@ -16,6 +16,7 @@ mod raw_edges;
 mod raw_item;
 mod raw_state;
 mod reading;
+mod same;
 mod short_edge;
 mod single;
 mod state_name;

@@ -48,6 +48,7 @@ pub(crate) trait Part<'a, S: TokenSource<'a, HoaKind>> {
 }
 
 /// Whether the next token begins a part.
+#[inline(always)]
 fn is_next<'a, P: Part<'a, S>, S: TokenSource<'a, HoaKind>>(source: &S) -> bool
     ensures { MatchBool result (NextIs (λ kind. P.first kind ≡ true) (S.left source.now)) (NextMayBe (λ kind. P.first kind ≡ false) (S.left source.now)) }
 {
@@ -58,6 +59,7 @@ fn is_next<'a, P: Part<'a, S>, S: TokenSource<'a, HoaKind>>(source: &S) -> bool
 }
 
 /// Reads a part if it stands there.
+#[inline(always)]
 pub(crate) fn read_if<'a, P: Part<'a, S>, S: TokenSource<'a, HoaKind>>(
     alloc: Global,
     source: &mut S,
@@ -113,6 +115,7 @@ fn shrunk<T>(values: Seq<T>) -> Seq<T>
 }
 
 /// Reads as many numbers as stand there.
+#[inline(always)]
 pub(crate) fn read_numbers<'a, P: Part<'a, S, Value = u32>, S: TokenSource<'a, HoaKind>>(
     alloc: Global,
     source: &mut S,
@@ -130,6 +133,7 @@ pub(crate) fn read_numbers<'a, P: Part<'a, S, Value = u32>, S: TokenSource<'a, H
 }
 
 /// Reads as many edges as stand there, into up to twice as much memory as they need.
+#[inline(always)]
 pub(crate) fn read_raw_edges<'a, P: Part<'a, S, Value = RawEdge>, S: TokenSource<'a, HoaKind>>(
     alloc: Global,
     source: &mut S,

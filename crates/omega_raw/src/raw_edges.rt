@@ -64,6 +64,7 @@ impl RawEdges {
 
     /// Adds an edge at the end. The first that is not short makes all before it lie as they are. An error where a
     /// request for memory is refused: the edges are as before then.
+    #[inline(always)]
     pub fn push(&mut self, alloc: Global, edge: RawEdge) -> Result<(), AllocError>
         ensures ok { OnOk result (self.new ≡ self.old ++ edge ∷ []) }
         ensures err { OnErr result (self.new ≡ self.old) }
@@ -169,6 +170,7 @@ fn as_it_is(edge: &ShortEdge) -> RawEdge
 }
 
 /// An edge in short, none where it is not short.
+#[inline(always)]
 fn short_of(edge: &RawEdge) -> Option<ShortEdge>
     ensures { IfSome result (λ short. lengthened short ≡ edge.now) }
 {

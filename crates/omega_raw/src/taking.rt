@@ -10,6 +10,7 @@ ghost use Rattle.omega_raw.specs.Symbols.{ReadsSymbols, AutomatonSymbol, Tokens,
 ghost use Rattle.omega_text.specs.Forms.{between_quotes};
 ghost use Rattle.omega_text.specs.Lexeme.{lexeme_of};
 
+use crate::same::is_name;
 use omega_text::{ByteString, HoaKind, Refusal, TextFault, Token, TokenSource};
 use std::alloc::Global;
 
@@ -83,6 +84,7 @@ pub(crate) fn take_sign<'a, S: TokenSource<'a, HoaKind>>(
 }
 
 /// Takes a header, which must have this name, else 3 at its place.
+#[inline(always)]
 pub(crate) fn take_header<'a, S: TokenSource<'a, HoaKind>>(
     source: &mut S,
     name: &[u8],
@@ -93,7 +95,7 @@ pub(crate) fn take_header<'a, S: TokenSource<'a, HoaKind>>(
 {
     let at = source.place();
     let token = take_kind(source, HoaKind::HeaderName)?;
-    if without_colon(token.text) != name {
+    if !is_name(without_colon(token.text), name) {
         return Err(Refusal::Text(TextFault::Syntax { at }));
     }
     Ok(())

@@ -33,6 +33,7 @@ impl<'a, S: TokenSource<'a, HoaKind>> Part<'a, S> for Edge {
         matches!(kind, HoaKind::OpenBracket | HoaKind::Int)
     }
 
+    #[inline(always)]
     fn read(alloc: Global, source: &mut S) -> Result<RawEdge, Refusal> {
         let label = read_if::<Guard, S>(alloc, source)?;
         let targets = conj(alloc, source)?;
@@ -50,6 +51,7 @@ impl<'a, S: TokenSource<'a, HoaKind>> Part<'a, S> for Edge {
 }
 
 /// Reads as many edges as stand there, into as much memory as they need.
+#[inline(always)]
 pub(crate) fn read_edges<'a, S: TokenSource<'a, HoaKind>>(
     alloc: Global,
     source: &mut S,

@@ -28,6 +28,7 @@ impl<'a, S: TokenSource<'a, HoaKind>> Part<'a, S> for Guard {
         kind == HoaKind::OpenBracket
     }
 
+    #[inline(always)]
     fn read(alloc: Global, source: &mut S) -> Result<RawLabel, Refusal> {
         take_sign(source, HoaKind::OpenBracket)?;
         let label = label_expression(alloc, source)?;

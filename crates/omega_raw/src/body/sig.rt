@@ -28,6 +28,7 @@ impl<'a, S: TokenSource<'a, HoaKind>> Part<'a, S> for Sig {
         kind == HoaKind::OpenBrace
     }
 
+    #[inline(always)]
     fn read(alloc: Global, source: &mut S) -> Result<Numbers, Refusal> {
         take_sign(source, HoaKind::OpenBrace)?;
         let marks = read_numbers::<Int, S>(alloc, source)?;
@@ -41,6 +42,7 @@ impl<'a, S: TokenSource<'a, HoaKind>> Part<'a, S> for Sig {
 }
 
 /// Reads the sets of a state or an edge, if braces stand there.
+#[inline(always)]
 pub(crate) fn read_marks<'a, S: TokenSource<'a, HoaKind>>(
     alloc: Global,
     source: &mut S,

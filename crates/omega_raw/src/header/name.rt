@@ -1,6 +1,8 @@
 ghost use Rattle.std.specs.Prelude.{◌≡◌};
 ghost use Rattle.omega_raw.specs.Grammar.{header_named};
 
+use crate::same::is_name;
+
 /// What the name of a header says that it is.
 #[derive(Clone, Copy, Debug, PartialEq, Eq)]
 pub enum HeaderKind {
@@ -26,27 +28,27 @@ impl HeaderKind {
     pub(crate) fn of_name(name: &[u8]) -> HeaderKind
         ensures { result ≡ header_named name.now }
     {
-        if name == b"HOA".as_slice() {
+        if is_name(name, b"HOA".as_slice()) {
             HeaderKind::Format
-        } else if name == b"State".as_slice() {
+        } else if is_name(name, b"State".as_slice()) {
             HeaderKind::State
-        } else if name == b"States".as_slice() {
+        } else if is_name(name, b"States".as_slice()) {
             HeaderKind::States
-        } else if name == b"Start".as_slice() {
+        } else if is_name(name, b"Start".as_slice()) {
             HeaderKind::Start
-        } else if name == b"AP".as_slice() {
+        } else if is_name(name, b"AP".as_slice()) {
             HeaderKind::Propositions
-        } else if name == b"Alias".as_slice() {
+        } else if is_name(name, b"Alias".as_slice()) {
             HeaderKind::Alias
-        } else if name == b"Acceptance".as_slice() {
+        } else if is_name(name, b"Acceptance".as_slice()) {
             HeaderKind::Acceptance
-        } else if name == b"acc-name".as_slice() {
+        } else if is_name(name, b"acc-name".as_slice()) {
             HeaderKind::AccName
-        } else if name == b"tool".as_slice() {
+        } else if is_name(name, b"tool".as_slice()) {
             HeaderKind::Tool
-        } else if name == b"name".as_slice() {
+        } else if is_name(name, b"name".as_slice()) {
             HeaderKind::Name
-        } else if name == b"properties".as_slice() {
+        } else if is_name(name, b"properties".as_slice()) {
             HeaderKind::Properties
         } else {
             HeaderKind::Unknown
