@@ -5,6 +5,7 @@ use omega_automaton::Automaton;
 use omega_game::{Game, Player, Refusal, bound};
 use omega_hoa::{Stream, read_one};
 use omega_io::{Exit, exit_code};
+use omega_measure::fits;
 use omega_pg::read_game;
 use omega_text::{
     Cursor, HoaKind, HoaTokenizer, PgKind, TextCursor, TextFault, TokenKind, TokenSource,
@@ -96,6 +97,7 @@ fn put_game(game: &Game, out: &mut Vec<u8>) -> Result<(), Refusal> {
     put(out, game.edges() as u128)?;
     put(out, game.priority_counts().len() as u128)?;
     put_answer(out, game.place_of(0).is_some())?;
+    put_answer(out, fits(game.arena(), Player::Zero))?;
     put(out, bound(game.arena(), Player::Zero).unwrap_or(0))
 }
 
