@@ -9,7 +9,7 @@ use omega_measure::fits;
 use omega_pg::read_game;
 use omega_text::{
     Cursor, HoaKind, HoaTokenizer, PgKind, TextCursor, TextFault, TokenKind, TokenSource,
-    check_tokens, hoa_tokens, next_hoa_token, next_pg_token,
+    check_tokens, hoa_tokens, next_hoa_token, next_pg_number, next_pg_token,
 };
 use std::alloc::Global;
 
@@ -45,6 +45,7 @@ fn put_tokens(alloc: Global, text: &[u8], out: &mut Vec<u8>) -> Result<(), Refus
     if let Err(fault) = next_pg_token(text, 0) {
         put(out, u128::from(Refusal::Text(fault).number()))?;
     }
+    put_answer(out, next_pg_number(text, 0).is_some())?;
     if check_tokens::<HoaKind>(text).is_ok() {
         put_places(&mut TextCursor::<HoaKind>::new(text), out)?;
     }
