@@ -100,7 +100,7 @@ pub fn fits_both(game: &Arena) -> Result<(), Refusal>
 }
 
 /// Refuses a game that is too wide for a player. 50 alone.
-fn fits_for(game: &Game, player: Player) -> Result<(), Refusal>
+fn fits_for(game: &Arena, player: Player) -> Result<(), Refusal>
     ensures narrow { IsOk result → is_too_wide player (priorities game.now) ≡ false }
     ensures refused { IfErr result (λ refusal. (refusal ≡ Task TooWide) × (is_too_wide player (priorities game.now) ≡ true)) }
 {

@@ -14,4 +14,4 @@ pub returns-in-Some-clause-told : goal.returns-in-Some-clause-told
 returns-in-Some-clause-told g c = search_watched c.args.game.now _ _ _ _
 
 pub returns-in-None-clause-told : goal.returns-in-None-clause-told
-returns-in-None-clause-told g c = both_lifted c.args.game.now _ _ _ _ _ _ c.solution_of.ensures.told
+returns-in-None-clause-told g c = both_lifted c.args.game.now _ _ _ _ _ _ (rw c.arena.ensures at c.solution_of.ensures.told)
