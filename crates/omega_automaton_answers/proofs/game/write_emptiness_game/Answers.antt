@@ -13,7 +13,7 @@ returns-clause-answer c =
       game_is = c.in_ok-game.ensures.game;
       written = written;
     })
-    (rw c.arena.ensures at c.write_game.ensures.text)
+    c.write_game.ensures.text
 
 pub returns-clause-refused : goal.returns-clause-refused
 returns-clause-refused c = IfErr-weaker c.write_game.result _ _ (λ refusal e. rw e tt) c.write_game.ensures.memory
