@@ -29,8 +29,8 @@ pub fn number_in(text: &str, most: u64) -> Result<u64, Reason>
     }
 }
 
-/// Why `std` reads no number of 64 bits in a text. It may tell that a number is too large before it comes to a byte that
-/// is no digit.
+/// Why `std` reads no number of 64 bits in a text. It may tell that a number is too large before it comes to a byte
+/// that is no digit.
 fn reason_of(kind: &IntErrorKind, text: &[u8]) -> Reason
     ensures { result ≡ reason_for (list_all is_decimal text.now) kind.now }
 {
