@@ -4,4 +4,5 @@ pub mod Limits
 pub mod Reason
 pub mod CommandLine
 pub mod Line
+pub mod Usage
 pub mod private

@@ -86,10 +86,13 @@ impl fmt::Display for Mistake<'_> {
 }
 
 impl Mistake<'_> {
+    ghost use Rattle.omega_command.specs.Usage.{has_usage};
+
     /// Whether it is told with the usage of the subcommand, as `clap` tells of options that do not go together and of
     /// one that is missing.
     pub fn has_usage(&self) -> bool
-        ensures { result ≡ true → self.now ≢ mistake.Memory }
+        ensures usage { result ≡ has_usage self.now }
+        ensures memory { result ≡ true → self.now ≢ mistake.Memory }
     {
         matches!(
             self,
