@@ -76,9 +76,10 @@ class Build:
         self.gave: dict[str, str] = {}
         self.running: list[Proof] = []
         self.has_failed = False
-        seconds = {name: record_of(name).get("seconds") or it.seconds() + COMPILING * (name == TOOL)
-                   for name, it in crates.items()}
-        self.chains, self.progress = chains(crates, seconds), Progress(crates, seconds)
+        # By crate, what its proof is foreseen to take.
+        self.seconds = {name: record_of(name).get("seconds") or it.seconds() + COMPILING * (name == TOOL)
+                        for name, it in crates.items()}
+        self.chains, self.progress = chains(crates, self.seconds), Progress(crates, self.seconds)
 
     def inputs(self, crate: Crate) -> str:
         return inputs_of(crate, self.kit.identity, self.gave)
@@ -97,13 +98,15 @@ class Build:
         return sorted(found, key=lambda it: -self.chains[it.name])
 
     def start_some(self) -> None:
-        """Starts what there are processors for. A proof gets several where no other waits for them."""
+        """Starts what there are processors for, and shares these out by what each proof is foreseen to take: a short one
+        that ran beside a long one would leave its processor idle for the rest of it."""
         ready = self.ready()
         for at, crate in enumerate(ready):
             idle = self.lanes - sum(it.jobs for it in self.running)
             if idle < 1:
                 return
-            self.running.append(self.start(crate, min(max(1, idle // (len(ready) - at)), MOST_JOBS)))
+            share = idle * self.seconds[crate.name] / sum(self.seconds[it.name] for it in ready[at:])
+            self.running.append(self.start(crate, min(max(1, int(share)), MOST_JOBS)))
 
     def start(self, crate: Crate, jobs: int) -> Proof:
         words = self.kit.compiling if crate.name == TOOL else self.kit.proving
