@@ -78,8 +78,8 @@ leads from each promise to its clause.
   command line. In these words `read_words` is proved: the line that it gives is the one that the words ask for
   (`IsLineAsked`), for the subcommands and options of `crates/omega_help/specs/Program.antt`;
 - the texts of help and of faults of the command line, which are tested;
-- `main`, which hands `obey` the machine's streams and files. Of these the toolchain says nothing; which is which is
-  tested.
+- `main`, which hands `read_words` the words that the program was started with, and `obey` the machine's streams and
+  files. Of these the toolchain says nothing; that they are the right ones is tested.
 
 """
 

@@ -8,7 +8,7 @@ ROWS = [
     (b"0 1 0 0;", b"paritysol 0;\n0 1;\n", [(b"", 2), (b"0;\n", 1)]),
     (b"0 1 0 1; 1 2 1 0;", b"paritysol 1;\n0 0 1;\n1 0;\n", [(b"0 1;\n1;\n", 4), (b"", 4)]),
     (b"0 0 0 1,2; 1 1 1 0; 2 2 1 0;", b"paritysol 2;\n0 0 2;\n1 0;\n2 0;\n", [(b"0 2;\n1;\n2;\n", 6), (b"", 12)]),
-    # Games with five successors a node, which are solved without being reordered.
+    # Games with five successors a node.
     (b"0 0 0 0,0,0,0,0;", b"paritysol 0;\n0 0 0;\n", [(b"0 0;\n", 1), (b"", 2)]),
     (b"0 0 0 0,0,0,0,1; 1 1 1 1,1,1,1,0;", b"paritysol 1;\n0 0 0;\n1 1 1;\n", [(b"0 0;\n", 4), (b"1 1;\n", 4)]),
     (b"0 0 0 1,1,2,2,2; 1 1 1 0,0,0,0,0; 2 2 1 0,0,0,0,0;", b"paritysol 2;\n0 0 2;\n1 0;\n2 0;\n",

@@ -13,7 +13,7 @@ TWO = b"0 1 0 1; 1 2 1 0;"
 GAPS = b'parity 9; 9 3 1 4; 4 2 0 9,4 "a";'
 CARRY = b"0 1 0 0; 1 0 0 1; 2 3 0 2; 3 1 1 2,0;"
 CHOICE = b"0 0 0 1,2; 1 1 1 0; 2 2 1 0;"
-# Five successors a node, so that the game is solved without being reordered.
+# Five successors a node.
 DENSE = b"0 0 0 0,0,0,0,1; 1 1 1 1,1,1,1,0;"
 PARTED = b"0 0 0 1; 1 1 1 1; 2 2 0 0;"
 
