@@ -1,3 +1,4 @@
+-- Labels, aliases, acceptance formulas and kinds; in `private` what only private contracts cite.
 pub mod Depth
 pub mod Limits
 pub mod Symbols

@@ -9,8 +9,8 @@ use Rattle.omega_text.specs.declared.refusal.Refusal.{Refusal}
 use Rattle.omega_text.specs.declared.refusal.text.TextFault.{TextFault}
 use Rattle.omega_text.specs.declared.refusal.text.TextFault.TheVariants.{Syntax}
 
--- what a grammar sees of a token: a number's value, the bytes of an alias name, an identifier,
--- a header name or a string, and of the others the kind
+-- what a grammar sees of a token: a number's value; the bytes of an alias name with its `@`, of an identifier,
+-- of a header name with its colon, and of a string with its quotes; and of the others the kind
 pub data ExpressionSymbol : Type 0 where
   number : ℕ → ExpressionSymbol
   name : List ℕ → ExpressionSymbol

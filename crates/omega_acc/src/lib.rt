@@ -2,6 +2,8 @@
 //!
 //! What belongs to labels stands in `label`, what belongs to acceptance formulas in `formula`; what both stand on,
 //! beside them.
+//!
+//! Numbers of refusals are those of `Refusal`; docs/formats.md says when each comes.
 #![tactic(auto)]
 
 mod backward;

@@ -1,4 +1,6 @@
 //! A search for a closed walk of whose marks an acceptance formula holds.
+//!
+//! Numbers of refusals are those of `Refusal`; docs/formats.md says when each comes.
 #![tactic(auto)]
 
 mod accepting;

@@ -19,7 +19,7 @@ pub struct Edges {
 /// How the edges lie in memory.
 #[derive(Debug, Drop)]
 enum Held {
-    /// In short.
+    /// In compact form.
     Short(Seq<ShortEdge>),
     /// As they are.
     Full(Seq<Edge>),

@@ -1,4 +1,6 @@
 //! Omega-automata of the Hanoi format as values, and what an automaton that is written means.
+//!
+//! Numbers of refusals are those of `Refusal`; docs/formats.md says when each comes.
 #![tactic(auto)]
 
 mod automaton;

@@ -6,7 +6,7 @@ use omega_automaton::{Automaton, Refusal};
 use omega_hoa::read_one;
 use std::alloc::Global;
 
-/// The automaton that a text stands for. The text is let go, so that it takes no memory beside what is made of the
+/// The automaton that a text stands for. The text is dropped, so that it takes no memory beside what is made of the
 /// automaton.
 pub fn automaton_in(alloc: Global, text: Vec<u8>) -> Result<Automaton, Refusal>
     ensures automaton { IfOk result (IsAutomatonText text.items) }

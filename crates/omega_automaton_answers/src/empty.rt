@@ -49,7 +49,7 @@ pub fn search_emptiness(alloc: Global, text: Vec<u8>, word: bool) -> Result<Vec<
     searched(alloc, automaton, word)
 }
 
-/// What is written of an automaton, which is let go, by lifting. 13, 40, 41, 42, 50, 51 or 60.
+/// What is written of an automaton, which is dropped, by lifting. 13, 40, 41, 42, 50, 51 or 60.
 fn decided<L, W: Watch<L>>(
     alloc: Global,
     automaton: Automaton,
@@ -84,7 +84,7 @@ fn decision<L, W: Watch<L>>(
     emptiness_text(alloc, automaton, verdict, word)
 }
 
-/// What is written of an automaton, which is let go, by a search. 41, 42 or 60.
+/// What is written of an automaton, which is dropped, by a search. 41, 42 or 60.
 fn searched(alloc: Global, automaton: Automaton, word: bool) -> Result<Vec<u8>, Refusal>
     ensures decision { IfOk result (λ output. IsSearchDecision automaton word output.items) }
     ensures refused { IfErr result (IsSearchRefusal automaton) }

@@ -22,7 +22,7 @@ pub fn write_emptiness_game(alloc: Global, text: Vec<u8>) -> Result<Vec<u8>, Ref
     write_game(alloc, &game)
 }
 
-/// The emptiness game of an automaton, which is let go. 13, 40, 41, 42 or 60.
+/// The emptiness game of an automaton, which is dropped. 13, 40, 41, 42 or 60.
 fn game_of(alloc: Global, automaton: Automaton) -> Result<Arena, Refusal>
     ensures game { IfOk result (IsEmptinessGame automaton) }
     ensures given { OnOk result (IsGiven automaton) }

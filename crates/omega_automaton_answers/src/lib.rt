@@ -1,4 +1,6 @@
 //! What each subcommand answers to the texts of automata and of streams of them.
+//!
+//! Numbers of refusals are those of `Refusal`; docs/formats.md says when each comes.
 #![tactic(auto)]
 
 mod automaton_text;

@@ -1,5 +1,7 @@
 //! Parity games solved within a budget: in an order of their own, with a listener who is told of the run, and answered
 //! by the places that were given.
+//!
+//! Numbers of refusals are those of `Refusal`; docs/formats.md says when each comes.
 #![tactic(auto)]
 
 mod answering;

@@ -18,7 +18,7 @@ use std::alloc::Global;
 
 impl Reordered<'_> {
     /// What lifting finds for a player within a budget, by the places of the game that was given; the listener is told
-    /// of the run. The table of measures is let go at the end. 50 where it would be too wide, 51 where a lift is due
+    /// of the run. The table of measures is dropped at the end. 50 where it would be too wide, 51 where a lift is due
     /// once the whole budget is used up, or 60.
     pub fn solve<L, W: Watch<L>>(
         &self,

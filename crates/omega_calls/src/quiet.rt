@@ -8,8 +8,8 @@ use omega_io::{Exit, exit_code};
 use omega_measure::fits;
 use omega_pg::read_game;
 use omega_text::{
-    Cursor, HoaKind, HoaTokenizer, PgKind, TextCursor, TextFault, TokenKind, TokenSource,
-    check_tokens, hoa_tokens, next_hoa_token, next_pg_number, next_pg_token,
+    Cursor, HoaKind, PgKind, TextCursor, TextFault, TokenKind, TokenSource, check_tokens,
+    hoa_tokens, next_hoa_token, next_pg_number, next_pg_token,
 };
 use std::alloc::Global;
 

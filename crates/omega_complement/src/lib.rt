@@ -1,4 +1,6 @@
 //! The complement of a deterministic automaton, which accepts exactly the words that the automaton does not.
+//!
+//! Numbers of refusals are those of `Refusal`; docs/formats.md says when each comes.
 #![tactic(auto)]
 
 mod acceptance;

@@ -22,7 +22,7 @@ pub fn complement_text(alloc: Global, text: &[u8]) -> Result<Vec<u8>, Refusal>
     canonical(alloc, &turned)
 }
 
-/// The complement of an automaton, which is let go. 41, 42, 55, 56 or 60.
+/// The complement of an automaton, which is dropped. 41, 42, 55, 56 or 60.
 fn complemented(alloc: Global, automaton: Automaton) -> Result<Automaton, Refusal>
     ensures complement { IfOk result (IsComplement automaton) }
     ensures given { OnOk result (HasComplement automaton) }

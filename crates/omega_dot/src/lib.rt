@@ -1,4 +1,6 @@
 //! Labels in the DOT language: how names and lines stand in them.
+//!
+//! Numbers of refusals are those of `Refusal`; docs/formats.md says when each comes.
 #![tactic(auto)]
 
 mod labels;

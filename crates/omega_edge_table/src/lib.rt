@@ -1,4 +1,6 @@
 //! The edges of an automaton by their numbers.
+//!
+//! Numbers of refusals are those of `Refusal`; docs/formats.md says when each comes.
 #![tactic(auto)]
 
 mod finding;

@@ -1,4 +1,6 @@
 //! Emptiness of parity and generalized Büchi automata: the emptiness game, and accepting lassos.
+//!
+//! Numbers of refusals are those of `Refusal`; docs/formats.md says when each comes.
 #![tactic(auto)]
 
 mod deciding;

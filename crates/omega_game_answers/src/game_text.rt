@@ -6,8 +6,8 @@ use omega_game::{Arena, Refusal};
 use omega_pg::read_arena;
 use std::alloc::Global;
 
-/// The game that a text stands for, without predecessors. The text is let go, so that it takes no memory beside what is
-/// made of the game.
+/// The game that a text stands for, without predecessors. The text is dropped, so that it takes no memory beside what
+/// is made of the game.
 pub fn arena_of(alloc: Global, text: Vec<u8>) -> Result<Arena, Refusal>
     ensures game { IfOk result (IsGameText text.items) }
     ensures refused { IfErr result (IsReadRefusal text.items) }

@@ -1,4 +1,6 @@
 //! What each subcommand answers to the texts of games and of their solutions.
+//!
+//! Numbers of refusals are those of `Refusal`; docs/formats.md says when each comes.
 #![tactic(auto)]
 
 mod canon;

@@ -5,7 +5,7 @@ ghost use Rattle.omega_game_answers.specs.private.steps.PartRefusal.{IsPartRefus
 use omega_game::{Arena, Refusal, TaskFault};
 use std::alloc::Global;
 
-/// The part of a game that the node with an identifier reaches. The game is let go, so that it takes no memory beside
+/// The part of a game that the node with an identifier reaches. The game is dropped, so that it takes no memory beside
 /// what is made of the part. 54 or 60.
 pub fn part_from(alloc: Global, game: Arena, identifier: u32) -> Result<Arena, Refusal>
     ensures part { IfOk result (IsPartFrom game identifier) }

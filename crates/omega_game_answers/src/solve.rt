@@ -50,7 +50,7 @@ pub fn solve_game<L, W: Watch<L>>(
     }
 }
 
-/// The text for the part that the node with an identifier reaches. The game is let go. 54, 50, 51 or 60.
+/// The text for the part that the node with an identifier reaches. The game is dropped. 54, 50, 51 or 60.
 fn solve_part<L, W: Watch<L>>(
     alloc: Global,
     game: Arena,

@@ -21,7 +21,7 @@ use omega_refused::{Refused, Which};
 use std::alloc::Global;
 
 /// Says whether the choices of the solution that a text stands for win, without solving its game, which has a text of
-/// its own, which is let go before the solution is read; where they do not, also why, if that is asked for. Where an
+/// its own, which is dropped before the solution is read; where they do not, also why, if that is asked for. Where an
 /// identifier is given, the solution is one of the part that its node reaches. The refusal of the game text, or else
 /// 54, or else that of the solution text: 1 to 4, 10 to 14, 54, 53 or 60; the game text is the first, and 54 is of it.
 pub fn verify_solution(
@@ -58,7 +58,7 @@ fn judged(
 }
 
 /// The game that a text stands for, or where an identifier is given, the part of it that its node reaches. The text is
-/// let go. 1 to 4, 10 to 14, 54 or 60.
+/// dropped. 1 to 4, 10 to 14, 54 or 60.
 fn judged_game(alloc: Global, text: Vec<u8>, from: Option<u32>) -> Result<Arena, Refusal>
     ensures game { IfOk result (IsJudgedGame text.items from) }
     ensures refused { IfErr result (or_memory (IsJudgedGameRefusal text.items from)) }
@@ -108,7 +108,7 @@ fn verdict(alloc: Global, is_right: bool) -> Result<(Exit, Vec<u8>), Refusal>
     }
 }
 
-/// The solution of a game that a text stands for. The text is let go.
+/// The solution of a game that a text stands for. The text is dropped.
 fn solution_in(alloc: Global, game: &Arena, text: Vec<u8>) -> Result<Solution, Refusal>
     ensures solution { IfOk result (IsSolutionText game.now text.items) }
     ensures refused { IfErr result (IsReadSolutionRefusal game.now text.items) }

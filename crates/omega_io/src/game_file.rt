@@ -11,7 +11,7 @@ use std::fs::File;
 use std::io;
 use std::rt::Files;
 
-/// Where the files of games are found by their names.
+/// Reads files by their names: games, solutions, lassos and automata.
 pub trait GameFiles {
     /// The texts that the file of a name may be read as.
     ghost reads: { Self → List ℕ → List ℕ → Type 0 };

@@ -1,4 +1,6 @@
 //! What the program reads and writes, with its failures counted, and how it tells how it ended.
+//!
+//! Numbers of refusals are those of `Refusal`; docs/formats.md says when each comes.
 #![tactic(auto)]
 
 mod exit;

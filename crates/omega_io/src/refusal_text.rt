@@ -5,7 +5,8 @@ ghost use Rattle.omega_io.specs.RefusalLine.{line_of, place_text};
 
 use omega_text::{Refusal, write_number};
 
-/// Appends the line that the program prints for a refusal: its number and name, and for 1, 2 and 3 its place.
+/// Appends the line that the program prints for a refusal: its number and name, for 1, 2 and 3 its place,
+/// and for 56 the number of the state.
 /// 60: nothing is appended.
 pub fn refusal_line(refusal: &Refusal, out: &mut Vec<u8>) -> Result<(), Refusal>
     ensures ok { OnOk result (out.new.items ≡ out.old.items ++ line_of refusal.now) }

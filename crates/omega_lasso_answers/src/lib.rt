@@ -1,4 +1,6 @@
 //! What `verify` answers to the text of an automaton and that of a lasso.
+//!
+//! Numbers of refusals are those of `Refusal`; docs/formats.md says when each comes.
 #![tactic(auto)]
 
 mod verify;

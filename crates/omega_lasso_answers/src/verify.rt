@@ -16,7 +16,7 @@ use omega_refused::{Refused, Which};
 use std::alloc::Global;
 
 /// Says whether the lasso that a text stands for, by the numbers of its edges, is an accepting lasso of the automaton
-/// of another text, without a search for one; where it is not, also why, if that is asked for. Both texts are let go
+/// of another text, without a search for one; where it is not, also why, if that is asked for. Both texts are dropped
 /// once they are read.
 ///
 /// The refusal of the automaton's text, or else that of the lasso's, or else 41 or 42, which are about the automaton: 1
@@ -44,7 +44,7 @@ pub fn verify_lasso(
     }
 }
 
-/// The automaton of a text, which is let go.
+/// The automaton of a text, which is dropped.
 fn automaton_in(alloc: Global, text: Vec<u8>) -> Result<Automaton, Refusal>
     ensures automaton { IfOk result (IsAutomatonText text.items) }
     ensures refused { IfErr result (or_memory (IsAutomatonRefusal text.items)) }
@@ -52,7 +52,7 @@ fn automaton_in(alloc: Global, text: Vec<u8>) -> Result<Automaton, Refusal>
     read_one(alloc, text.as_slice())
 }
 
-/// The lasso of a text, which is let go.
+/// The lasso of a text, which is dropped.
 fn lasso_in(alloc: Global, text: Vec<u8>) -> Result<LassoText, Refusal>
     ensures lasso { IfOk result (IsLassoText text.items) }
     ensures refused { IfErr result (IsReadLassoRefusal text.items) }

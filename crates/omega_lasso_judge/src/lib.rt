@@ -1,4 +1,6 @@
 //! A referee for lassos of automata: whether a lasso that is given by numbers of edges accepts, or else why not.
+//!
+//! Numbers of refusals are those of `Refusal`; docs/formats.md says when each comes.
 #![tactic(auto)]
 
 mod acceptance;

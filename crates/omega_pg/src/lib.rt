@@ -1,4 +1,6 @@
 //! Texts of parity games and of their solutions, read and written exactly.
+//!
+//! Numbers of refusals are those of `Refusal`; docs/formats.md says when each comes.
 #![tactic(auto)]
 
 mod game;

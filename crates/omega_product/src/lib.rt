@@ -3,6 +3,8 @@
 //! How each automaton stands within the product is told by a table of its edges (`table`, `transitions`, `labels`,
 //! `names`). The pairs that are reached are found first (`exploring`), then their edges are put together (`edges`,
 //! `states`); what is written so is judged and read as any automaton that is written (`forming`).
+//!
+//! Numbers of refusals are those of `Refusal`; docs/formats.md says when each comes.
 #![tactic(auto)]
 
 mod acceptance;

@@ -1,4 +1,5 @@
-//! The states and edges of a body.
+//! The states and edges of a body. In the words of HOA's grammar a state's or an edge's label stands in `guard`, its
+//! marks in `sig`.
 
 mod edge;
 mod guard;

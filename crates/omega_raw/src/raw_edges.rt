@@ -22,7 +22,7 @@ pub struct RawEdges {
 /// How the edges lie in memory.
 #[derive(Debug, Drop)]
 enum Held {
-    /// In short.
+    /// In compact form.
     Short(Vec<ShortEdge>),
     /// As they are.
     Full(Vec<RawEdge>),
@@ -31,7 +31,7 @@ enum Held {
 /// The edges of a state, taken apart.
 #[derive(Debug, Drop)]
 pub enum HeldEdges {
-    /// In short.
+    /// In compact form.
     Short(Seq<ShortEdge>),
     /// As they are.
     Full(Seq<RawEdge>),

@@ -16,7 +16,7 @@ use std::alloc::Global;
 /// it are left.
 ///
 /// Refusal 3 where there is none, at the first token with which no automaton goes on, else at the length of the text.
-/// One pass, linear time, and nothing recurs.
+/// One pass, linear time, without recursion.
 pub fn read_raw<'a, S: TokenSource<'a, HoaKind>>(
     alloc: Global,
     source: &mut S,

@@ -1,4 +1,6 @@
 //! The program's work, over any input, output and standard error: a command is run, a command line is obeyed.
+//!
+//! Numbers of refusals are those of `Refusal`; docs/formats.md says when each comes.
 #![tactic(auto)]
 
 mod beside;

@@ -7,8 +7,8 @@ use itoa::Buffer;
 use omega_budget::{Progress, Watch};
 use omega_io::{Output, write_text};
 
-/// Tells an output in lines how far runs have come. The lines and what is told behind them are one text: once a write
-/// of it failed, no more of it is written.
+/// Reports on an output, line by line, how far runs have come. The lines and what is written after them are one text:
+/// once a write of it failed, no more of it is written.
 #[derive(Drop)]
 pub(crate) struct ProgressLines {
     /// After how many lifts more there is a line, but never after none.

@@ -2,6 +2,8 @@
 //!
 //! A label is taken in as steps of a search (`steps`, `taking`), whose open branches stand on a stack (`branches`); the
 //! search goes from step to step (`search`).
+//!
+//! Numbers of refusals are those of `Refusal`; docs/formats.md says when each comes.
 #![tactic(auto)]
 
 mod answer;

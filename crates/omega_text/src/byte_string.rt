@@ -22,7 +22,7 @@ pub struct ByteString {
 enum Held {
     /// In place: the first so many.
     Short { count: u8, bytes: [u8; 14] },
-    /// In memory.
+    /// In an allocation.
     Long(Box<Vec<u8>>),
 }
 

@@ -1,6 +1,8 @@
 //! What texts stand on: refusals, tokens with their places, a cursor over tokens, and decimal text.
 //!
 //! What belongs to one format stands in a module of its own, its laws in that module's `laws`.
+//!
+//! Numbers of refusals are those of `Refusal`; docs/formats.md says when each comes.
 #![tactic(auto)]
 
 mod byte_string;

@@ -18,7 +18,7 @@ enum Written {
     Absent,
     /// In place: the first so many of the values.
     Short { count: u8, values: [u32; 3] },
-    /// In memory.
+    /// In an allocation.
     Long(Box<Vec<u32>>),
 }
 

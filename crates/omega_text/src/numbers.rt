@@ -22,7 +22,7 @@ pub struct Numbers {
 pub(crate) enum Held {
     /// In place: the first so many of the values.
     Short { count: u8, values: [u32; 3] },
-    /// In memory.
+    /// In an allocation.
     Long(Box<Vec<u32>>),
 }
 

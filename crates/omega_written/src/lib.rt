@@ -1,6 +1,8 @@
 //! What texts of automata share, and automata that are made of others: the labels of edges, also of those that are
 //! written without one, names without quotes, labels and acceptance formulas as a text has them, with parentheses only
 //! where an operator needs them, and limits.
+//!
+//! Numbers of refusals are those of `Refusal`; docs/formats.md says when each comes.
 #![tactic(auto)]
 
 mod edge_labels;

@@ -7,8 +7,8 @@ use crate::zielonka::Zielonka;
 use omega_game::{Game, Player};
 use std::alloc::{AllocError, Global};
 
-/// Searches for the regions of a game, as a whole and then by its components. None once each of these searches visited
-/// about as many edges as the fuel allows. Refused where a request for memory is.
+/// Searches for the regions of a game, first as a whole and then by components. Returns none if both searches used up
+/// their fuel, each by visiting about that many edges. Returns an error if a request for memory is refused.
 pub fn search(alloc: Global, game: &Game, fuel: u64) -> Result<Option<Suggestion>, AllocError> {
     let whole = Components::whole(alloc, by_priority(alloc, game)?)?;
     if let Some(suggestion) = suggested(alloc, game, whole, fuel)? {

@@ -1,7 +1,7 @@
 -- Labels as they are written, with alias names and parentheses (HOA v1, label expressions).
 use Rattle.std.specs.Prelude.{ℕ, ◌+◌, Bool, List, [], ◌∷◌, ◌++◌, max}
 
--- a label as it is written
+-- a label as it is written; the name of an alias that comes from a text begins with its `@`
 pub data RawLabelTree : Type 0 where
   constant : Bool → RawLabelTree
   proposition : ℕ → RawLabelTree

@@ -1,3 +1,4 @@
+-- How labels, aliases and formulas lie in memory.
 pub mod Joins
 pub mod Passing
 pub mod Pending

@@ -19,7 +19,7 @@ use omega_text::{HoaKind, Refusal, TextFault, TokenSource};
 use std::alloc::Global;
 
 /// Reads an acceptance formula as it is written, which is the one front of the tokens that is a formula and has neither
-/// `&` nor `|` behind it (HOA v1, acceptance). Refusal 3 where there is none. Time is linear, and nothing recurs.
+/// `&` nor `|` behind it (HOA v1, acceptance). Refusal 3 where there is none. Linear time, without recursion.
 pub fn read_raw_acc<'a, S: TokenSource<'a, HoaKind>>(
     alloc: Global,
     source: &mut S,

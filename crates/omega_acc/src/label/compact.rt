@@ -35,7 +35,7 @@ enum Held {
         depth: u8,
         codes: [u8; 21],
     },
-    /// In memory.
+    /// In an allocation.
     Long(Box<Notation>),
 }
 

@@ -31,7 +31,7 @@ pub fn expand(alloc: Global, raw: &RawLabel, aliases: &Aliases) -> Result<Label,
     replace_aliases(alloc, raw, aliases, size)
 }
 
-/// The same of a label that is let go: one without aliases keeps its memory, and nothing is copied.
+/// The same of a label that is dropped: one without aliases keeps its memory, and nothing is copied.
 pub fn expand_in_place(alloc: Global, raw: RawLabel, aliases: &Aliases) -> Result<Label, Refusal>
     ensures ok { IfOk result (λ label. IsExpansion aliases.now raw label) }
     ensures err { IfErr result (IsUnexpanded aliases.now raw) }

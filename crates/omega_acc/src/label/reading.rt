@@ -21,7 +21,7 @@ use omega_text::{AutomatonFault, HoaKind, Refusal, TextFault, TokenSource};
 use std::alloc::Global;
 
 /// Reads a label as it is written, which is the one front of the tokens that is a label and has neither `&` nor `|`
-/// behind it (HOA v1, label expressions). Refusal 3 where there is none. Time is linear, and nothing recurs.
+/// behind it (HOA v1, label expressions). Refusal 3 where there is none. Linear time, without recursion.
 pub fn read_raw_label<'a, S: TokenSource<'a, HoaKind>>(
     alloc: Global,
     source: &mut S,

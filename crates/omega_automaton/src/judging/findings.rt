@@ -27,7 +27,7 @@ pub(crate) struct Findings {
 }
 
 impl Findings {
-    /// Of no labels.
+    /// Nothing about labels.
     fn none() -> Findings
         ensures { AreFound (λ test. false) 0 result }
     {

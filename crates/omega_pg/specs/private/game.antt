@@ -1,1 +1,2 @@
+-- What the reader of games keeps.
 pub mod reader

@@ -1,1 +1,2 @@
+-- What the reader of solutions keeps.
 pub mod reader

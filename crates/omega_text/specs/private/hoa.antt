@@ -1,2 +1,3 @@
+-- How tokens of the Hanoi format are found.
 pub mod scanning
 pub mod Gaps

@@ -1,1 +1,2 @@
+-- How tokens of games are found.
 pub mod FirstForm

@@ -54,7 +54,8 @@ pub(super) fn plain_hoa_token(source: &[u8], at: usize) -> Option<Token<'_, HoaK
     None
 }
 
-/// What `next_behind` gives. Its result stands in memory of its own, so that a token that is read before it need not.
+/// The same as `next_behind`. The call stands apart so that only its result goes through memory, and not a token that
+/// was recognized at once.
 #[inline(always)]
 fn next_later(source: &[u8], at: usize) -> Result<Option<Token<'_, HoaKind>>, TextFault>
     requires { at ≤ length source.now }
