@@ -61,7 +61,8 @@ fn add_random(
         let ends = if tame && priority % 2 == 1 { 1 } else { count };
         number = next(number);
         add(builder, id, priority, Zero, drawn(number, ends))?;
-        for _ in 0..drawn(next(number), 3) {
+        number = next(number);
+        for _ in 0..drawn(number, 3) {
             number = next(number);
             list(builder, drawn(number, ends))?;
         }
