@@ -4,7 +4,7 @@ use Rattle.omega_game.specs.declared.player.Player.{Player}
 use Rattle.omega_game.specs.Bound.{losing_priorities}
 use Rattle.omega_lift.specs.Measure.{Measure, IsAbove}
 use Rattle.omega_lift.specs.Allowance.{IsAllowance, measure_at}
-use Rattle.omega_lift.specs.Run.{IsTable, zero_table}
+use Rattle.omega_lift.specs.Run.{zero_table}
 use Rattle.omega_text.specs.Cases.{never, or_memory, or_task}
 use Rattle.omega_game.specs.declared.Refusal.{Refusal}
 use Rattle.omega_game.specs.declared.TaskFault.TheVariants.{TooWide}
@@ -15,10 +15,6 @@ pub record Content : Type 0 where
   pub player : Player
   pub priorities : List ℕ
   pub measures : List Measure
-
--- the content has a measure of its player for each place
-abbrev pub IsContent : Content → Type 0
-IsContent content = IsTable content.player content.priorities content.measures
 
 -- the content of a new table: every entry is 0
 abbrev pub zero_content : Player → List ℕ → Content

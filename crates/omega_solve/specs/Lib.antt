@@ -8,8 +8,6 @@ pub use Rattle.omega_lift.specs.Run
 pub use Rattle.omega_lift.specs.Answer
 pub use Rattle.omega_lift.specs.Laws
 pub use Rattle.omega_measure.specs.Table
-pub use Rattle.omega_order.specs.Ranking
-pub use Rattle.omega_order.specs.RankSet
 pub mod Limits
 pub mod Schedule
 pub mod Solver
