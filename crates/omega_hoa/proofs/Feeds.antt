@@ -15,16 +15,16 @@ use Rattle.omega_text.specs.declared.hoa.kind.HoaKind.{HoaKind}
 use Rattle.omega_text.specs.declared.refusal.Refusal.{Refusal}
 use Rattle.omega_text.specs.declared.refusal.Refusal.TheVariants.{Memory, Text}
 use Rattle.omega_text.specs.declared.refusal.text.TextFault.TheVariants.{TooLong}
-use Rattle.omega_hoa.specs.Feeding.{Appends, IsDivided, IsFed, IsRefusedSoFar, IsRefusedThen, IsTaken}
+use Rattle.omega_hoa.specs.Feeding.{Appends, IsDivided, IsFed, IsRefusedSoFar, IsRefusedThen, IsTaken, TakesPiece}
 use Rattle.omega_hoa.specs.Kept.{Kept}
 use Rattle.omega_hoa.specs.Laws.{IsAnsweredAtEnd}
 use Rattle.omega_hoa.specs.Stream.{IsStreamFault, IsStreamText}
 use Rattle.omega_hoa.specs.private.dividing.Fed.{HasReadTaken, IsFedSome, IsRefusedSome}
-use Rattle.omega_hoa.specs.private.dividing.Next.{IsProgress}
+use Rattle.omega_hoa.specs.private.dividing.Next.{Extends, IsProgress}
 use Rattle.omega_hoa.specs.declared.item.Item.{Item}
 use Rattle.omega_hoa.specs.declared.progress.ReadProgress.{ReadProgress}
 use Rattle.omega_hoa.proofs.Cutting.{cuts_end, cuts_forward, cuts_split, same_cuts, same_further}
-use Rattle.omega_hoa.proofs.Results.{nothing_more}
+use Rattle.omega_hoa.proofs.Results.{holds_behind}
 use Rattle.omega_text.proofs.formats.Cutting.{cuts_join}
 use Rattle.omega_text.proofs.hoa_texts.Pieces.{kept_settled}
 
@@ -96,11 +96,16 @@ fed_longer seen piece items kept refusal is fed =
     subst (λ refused. MatchOption refused (IsTaken (seen ++ piece) items kept) (IsRefusedSoFar (seen ++ piece) items kept)) (sym is)
     (refused_longer seen piece items kept refusal (subst (λ refused. MatchOption refused (IsTaken seen items kept) (IsRefusedSoFar seen items kept)) is fed))
 
-pub refused_fed : (seen piece : List ℕ) (items : List Item) (old new : List Item) (kept now : Kept) (refusal : Refusal) → kept.refused ≡ Some refusal → now ≡ kept → new ≡ old → IsFed seen items kept
-    → Appends old new items (λ all. IsFed (seen ++ piece) all now)
-refused_fed seen piece items old new kept now refusal is same none fed =
-    subst (λ list. Appends old list items (λ all. IsFed (seen ++ piece) all now)) (sym none)
-    (nothing_more old items (λ all. IsFed (seen ++ piece) all now) (subst (IsFed (seen ++ piece) items) (sym same) (fed_longer seen piece items kept refusal is fed)))
+-- so it takes each piece
+pub refused_takes : (kept : Kept) (piece : List ℕ) (refusal : Refusal) → kept.refused ≡ Some refusal → TakesPiece kept piece [] kept
+refused_takes kept piece refusal is = λ seen items fed.
+    subst (λ all. IsFed (seen ++ piece) all kept) (sym (append-nil items)) (fed_longer seen piece items kept refusal is fed)
+
+-- a piece was taken whose items were appended, whatever was fed before
+pub takes_piece : (old new : List Item) (kept now : Kept) (piece : List ℕ) (extends : Extends old new)
+    → ((seen : List ℕ) (items : List Item) → IsFed seen items kept → Appends old new items (λ all. IsFed (seen ++ piece) all now)) → TakesPiece kept piece extends.0 now
+takes_piece old new kept now piece extends taken = λ seen items fed.
+    holds_behind old new items (λ all. IsFed (seen ++ piece) all now) extends (taken seen items fed)
 
 -- whole segments end within the text
 pub divided_within : GoesOneWay hoa_format → (seen : List ℕ) (lexemes : List (Lexeme HoaKind)) (items : List Item) (begins : ℕ) (inside : Bool) → IsDivided seen lexemes items begins inside → begins ≤ length seen

@@ -4,7 +4,7 @@ ghost use Rattle.omega_text.specs.declared.refusal.Refusal.TheVariants.{Memory, 
 ghost use Rattle.omega_text.specs.declared.refusal.text.TextFault.TheVariants.{TooLong};
 ghost use Rattle.omega_hoa.specs.declared.item.Item.{Item};
 ghost use Rattle.omega_hoa.specs.Stream.{IsStreamFault, IsStreamText};
-ghost use Rattle.omega_hoa.specs.private.dividing.Next.{IsProgressSome, IsReadAs, IsRefusedFrom};
+ghost use Rattle.omega_hoa.specs.private.dividing.Next.{Extends, IsProgressSome, IsReadAs, IsRefusedFrom};
 
 use crate::division::Division;
 use crate::ending::{end_inside, end_outside};
@@ -40,7 +40,7 @@ impl Model for Stream {
 
 impl Stream {
     ghost use Rattle.std.specs.Result.{result_err};
-    ghost use Rattle.omega_hoa.specs.Feeding.{Appends, IsFed, IsRefusedThen};
+    ghost use Rattle.omega_hoa.specs.Feeding.{Appends, IsFed, IsRefusedThen, TakesPiece};
     ghost use Rattle.omega_hoa.specs.Laws.{IsAnsweredAtEnd};
 
     /// Before the first byte. No memory is taken.
@@ -66,6 +66,8 @@ impl Stream {
     /// stream and `out` are as before, and the piece may be fed again. After any other refusal the items before it
     /// stand in `out`, and each later call answers it.
     ///
+    /// The law `pieces_change_nothing` asks of each call what `taken` says here.
+    ///
     /// A piece is kept until its segments have ended. Each byte is scanned once,
     /// those of a segment that ends once more.
     pub fn feed(&mut self, piece: &[u8], out: &mut Vec<Item>) -> Result<(), Refusal>
@@ -74,7 +76,7 @@ impl Stream {
             → (result ≡ Err (Text TooLong)) × (self.new ≡ record self.old { refused = Some (Text TooLong) }) × (out.new.items ≡ out.old.items) }
         ensures memory { result ≡ Err Memory → (self.new ≡ self.old) × (out.new.items ≡ out.old.items) }
         ensures taken { (result ≡ Err Memory → ⊥)
-            → (seen : List ℕ) (items : List Item) → IsFed seen items self.old → Appends out.old.items out.new.items items (λ all. IsFed (seen ++ piece.now) all self.new) }
+            → (given : List Item) × (out.new.items ≡ out.old.items ++ given) × TakesPiece self.old piece.now given self.new }
         ensures refused { self.old.refused ≡ None → self.old.begins + length self.old.bytes + length piece.now ≤ most_text
             → IfErr result (λ refusal. (seen : List ℕ) (items : List Item) → IsFed seen items self.old → IsRefusedThen (seen ++ piece.now) out.old.items out.new.items items refusal) }
         ensures ok { OnOk result (self.new.refused ≡ None) }
@@ -119,6 +121,7 @@ impl Stream {
         ensures memory { result ≡ Err Memory → (self.new ≡ self.old) × (out.new.items ≡ out.old.items) }
         ensures taken { (result ≡ Err Memory → ⊥)
             → (seen : List ℕ) (items : List Item) → IsFed seen items self.old → Appends out.old.items out.new.items items (λ all. IsFed (seen ++ piece.now) all self.new) }
+        ensures extends { (result ≡ Err Memory → ⊥) → Extends out.old.items out.new.items }
         ensures refused { self.old.begins + length self.old.bytes + length piece.now ≤ most_text
             → IfErr result (λ refusal. (seen : List ℕ) (items : List Item) → IsFed seen items self.old → IsRefusedThen (seen ++ piece.now) out.old.items out.new.items items refusal) }
         ensures ok { OnOk result (self.new.refused ≡ None) }
@@ -183,6 +186,7 @@ fn read_piece(
     ensures read { IfOk result (IsReadAs bytes.now first from (length bytes.now) progress out.old.items out.new.items) }
     ensures refused { IfErr result (IsRefusedFrom bytes.now first from progress out.old.items out.new.items) }
     ensures memory { result ≡ Err Memory → out.new.items ≡ out.old.items }
+    ensures extends { (result ≡ Err Memory → ⊥) → Extends out.old.items out.new.items }
 {
     let held = out.len();
     let answer = read_bytes(alloc, bytes, first, from, progress, out);

@@ -1,5 +1,5 @@
 -- What was told of a stream's bytes, with a piece more, and at its end.
-use Rattle.std.proofs.Common.{◌≡◌, ℕ, ◌+◌, ◌≤◌, ◌<◌, ◌⊎◌, List, [], ◌∷◌, ◌++◌, Option, None, Some, length, refl, sym, ap, subst, ◌∙◌, inl, inr, arith, append_assoc, append-nil, length-append}
+use Rattle.std.proofs.Common.{◌≡◌, ℕ, ◌+◌, ◌≤◌, ◌⊎◌, List, [], ◌∷◌, ◌++◌, Option, None, Some, length, refl, sym, ap, subst, ◌∙◌, inl, inr, arith, append_assoc, append-nil, length-append}
 use Rattle.std.specs.Prelude.{IfSome, MatchOption, Result, Err, Ok}
 use Rattle.omega_text.specs.Cut.{Cuts}
 use Rattle.omega_text.specs.Format.{TextFormat, GoesOneWay}
@@ -9,9 +9,8 @@ use Rattle.omega_text.specs.hoa.Format.{hoa_format}
 use Rattle.omega_text.specs.declared.hoa.kind.HoaKind.{HoaKind}
 use Rattle.omega_text.specs.declared.hoa.kind.HoaKind.TheVariants.{Abort, End}
 use Rattle.omega_text.specs.declared.refusal.Refusal.{Refusal}
-use Rattle.omega_text.specs.declared.refusal.Refusal.TheVariants.{Memory, Text}
-use Rattle.omega_text.specs.declared.refusal.text.TextFault.TheVariants.{TooLong}
-use Rattle.omega_hoa.specs.Feeding.{Appends, IsFed, IsRefusedSoFar, IsRefusedThen, IsTaken}
+use Rattle.omega_text.specs.declared.refusal.Refusal.TheVariants.{Memory}
+use Rattle.omega_hoa.specs.Feeding.{IsFed, IsRefusedSoFar, IsRefusedThen, IsTaken, TakesPiece}
 use Rattle.omega_hoa.specs.Kept.{Kept}
 use Rattle.omega_hoa.specs.Stream.{IsItemOf, IsSegment, IsStream, IsStreamFault, IsStreamRefusal, IsStreamText}
 use Rattle.omega_hoa.specs.declared.item.Item.{Item}
@@ -133,34 +132,34 @@ module _ (text : ℕ → Item → List ℕ) (seen : List ℕ) (kept : Kept) (cou
   module _ (piece : List ℕ) (before given : List Item) (after : Kept) (empty : before ≡ []) where
     -- the piece was taken, and its items told of
     pub follows_taken : (next : List ℕ) → kept.refused ≡ None → after.refused ≡ None
-        → ((items : List Item) → IsFed seen items kept → Appends before given items (λ all. IsFed (seen ++ piece) all after))
+        → (added : List Item) × (given ≡ before ++ added) × TakesPiece kept piece added after
         → next ≡ told ++ texts_from text count given
         → MatchOption after.refused (TellsItems text (seen ++ piece) after (count + length given) next) (AreRefusedBy (seen ++ piece))
     follows_taken next none still takes more =
         let tells = tells_of none in
-        let taken = takes tells.items tells.fed in
-        let is : given ≡ taken.added = taken.is ∙ ap (λ front. front ++ taken.added) empty in
+        let added = takes.0 in
+        let is : given ≡ added = takes.1 ∙ ap (λ front. front ++ added) empty in
         let number : count ≡ 0 + length tells.items = omega (arith, tells.counted) in
         let now : TellsItems text (seen ++ piece) after (count + length given) next = record {
-          items = tells.items ++ taken.added;
-          fed = taken.holds;
-          counted = omega (arith, tells.counted, ap length is, length-append tells.items taken.added);
+          items = tells.items ++ added;
+          fed = takes.2 seen tells.items tells.fed;
+          counted = omega (arith, tells.counted, ap length is, length-append tells.items added);
           all = more ∙ ap (λ front. front ++ texts_from text count given) tells.all ∙ ap (λ n. texts_from text 0 tells.items ++ texts_from text n given) number
-              ∙ ap (λ items. texts_from text 0 tells.items ++ texts_from text (0 + length tells.items) items) is ∙ sym (texts_from-append text 0 tells.items taken.added);
+              ∙ ap (λ items. texts_from text 0 tells.items ++ texts_from text (0 + length tells.items) items) is ∙ sym (texts_from-append text 0 tells.items added);
         } in
         subst (λ refused. MatchOption refused (TellsItems text (seen ++ piece) after (count + length given) next) (AreRefusedBy (seen ++ piece))) (sym still) now
 
     -- so many items are told of then that their number is far from the greatest
     pub count_within : GoesOneWay hoa_format → kept.refused ≡ None → after.refused ≡ None
-        → ((items : List Item) → IsFed seen items kept → Appends before given items (λ all. IsFed (seen ++ piece) all after))
+        → (added : List Item) × (given ≡ before ++ added) × TakesPiece kept piece added after
         → count + length given ≤ most_text
     count_within exact none still takes =
         let tells = tells_of none in
-        let taken = takes tells.items tells.fed in
-        let is : given ≡ taken.added = taken.is ∙ ap (λ front. front ++ taken.added) empty in
-        let all = tells.items ++ taken.added in
-        let now : IsTaken (seen ++ piece) all after = subst (λ refused. MatchOption refused (IsTaken (seen ++ piece) all after) (IsRefusedSoFar (seen ++ piece) all after)) still taken.holds in
-        omega (arith, tells.counted, ap length is, length-append tells.items taken.added, items_within exact (seen ++ piece) all after now, now.short)
+        let added = takes.0 in
+        let is : given ≡ added = takes.1 ∙ ap (λ front. front ++ added) empty in
+        let all = tells.items ++ added in
+        let now : IsTaken (seen ++ piece) all after = subst (λ refused. MatchOption refused (IsTaken (seen ++ piece) all after) (IsRefusedSoFar (seen ++ piece) all after)) still (takes.2 seen tells.items tells.fed) in
+        omega (arith, tells.counted, ap length is, length-append tells.items added, items_within exact (seen ++ piece) all after now, now.short)
 
     -- the piece is refused, or those before were
     refused_now : (refused : Option Refusal) (refusal : Refusal) → kept.refused ≡ refused → (refusal ≡ Memory → ⊥)

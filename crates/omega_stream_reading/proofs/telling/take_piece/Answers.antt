@@ -15,7 +15,7 @@ append_items-requires g c =
     let within : c.args.telling.now.count + length given ≤ most_text =
     count_within g.T.ItemText.text c.requires.0 kept c.args.telling.now.count c.args.telling.now.told.items c.requires.1 c.args.piece.now
     c.clear.new.self.items given c.feed.new.self c.clear.ensures.items c.goes_on_one_way.ensures none said.ok
-    (λ items fed. said.taken (ok_no_error c.in-Ok.field-0 Memory) c.requires.0 items fed) in
+    (said.taken (ok_no_error c.in-Ok.field-0 Memory)) in
     omega (arith, within, ap length c.as_slice.ensures.value)
 
 pub overflow_add-telling : goal.overflow_add-telling
@@ -27,7 +27,7 @@ overflow_add-telling g c =
     let within : c.args.telling.now.count + length given ≤ most_text =
     count_within g.T.ItemText.text c.requires.0 kept c.args.telling.now.count c.args.telling.now.told.items c.requires.1 c.args.piece.now
     c.clear.new.self.items given c.feed.new.self c.clear.ensures.items c.goes_on_one_way.ensures none said.ok
-    (λ items fed. said.taken (ok_no_error c.in-Ok.field-0 Memory) c.requires.0 items fed) in
+    (said.taken (ok_no_error c.in-Ok.field-0 Memory)) in
     let count : c.len.result ≡ length given = c.len.ensures ∙ c.feed.new.out.ok.0 in
     omega (arith, within, count)
 
@@ -42,7 +42,7 @@ returns-in_ok-append_items-in-Ok-clause-follows g c = λ seen short follows.
     rw count
     (follows_taken g.T.ItemText.text seen kept c.args.telling.now.count c.args.telling.now.told.items follows c.args.piece.now
     c.clear.new.self.items given c.feed.new.self c.clear.ensures.items c.append_items.new.out.items none said.ok
-    (λ items fed. said.taken (ok_no_error c.in-Ok.field-0 Memory) seen items fed)
+    (said.taken (ok_no_error c.in-Ok.field-0 Memory))
     (rw (← c.as_slice.ensures.value) more))
 
 pub returns-in_default : goal.returns-in_default
