@@ -1,4 +1,6 @@
 //! Streams of automata read from an input in pieces, and what is told of their items.
+//!
+//! Numbers of refusals are those of `Refusal`; docs/formats.md says when each comes.
 #![tactic(auto)]
 
 mod item_text;
