@@ -26,13 +26,13 @@ const _: () = prove!(std::mem::size_of::<Marks>() <= 16);
 
 impl Model for Marks {
     ghost use Rattle.std.specs.Prelude.{List, Option, ℕ};
-    ghost use Rattle.omega_text.specs.private.Marks.{fits, marks_in};
+    ghost use Rattle.omega_text.specs.private.Marks.{fits_in_place, marks_in};
 
     ghost Value = { Option (List ℕ) };
 
     ghost view = { λ m. marks_in m.written };
 
-    ghost invariant = { λ m. fits m.written };
+    ghost invariant = { λ m. fits_in_place m.written };
 }
 
 impl Marks {

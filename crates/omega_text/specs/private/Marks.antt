@@ -11,7 +11,7 @@ marks_in (Short count values) = Some (take count values)
 marks_in (Long numbers) = Some numbers.value.items
 
 -- there is room in place for so many
-abbrev pub fits : Written → Type 0
-fits Absent = Unit {0}
-fits (Short count values) = count ≤ 3
-fits (Long numbers) = Unit {0}
+abbrev pub fits_in_place : Written → Type 0
+fits_in_place Absent = Unit {0}
+fits_in_place (Short count values) = count ≤ 3
+fits_in_place (Long numbers) = Unit {0}
