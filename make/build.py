@@ -106,7 +106,7 @@ class Build:
             if idle < 1:
                 return
             share = idle * self.seconds[crate.name] / sum(self.seconds[it.name] for it in ready[at:])
-            self.running.append(self.start(crate, min(max(1, int(share)), MOST_JOBS)))
+            self.running.append(self.start(crate, min(max(1, round(share)), MOST_JOBS)))
 
     def start(self, crate: Crate, jobs: int) -> Proof:
         words = self.kit.compiling if crate.name == TOOL else self.kit.proving
