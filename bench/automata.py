@@ -25,7 +25,7 @@ def body(rows):
 
 
 def marked(sets):
-    """Sets as they stand behind a state or an edge."""
+    """Sets as they stand after a state or an edge."""
     return f" {{{' '.join(map(str, sets))}}}" if sets else ""
 
 

@@ -29,7 +29,7 @@ class Token:
 
 
 def comment_end(text, place):
-    """The place behind the comment that begins at a place, none where it has no end."""
+    """The place after the comment that begins at a place, none where it has no end."""
     depth = 0
     while place < len(text):
         two = text[place:place + 2]

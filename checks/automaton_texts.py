@@ -70,13 +70,13 @@ def fault_of_stream(text):
 
 
 def header_and_body(text):
-    """The parts of a text of one automaton before and behind `--BODY--`, without its ends."""
+    """The parts of a text of one automaton before and after `--BODY--`, without its ends."""
     header, body = text.removesuffix(b"--END--").split(b"--BODY--")
     return header, body
 
 
 def joined_faults():
-    """For each two of the faulty texts one with both faults: the least is wanted. Items stand behind one another, and an
+    """For each two of the faulty texts one with both faults: the least is wanted. Items stand after one another, and an
     acceptance that says nothing is left out where another stands."""
     for one, other in itertools.combinations(FAULTY[1:], 2):
         (header, body), (more, further) = header_and_body(one), header_and_body(other)

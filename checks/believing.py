@@ -226,7 +226,7 @@ def type_of(module):
 
 
 def placed_behind(items, cited):
-    """The items in an order in which each stands behind those that it cites."""
+    """The items in an order in which each stands after those that it cites."""
     ordered, seen = [], set()
 
     def put(item):
@@ -242,7 +242,7 @@ def placed_behind(items, cited):
 
 
 def in_order(sources, believed):
-    """The definitions by their crates and files, each crate and each file behind those that it cites."""
+    """The definitions by their crates and files, each crate and each file after those that it cites."""
     files = {}
     for one in believed:
         if isinstance(one, Definition):

@@ -1,7 +1,7 @@
 """Every budget up to the lifts that are needed: refusal 51 and nothing written, or the whole answer."""
 from program import fault_of, refusal_fault
 
-# Games, the solution text of each, and for each player the answer text behind its count of lifts and the most that the
+# Games, the solution text of each, and for each player the answer text after its count of lifts and the most that the
 # count may be.
 ROWS = [
     (b"0 0 0 0;", b"paritysol 0;\n0 0 0;\n", [(b"0 0;\n", 1), (b"", 2)]),

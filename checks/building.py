@@ -116,7 +116,7 @@ class Tree:
             return [tuple(line.split()) for line in notes]
 
     def change(self, name, text):
-        """Puts a text behind a crate's source, or a new first line before it."""
+        """Puts a text after a crate's source, or a new first line before it."""
         path = self.file("crates", name, "src", "lib.rt")
         with open(path, encoding="utf-8") as file:
             held = file.read()

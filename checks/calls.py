@@ -107,7 +107,7 @@ RUNS = [
 
 SOLVERS = [f"{table} {order}" for table in ("plain", "packed") for order in ("sweep", "worklist", "nested")]
 
-# Calls that ask for no memory behind those that make what they are asked of: made where the second text is `run`.
+# Calls that ask for no memory after those that make what they are asked of: made where the second text is `run`.
 QUIET = [
     *((solver, text, b"") for solver in SOLVERS for text in GAMES),
     *(("texts", text, b"") for text in AUTOMATA),
@@ -127,12 +127,12 @@ def build():
 
 
 def fault_in(came, ample):
-    """What is wrong with status and output behind a refused request."""
+    """What is wrong with status and output after a refused request."""
     return None if came in (ample, (60, b"", b"")) else f"status {came[0]}, {shown(came[1])}, {shown(came[2])}"
 
 
 def refused_calls(shimmed, call, text, other, status, beginning):
-    """Each request refused, alone and with all behind it."""
+    """Each request refused, alone and with all after it."""
     words = [call, text, other]
     ample, requests = shimmed.run(words, b"", None)
     label = f"{call} of {shown(text)} {shown(other)}"
@@ -160,7 +160,7 @@ def quiet_calls(shimmed, call, text, beginning):
 
 
 def pieces_again(shimmed):
-    """A stream in pieces gives the items of the whole text, also where a piece was fed once more behind a refused request."""
+    """A stream in pieces gives the items of the whole text, also where a piece was fed once more after a refused request."""
     whole, _ = shimmed.run(["read_stream", STREAM, b""], b"", None)
     fed, requests = shimmed.run(["feed", STREAM, b""], b"", None)
     yield "a stream in pieces and whole", None if fed == whole else f"{shown(fed[1])} for {shown(whole[1])}"

@@ -23,7 +23,7 @@ MOST_NODES = 200
 MOST_LIFTS = 3_000_000
 # Options with a value that names no file, and the status of a file that cannot be read.
 VALUED, UNREAD = ("--format", "--player", "--from", "--budget"), 5
-# The name of a file behind an option.
+# The name of a file after an option.
 NAMED = re.compile(r"--(?:game|solution|automaton|with)[= ](\S*)")
 
 

@@ -71,7 +71,7 @@ RUNS = [
 
 @contextlib.contextmanager
 def shim():
-    """The path of the shim that refuses requests, compiled for these runs, in a folder that is removed behind them."""
+    """The path of the shim that refuses requests, compiled for these runs, in a folder that is removed after them."""
     with tempfile.TemporaryDirectory() as folder:
         path = os.path.join(folder, "refusing.so")
         subprocess.run(["cc", "-O2", "-shared", "-fPIC", "-o", path, os.path.join(HERE, "refusing.c"), "-ldl"], check=True)
@@ -108,7 +108,7 @@ def fault_in(came, ample):
 
 
 def refused_runs(shimmed, words, text, held):
-    """Each request refused, alone and with all behind it."""
+    """Each request refused, alone and with all after it."""
     ample, requests = shimmed.run(words, text, held)
     label = f"{' '.join(words)} on {shown(text)}"
     yield f"{label}: with ample memory", "refused 60" if ample == REFUSED else None

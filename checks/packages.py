@@ -12,7 +12,7 @@ PACKAGE = os.path.join(ROOT, "make", "package.py")
 GAME = b"0 1 0 1; 1 2 1 0;"
 SOLVED = b"paritysol 1;\n0 0 1;\n1 0;\n"
 COMPLETIONS = "share/bash-completion/completions/omega"
-# What bash offers behind these words.
+# What bash offers after these words.
 OFFERED = [
     (["omega", "so"], "solve"),
     (["omega", "check", "--format", ""], "hoa pg"),
@@ -90,7 +90,7 @@ def debian_fault(file, room):
 
 
 def offered_fault(script, words, wanted):
-    """What bash offers behind words, by the completions."""
+    """What bash offers after words, by the completions."""
     listed = " ".join(f"'{word}'" for word in words)
     lines = f"source '{script}'; COMP_WORDS=({listed}); COMP_CWORD={len(words) - 1}; _omega; echo ${{COMPREPLY[@]}}"
     run = subprocess.run(["bash", "--norc", "-c", lines], capture_output=True, text=True)

@@ -24,7 +24,7 @@ class Row:
         self.said = []
 
     def take(self, mark, rest):
-        """Takes what a line has behind its mark."""
+        """Takes what a line has after its mark."""
         if mark == "$":
             self.commands.append(rest)
         elif mark == "g:":
@@ -52,7 +52,7 @@ def plain(text):
 
 
 def rows_of(text):
-    """The rows of a file, behind its first heading."""
+    """The rows of a file, after its first heading."""
     row, is_behind = None, False
     for number, line in enumerate([*text.split("\n"), ""], 1):
         is_behind = is_behind or line.startswith("## ")

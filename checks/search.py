@@ -24,7 +24,7 @@ def friedmann(levels):
 
 
 def loops(levels, back=False):
-    """Loops of rising priorities, each behind one of low priority: the plain recursion takes exponential time. Whoever
+    """Loops of rising priorities, each after one of low priority: the plain recursion takes exponential time. Whoever
     owns a loop loses there and leads on, so that all is won by the player of the last. With `back` the last leads to the
     first, and all is one component."""
     nodes = []

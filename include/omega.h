@@ -3,7 +3,7 @@
  * Link with libomega.a, which needs nothing but the C library, or with libomega.so; `make libomega` makes both. There is
  * no state, no handle and no thread: calls may be made from any thread at once, but not from a signal handler.
  *
- * What every call needs of its caller: pointers are not null, also where the length behind them is 0, and what they
+ * What every call needs of its caller: pointers are not null, also where the length after them is 0, and what they
  * point to has that length; what a call writes overlaps nothing else that the call is given; malloc, realloc and free
  * are those of one allocator. No call keeps a pointer.
  *
@@ -119,8 +119,8 @@ omega_outcome omega_verify(const omega_game *game, const uint8_t *winners, size_
 /* The most lifts that lifting makes for each player. Refuses 57, 13, 14, 60. */
 omega_outcome omega_bound(const omega_game *game, omega_bounds *bounds);
 
-/* Does what the program does with a command line. Its words behind the program's name are each ended by a NUL, as in
- * "solve\0--search"; what stands behind the last NUL is not read. The input is standard input; each file that the
+/* Does what the program does with a command line. Its words after the program's name are each ended by a NUL, as in
+ * "solve\0--search"; what stands after the last NUL is not read. The input is standard input; each file that the
  * words name, the operand too, has the text `file`, whatever its name. Copies what it writes as far as there is room
  * for it; where a length that it gives is greater than the room, ask again with more. */
 omega_ran omega_run(const uint8_t *words, size_t word_bytes, const uint8_t *input, size_t input_bytes,

@@ -53,13 +53,13 @@ class Crate:
 
 
 def crates_for(program: str) -> dict[str, Crate]:
-    """The crates that a program stands on, and its own at last, each behind those that it uses."""
+    """The crates that a program stands on, and its own at last, each after those that it uses."""
     named: dict[str, list[str]] = {}
     with open(LIST, encoding="utf-8") as lines:
         for line in lines:
             name, colon, uses = line.partition("#")[0].partition(":")
             if colon:
-                # A static library has a word behind its name.
+                # A static library has a word after its name.
                 named[name.split()[0]] = uses.split()
     found: dict[str, Crate] = {}
     above: list[str] = []

@@ -239,7 +239,7 @@ def bound(priorities: Numbers, owners: Numbers, successors: Successors) -> Bound
 
 
 def run(words: Sequence[str], input: bytes = b"", file: bytes = b"") -> Ran:
-    """What the program `omega` does with these words behind its name, with this standard input; each file that the
+    """What the program `omega` does with these words after its name, with this standard input; each file that the
     words name, the operand too, has the text `file`, whatever its name."""
     if any("\0" in word for word in words):
         raise ValueError("a word has a NUL")

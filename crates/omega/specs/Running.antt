@@ -21,7 +21,7 @@ is_nul byte = byte == 0
 abbrev pub pieces_of : List ℕ → List (List ℕ)
 pieces_of text = codes "omega" ∷ slice_split is_nul text
 
--- these are the words, the program's name first; behind the last NUL stands the rest, which is not read
+-- these are the words, the program's name first; after the last NUL stands the rest, which is not read
 pub record AreWords (text : List ℕ) (words : List (List ℕ)) : Type 0 where
   pub rest : List ℕ
   pub split : pieces_of text ≡ words ++ rest ∷ []

@@ -27,8 +27,8 @@ pub struct Ran {
     pub errors: u64,
 }
 
-/// Does what the program does with a command line, whose words behind the program's name are each ended by a NUL; what
-/// stands behind the last NUL is not read. The input is its standard input, and each file that a word names, the
+/// Does what the program does with a command line, whose words after the program's name are each ended by a NUL; what
+/// stands after the last NUL is not read. The input is its standard input, and each file that a word names, the
 /// operand too, has the text `file`. What it writes is copied as far as there is room for it, and its whole length is
 /// given.
 #[unsafe(no_mangle)]

@@ -124,7 +124,7 @@ impl Backward {
         self.bytes.append_to(out)
     }
 
-    /// The part that comes next stands behind a sign, and has to bind so tightly to stand without parentheses.
+    /// The part that comes next stands after a sign, and has to bind so tightly to stand without parentheses.
     fn begin(&mut self, sign: Sign, rank: u32) -> Result<(), Refusal>
         ensures waiting { OnOk result (self.new.waiting ≡ sign ∷ self.old.waiting) }
         ensures wanted { OnOk result (self.new.wanted ≡ Some rank) }

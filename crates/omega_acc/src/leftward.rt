@@ -14,7 +14,7 @@ pub(crate) struct Leftward {
     /// The first bytes, from `start` on.
     room: [u8; 128],
     start: usize,
-    /// The bytes behind those, the last one first.
+    /// The bytes after those, the last one first.
     behind: Vec<u8>,
 }
 

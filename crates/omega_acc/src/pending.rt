@@ -7,7 +7,7 @@ use omega_text::Refusal;
 use std::alloc::Global;
 use std::marker::Model;
 
-/// What waits for a part to stand behind it; an operator keeps the depth of its left part.
+/// What waits for a part to stand after it; an operator keeps the depth of its left part.
 #[derive(Clone, Copy)]
 pub(crate) enum Pending {
     Open,

@@ -36,7 +36,7 @@ pub(crate) fn with_all<N: Copy>(nodes: Seq<N>, others: Seq<N>) -> Result<Seq<N>,
     Ok(Seq::from_vec(nodes))
 }
 
-/// Appends the nodes and names of another part, and behind them an operator.
+/// Appends the nodes and names of another part, and after them an operator.
 pub(crate) fn append<N: Copy + Drop>(
     nodes: &mut Vec<N>,
     names: &mut Vec<u8>,

@@ -1,4 +1,4 @@
--- Nodes behind others: they keep their places and formulas.
+-- Nodes after others: they keep their places and formulas.
 use Rattle.std.proofs.Common.{◌≡◌, ℕ, ◌+◌, ◌<◌, ◌≤◌, false, inl, inr, Result, Ok, Err, IfOk, List, [], ◌∷◌, ◌++◌, length, get_or, refl, sym, ap, subst, ◌∙◌, arith, append_assoc, length-append}
 use Rattle.std.proofs.lemmas.Bool.{cases_lt}
 use Rattle.std.proofs.lemmas.List.{get_or_append_left, get_or_push, length_push}
@@ -103,7 +103,7 @@ IsFormula-push nodes node formula made place other below = elim (cases_lt place 
 pub IsFormula-none : IsFormula []
 IsFormula-none place other below = absurd (omega arith)
 
--- nodes behind nodes behind others
+-- nodes after nodes after others
 pub Goes-on : (first second third : List Node) → Goes first second → Goes second third → Goes first third
 Goes-on first second third one two =
     (one.0 ++ two.0, two.1 ∙ ap (λ nodes. nodes ++ two.0) one.1 ∙ append_assoc first one.0 two.0)

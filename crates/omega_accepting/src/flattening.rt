@@ -7,7 +7,7 @@ use crate::node::Node;
 use omega_acc::AccShape;
 use omega_text::Refusal;
 
-/// Puts a formula's nodes behind others, and gives the place of its root. 60 alone.
+/// Puts a formula's nodes after others, and gives the place of its root. 60 alone.
 pub(crate) fn add_formula(nodes: &mut Vec<Node>, shape: &AccShape) -> Result<u32, Refusal>
     requires formula { IsFormula nodes.old.items }
     ensures formula { OnOk result (IsFormula nodes.new.items) }
@@ -33,7 +33,7 @@ pub(crate) fn add_formula(nodes: &mut Vec<Node>, shape: &AccShape) -> Result<u32
     }
 }
 
-/// Puts a node behind others, and gives its place. 60 alone.
+/// Puts a node after others, and gives its place. 60 alone.
 fn push_node(nodes: &mut Vec<Node>, node: Node) -> Result<u32, Refusal>
     requires formula { IsFormula nodes.old.items }
     requires made { IsMade (length nodes.old.items) node }

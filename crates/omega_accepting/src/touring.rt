@@ -54,7 +54,7 @@ fn stops(alloc: Global, search: &Search<'_>, edges: &[u32]) -> Result<Vec<u32>, 
     Ok(stops)
 }
 
-/// Puts the first of the edges behind no others. 60 alone.
+/// Puts the first of the edges after no others. 60 alone.
 fn add_first(stops: &mut Vec<u32>, edges: &[u32]) -> Result<(), Refusal>
     requires some { 0 < length edges.now }
     requires stops { All (Contains edges.now) stops.old.items }
@@ -70,7 +70,7 @@ fn add_first(stops: &mut Vec<u32>, edges: &[u32]) -> Result<(), Refusal>
     Ok(())
 }
 
-/// Puts an edge that meets what a node asks, if it is an atom `Inf`, behind others. 60 alone.
+/// Puts an edge that meets what a node asks, if it is an atom `Inf`, after others. 60 alone.
 fn add_stops(
     stops: &mut Vec<u32>,
     search: &Search<'_>,
@@ -90,7 +90,7 @@ fn add_stops(
     }
 }
 
-/// Puts an edge that meets a set of marks behind others, where none of those does, but one of the edges. 60 alone.
+/// Puts an edge that meets a set of marks after others, where none of those does, but one of the edges. 60 alone.
 fn add_stop(
     stops: &mut Vec<u32>,
     search: &Search<'_>,
@@ -138,7 +138,7 @@ fn tour(
     Ok(walk)
 }
 
-/// What comes behind the item at an index, the first behind the last.
+/// What comes after the item at an index, the first after the last.
 fn next_stop(stops: &[u32], at: usize) -> u32
     requires { at < length stops.now }
     ensures { result ≡ slice_index_or stops.now (at + 1) (slice_index stops.now 0) }
@@ -150,7 +150,7 @@ fn next_stop(stops: &[u32], at: usize) -> u32
     }
 }
 
-/// Puts an edge behind a walk, and a way from it to where another edge leaves. 60 alone.
+/// Puts an edge after a walk, and a way from it to where another edge leaves. 60 alone.
 fn add_way(
     alloc: Global,
     walk: &mut Vec<u32>,

@@ -37,7 +37,7 @@ starts_within a shape v h =
     let e : start_at a (v + (node_count a - v)) ≡ start_at a (node_count a) = ap (start_at a) (omega arith) in
     omega (arith, e, rises_by a shape (node_count a - v) v (omega arith), shape.last)
 
--- the successors of a node end behind their start, and within all
+-- the successors of a node end after their start, and within all
 pub ends_within : (a : GameArrays) → IsGameShape a → (v : ℕ) → v < node_count a
     → (start_at a v < start_at a (v + 1)) × (start_at a (v + 1) ≤ length a.successors)
 ends_within a shape v h = (shape.rising v h, starts_within a shape (v + 1) (omega arith))

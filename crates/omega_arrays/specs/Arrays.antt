@@ -30,7 +30,7 @@ player_of (suc n) = One
 abbrev pub node_count : GameArrays → ℕ
 node_count a = length a.priorities
 
--- where the successors of the node at a place begin; those of the last node end at the start behind it
+-- where the successors of the node at a place begin; those of the last node end at the start after it
 abbrev pub start_at : GameArrays → ℕ → ℕ
 start_at a v = slice_index a.starts v
 

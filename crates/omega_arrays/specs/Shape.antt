@@ -33,7 +33,7 @@ miscounted array count wanted = if count == wanted then None else Some (entry ar
 abbrev pub first_above : (array most : ℕ) → List ℕ → Option WrongEntry
 first_above array most entries = option_map (entry array) (position (λ x. nat_lt most x) entries)
 
--- what is wrong with the lengths: there is no node, or not an owner for each, or not a start for each and one behind
+-- what is wrong with the lengths: there is no node, or not an owner for each, or not a start for each and one after
 abbrev pub wrong_length : GameArrays → Option WrongEntry
 wrong_length a =
     option_or (if node_count a == 0 then Some (entry 0 0) else None)

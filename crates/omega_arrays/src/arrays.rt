@@ -1,7 +1,7 @@
 use std::marker::Model;
 
 /// A game as arrays. Its nodes are the places from 0 on, one for each priority; the successors of the node at a place
-/// are those from its start up to the start behind it.
+/// are those from its start up to the start after it.
 #[repr(C)]
 #[derive(Drop)]
 pub struct Arrays<'a> {

@@ -17,7 +17,7 @@ named_by_place (next ∷ rest) name within = by_test (bytes_eq name next.name) (
     by_test true later h = refl
     by_test false later h = later (omega arith)
 
--- a name whose place is behind the definitions is not there
+-- a name whose place is after the definitions is not there
 pub unnamed_by_place : (definitions : List Defined) (name : List ℕ) → length definitions ≤ place_among definitions name → is_named definitions name ≡ false
 unnamed_by_place [] name behind = refl
 unnamed_by_place (next ∷ rest) name behind = by_test (bytes_eq name next.name) (unnamed_by_place rest name) behind

@@ -15,11 +15,11 @@ use Rattle.omega_automaton.specs.declared.making.definitions.Definitions.{Defini
 use Rattle.omega_automaton.specs.private.layout.Definitions.{AreNoted, HasDefined, IsUndefinable, IsUnnoted, has_wrong_definition, is_named}
 use Rattle.omega_automaton.proofs.Repeats.{has_repeat-front, has_repeat-push, list_any-front, list_any-map, nothing_more, or_both, or_last, shuffled}
 
--- the entry of a definition behind earlier entries
+-- the entry of a definition after earlier entries
 abbrev entry_of : List Entry → Defined → Entry
 entry_of before next = record { name = next.name; meaning = replaced before next.body }
 
--- the entries of more definitions stand behind those of the first
+-- the entries of more definitions stand after those of the first
 entries_of-append : (before : List Entry) (xs ys : List Defined) → entries_of before (xs ++ ys) ≡ entries_of before xs ++ entries_of (before ++ entries_of before xs) ys
 entries_of-append before [] ys = ap (λ entries. entries_of entries ys) (sym (append-nil before))
 entries_of-append before (x ∷ xs) ys =

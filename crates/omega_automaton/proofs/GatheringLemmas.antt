@@ -25,7 +25,7 @@ filter_map-push : {X : Type 0} (says : RawItem → Option X) (items : List RawIt
     → filter_map says (items ++ last ∷ []) ≡ filter_map says items ++ option_to_list (says last)
 filter_map-push says items last = filter_map-append says items (last ∷ []) ∙ ap (λ xs. filter_map says items ++ xs) (filter_map-one (says last))
 
--- the first of some, with one that may be there behind them
+-- the first of some, with one that may be there after them
 first-push : {X : Type 0} (xs : List X) (o : Option X) → slice_get (xs ++ option_to_list o) 0 ≡ option_or (slice_get xs 0) o
 first-push [] None = refl
 first-push [] (Some x) = refl
@@ -70,7 +70,7 @@ pub noted-push : (items : List RawItem) (last : RawItem) (old new : Definitions)
     → AreNoted (filter_map alias_in (items ++ last ∷ [])) new
 noted-push items last old new all met = rw (filter_map-push alias_in items last) (noted-met (alias_in last) (filter_map alias_in items) old new all met)
 
--- an item that cannot be met behind those before it
+-- an item that cannot be met after those before it
 unnoted-at : (items : List RawItem) (i : ℕ) (last : RawItem) (old : Definitions) (refusal : Refusal) → i < length items → last ≡ get_or items i last
     → AreNoted (filter_map alias_in (take i items)) old → IsUnmet old last refusal → IsUnnoted (filter_map alias_in items) refusal
 unnoted-at items i last old refusal within is all unmet =

@@ -6,7 +6,7 @@ use Rattle.omega_hoa.specs.declared.item.Item.{Item}
 use Rattle.omega_io.specs.Reading.{ReadsWhole}
 use Rattle.omega_automaton_answers.specs.Canon.{IsStreamCanonAnswer}
 
--- the canonical texts of items, told one behind the other, are those of the stream
+-- the canonical texts of items, told one after the other, are those of the stream
 canonical-told : (number : ℕ) (items : List Item) → texts_from (λ _ item. canonical_item item) number items ≡ canonical_stream items
 canonical-told number [] = refl
 canonical-told number (item ∷ items) = ap (λ rest. canonical_item item ++ rest) (canonical-told (number + 1) items)

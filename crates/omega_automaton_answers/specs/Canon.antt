@@ -5,7 +5,7 @@ use Rattle.omega_hoa.specs.Stream.{IsStreamText}
 use Rattle.omega_hoa.specs.declared.item.Item.{Item}
 
 -- what `canon` answers: the text is that of a stream, and the canonical texts of its automata are written,
--- one behind the other
+-- one after the other
 pub record IsStreamCanonAnswer (text output : List ℕ) : Type 0 where
   pub items : List Item
   pub read : IsStreamText text items

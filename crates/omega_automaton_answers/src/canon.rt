@@ -11,7 +11,7 @@ use omega_stream_reading::{Input, Item, ItemText, tell_stream};
 use omega_text::Refusal;
 use std::alloc::Global;
 
-/// The canonical texts of the automata of the stream that an input gives, one behind the other. 1 to 4, 20 to 33,
+/// The canonical texts of the automata of the stream that an input gives, one after the other. 1 to 4, 20 to 33,
 /// 60 or 61.
 pub fn canon_stream<R: Input>(alloc: Global, input: &mut R) -> Result<Vec<u8>, Refusal>
     requires { R.failed input.old < 2 ^ 64 - 1 }

@@ -16,7 +16,7 @@ use Rattle.omega_dot.specs.Numbered.{numbered}
 pub at_place : {X : Type 0} (P : X → Type 0) (xs : List X) (index : ℕ) (x : X) → All P xs → index < length xs → x ≡ get_or xs index x → P x
 at_place P xs index x all below here = subst P (sym here) (all index x below)
 
--- the one at a place, and those behind it
+-- the one at a place, and those after it
 pub next_left : {X : Type 0} (xs : List X) (index : ℕ) (x : X) → index < length xs → x ≡ get_or xs index x → drop index xs ≡ x ∷ drop (index + 1) xs
 next_left xs index x below here = drop_more xs index x below ∙ ap (λ first. first ∷ drop (index + 1) xs) (sym here)
 
@@ -29,7 +29,7 @@ part_written part rest left out after whole parts step so_far =
 pub length-edges_from : (state : State) → length (edges_from state) ≡ length state.edges
 length-edges_from state = length-map {B = BodyEdge} state.edges (λ (edge : Edge). record { source = state; edge = edge })
 
--- the edges of a state and of those behind it
+-- the edges of a state and of those after it
 pub edges_left : (states : List State) (index : ℕ) (state : State) → index < length states → state ≡ get_or states index state
     → length (flat_map edges_from (drop index states)) ≡ length state.edges + length (flat_map edges_from (drop (index + 1) states))
 edges_left states index state below here =

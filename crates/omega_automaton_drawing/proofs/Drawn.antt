@@ -25,7 +25,7 @@ module _ (names : List (List ℕ)) (role : ℕ → Role) (first : ℕ) (state : 
       let e : (n + 1) + i ≡ n + suc i = omega arith in
       drop-drawn i (n + 1) edges ∙ ap (λ m. drawn_from names role first state m (drop i edges)) e
 
-  -- the edge of an index, and those behind it
+  -- the edge of an index, and those after it
   pub drawn_left : (i : ℕ) (edges : List Edge) (edge : Edge) → i < length edges → edge ≡ get_or edges i edge
       → drop i (drawn_from names role first state 0 edges) ≡ drawn_edge names role first state i edge ∷ drop (i + 1) (drawn_from names role first state 0 edges)
   drawn_left i edges edge below here =

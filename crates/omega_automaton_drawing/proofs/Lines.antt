@@ -1,4 +1,4 @@
--- Parts that are appended one behind the other.
+-- Parts that are appended one after the other.
 use Rattle.std.proofs.Common.{◌≡◌, ℕ, List, ◌++◌, ap, ◌∙◌, append_assoc}
 
 -- a part, and then another

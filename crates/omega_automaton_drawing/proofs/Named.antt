@@ -33,7 +33,7 @@ module _ (names : List (List ℕ)) (few : length names ≤ most_propositions) wh
   abbrev Ends : List ℕ → Type 0
   Ends rest = (number : ℕ) → with_names names (Some number) rest ≡ drawn_name (name_at names number) ++ with_names names None rest
 
-  -- bytes that are written as others, whatever is behind where a number ends
+  -- bytes that are written as others, whatever is after where a number ends
   abbrev Makes : List ℕ → List ℕ → Type 0
   Makes bytes named = (rest : List ℕ) → Ends rest → with_names names None (bytes ++ rest) ≡ named ++ with_names names None rest
 

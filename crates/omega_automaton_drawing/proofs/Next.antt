@@ -32,7 +32,7 @@ first_passed targets i last target q before after below e here known step =
     at_is : (x y : ℕ) → is_at (nat_cmp x) y ≡ (x == y)
     at_is x y = grind arith
 
--- what is next behind each edge from one on, with one edge more
+-- what is next after each edge from one on, with one edge more
 pub next_passed : (targets next : List (Option ℕ)) (i last : ℕ) (entry : Option ℕ) → length next ≡ length targets → last ≡ i + 1 → i < length targets
     → ((index target : ℕ) → last ≤ index → index < length targets → get_or targets index None ≡ Some target → get_or next index None ≡ next_to targets (index + 1) target)
     → ((target : ℕ) → get_or targets i None ≡ Some target → entry ≡ next_to targets last target)
@@ -51,7 +51,7 @@ next_passed targets next i last entry entries e below known one index target fro
 pub same_target : (targets : List (Option ℕ)) (i target other : ℕ) → get_or targets i None ≡ Some target → get_or targets i None ≡ Some other → target ≡ other
 same_target targets i target other here there = cc
 
--- an edge from one on that leads to a state is behind it, where it leads to none
+-- an edge from one on that leads to a state is after it, where it leads to none
 pub beyond : (targets : List (Option ℕ)) (i last index target : ℕ) → last ≡ i + 1 → get_or targets i None ≡ None → i ≤ index
     → get_or targets index None ≡ Some target → last ≤ index
 beyond targets i last index target e here from there =

@@ -69,14 +69,14 @@ module _ {X : Type 0} (key : X → Option ℕ) (lines : X → List ℕ) where
   reached t n j [] found = cc
   reached t n j (x ∷ xs) found = reached_at (is_to t (key x)) t n j x xs refl (reached t (n + 1) j xs) found
 
-  -- the item at a place has the key: its lines stand before those of the items behind it
+  -- the item at a place has the key: its lines stand before those of the items after it
   pub one_shared : (t k : ℕ) (xs : List X) (x : X) → k < length xs → x ≡ get_or xs k x → key x ≡ Some t
       → shared t (drop k xs) ≡ lines x ++ shared t (drop (k + 1) xs)
   one_shared t k xs x below here is =
       ap (shared t) (drop_more xs k x below ∙ ap (λ y. y ∷ drop (k + 1) xs) (sym here))
       ∙ ap (λ b. (if b then lines x else []) ++ shared t (drop (k + 1) xs)) (key_is t (key x) is)
 
-  -- what is known of the next item behind one with a key
+  -- what is known of the next item after one with a key
   abbrev pub IsNext : ℕ → ℕ → List X → Option ℕ → Type 0
   IsNext t k xs next = MatchOption next (shared t (drop (k + 1) xs) ≡ [])
       (λ j. (k < j) × (j < length xs) × (get_or (map key xs) j None ≡ Some t) × (shared t (drop (k + 1) xs) ≡ shared t (drop j xs)))
@@ -96,7 +96,7 @@ module _ {X : Type 0} (key : X → Option ℕ) (lines : X → List ℕ) where
         is.rest ∙ ap (shared t) (drop-drop (j - (k + 1)) (k + 1) xs ∙ ap (λ i. drop i xs) whole),
       )
 
-  -- the first item with a key: its lines and those of the items behind it are all
+  -- the first item with a key: its lines and those of the items after it are all
   pub first_shared : (t k : ℕ) (xs : List X) → next_to (map key xs) 0 t ≡ Some k → shared t xs ≡ shared t (drop k xs)
   first_shared t k xs e =
       let is = reached t 0 k xs e in
@@ -110,7 +110,7 @@ module _ {X : Type 0} (key : X → Option ℕ) (lines : X → List ℕ) where
       let whole : k - 0 ≡ k = omega arith in
       (omega (arith, within), ap (λ i. get_or (map key xs) i None) (sym whole) ∙ is.here)
 
-  -- what is left behind an item, from the next one on
+  -- what is left after an item, from the next one on
   abbrev pub rest_from : ℕ → List X → Option ℕ → List ℕ
   rest_from t xs None = []
   rest_from t xs (Some k) = shared t (drop k xs)

@@ -122,7 +122,7 @@ abbrev pub state_edges_text : List (List ℕ) → (ℕ → Role) → ℕ → Sta
 state_edges_text names role first state =
     let edges = drawn_edges names role first state in numbered (edge_text state.number edges) 0 edges
 
--- the edges of states one behind the other, numbered from a first number on
+-- the edges of states one after the other, numbered from a first number on
 abbrev pub edges_text : List (List ℕ) → (ℕ → Role) → ℕ → List State → List ℕ
 edges_text names role first [] = []
 edges_text names role first (state ∷ states) =

@@ -42,7 +42,7 @@ fn write_with_names(text: &[u8], names: &[ByteString], out: &mut Vec<u8>) -> Res
     write_pending(number, names, out)
 }
 
-/// Passes a byte: a digit goes into the number, and another byte is written behind the name of the number before it.
+/// Passes a byte: a digit goes into the number, and another byte is written after the name of the number before it.
 fn pass(
     number: Option<u32>,
     byte: u8,

@@ -4,7 +4,7 @@ use crate::texts::{raw_in, text_of};
 use omega_raw::{RawAutomaton, RawEdgeRef, RawItem, RawState};
 use std::alloc::Global;
 
-// The number of a refusal and its place, or 0 and the place behind what was read.
+// The number of a refusal and its place, or 0 and the place after what was read.
 fn outcome(alloc: Global, text: &[u8]) -> (u32, usize) {
     match raw_in(alloc, text) {
         Ok((_, place)) => (0, place),
@@ -20,7 +20,7 @@ fn is_outcome(alloc: Global, front: &str, behind: &str, number: u32) -> bool {
     }
 }
 
-// Texts up to the token that is left behind the automaton, and from there on.
+// Texts up to the token that is left after the automaton, and from there on.
 static ACCEPTED: [(&str, &str); 22] = [
     ("HOA: v1 --BODY-- --END--", ""),
     ("HOA: v1 --BODY-- --END-- ", "x"),

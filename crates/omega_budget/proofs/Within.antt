@@ -83,7 +83,7 @@ lifts_on old new budget ran due finished = go ran.lifted.places refl
         (subst (λ (t : List Measure). IsDue old.nodes old.player t due.0) same due.1)) in
         absurd (finished due.0 (edge_from new.nodes due.0 there.1.value.successor there.1.value.listed) there)
 
--- the reports so far are those of a run that ends in the slice behind them
+-- the reports so far are those of a run that ends in the slice after them
 pub reports_so : (mid new : SolverState) (outcome : Outcome) (times every more : ℕ) → mid.lifts ≡ times * every → (0 < times → HasLiftDue mid)
     → Runs mid more new → (new.done ≡ true) ↔ (outcome ≡ Done) → more ≤ every → (outcome ≡ Spent → more < every)
     → AreReports outcome every new.lifts times

@@ -67,7 +67,7 @@ fn over_aliases(alloc: Global, raw: &RawLabel, aliases: &Aliases) -> Result<Vec<
     written(alloc, &expand(alloc, raw, aliases)?)
 }
 
-/// A label behind `<`. A refused request leaves `<` alone, and the label is asked for once more.
+/// A label after `<`. A refused request leaves `<` alone, and the label is asked for once more.
 fn written(alloc: Global, label: &Label) -> Result<Vec<u8>, Refusal> {
     let mut out = Vec::from_slice(alloc, b"<")?;
     match write_label(label, &mut out) {
@@ -183,7 +183,7 @@ fn formula_written(alloc: Global, formula: Result<Acc, Refusal>) -> Result<Vec<u
     }
 }
 
-/// A formula behind `<`. A refused request leaves `<` alone, and the formula is asked for once more.
+/// A formula after `<`. A refused request leaves `<` alone, and the formula is asked for once more.
 fn text_of(alloc: Global, formula: &Acc) -> Result<Vec<u8>, Refusal> {
     let mut out = Vec::from_slice(alloc, b"<")?;
     match write_acc(formula, &mut out) {

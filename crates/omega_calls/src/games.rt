@@ -53,7 +53,7 @@ fn arena_written(alloc: Global, arena: Result<Arena, Refusal>) -> Result<Vec<u8>
     }
 }
 
-/// The game of a text, its predecessors made behind the rest.
+/// The game of a text, its predecessors made after the rest.
 fn completed(alloc: Global, text: &[u8]) -> Result<Game, Refusal> {
     match read_arena(alloc, text) {
         Ok(arena) => arena.with_predecessors(alloc),

@@ -1,6 +1,6 @@
-//! A program that makes one public call of the libraries on two texts, each of them a word behind the call's name, and
+//! A program that makes one public call of the libraries on two texts, each of them a word after the call's name, and
 //! writes what the call gives. Its status is 0, or the number of the refusal; 61 also where a call left something
-//! changed behind a refused request, or where there is no such call. `checks/calls.py` refuses its requests for memory.
+//! changed after a refused request, or where there is no such call. `checks/calls.py` refuses its requests for memory.
 #![tactic(auto)]
 
 mod automata;

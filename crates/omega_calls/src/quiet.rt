@@ -1,4 +1,4 @@
-//! Calls that ask for no memory, behind those that make what they are made on.
+//! Calls that ask for no memory, after those that make what they are made on.
 use crate::lists::{put, put_all, put_answer};
 use omega_acc::{Aliases, Label, acceptance_kind, expand, parity_of, read_label, satisfiable};
 use omega_automaton::Automaton;

@@ -19,7 +19,7 @@ pub(crate) fn called(alloc: Global, call: &str, text: &[u8]) -> Option<Result<Ve
     }
 }
 
-/// The greatest number behind `<`. A refused request leaves `<` alone, and the number is asked for once more.
+/// The greatest number after `<`. A refused request leaves `<` alone, and the number is asked for once more.
 fn number(alloc: Global) -> Result<Vec<u8>, Refusal> {
     let mut out = Vec::from_slice(alloc, b"<")?;
     match write_number(u128::MAX, &mut out) {

@@ -1,4 +1,4 @@
--- Parts that are appended one behind the other.
+-- Parts that are appended one after the other.
 use Rattle.std.proofs.Common.{◌≡◌, ℕ, ◌<◌, List, [], ◌∷◌, ◌++◌, length, codes, refl, ap, ◌∙◌, append_assoc}
 use Rattle.omega_canon.specs.HeaderText.{properties_line}
 use Rattle.omega_canon.specs.Parts.{words}

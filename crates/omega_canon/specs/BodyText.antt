@@ -1,4 +1,4 @@
--- The lines of the body in the canonical text of an automaton: each state, and behind it its edges.
+-- The lines of the body in the canonical text of an automaton: each state, and after it its edges.
 use Rattle.std.specs.Prelude.{ℕ, List, ◌++◌, codes, decimal}
 use Rattle.std.specs.List.{flat_map}
 use Rattle.omega_automaton.specs.declared.edge.Edge.{Edge}

@@ -1,4 +1,4 @@
--- The canonical text of a stream: the canonical texts of its automata one behind the other;
+-- The canonical text of a stream: the canonical texts of its automata one after the other;
 -- segments that are aborted are left out.
 use Rattle.std.specs.Prelude.{ℕ, List, [], ◌∷◌}
 use Rattle.std.specs.List.{flat_map}

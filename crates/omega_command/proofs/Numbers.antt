@@ -51,7 +51,7 @@ whole text unsigned = go (slice_index text 0 == 43) refl
     go true is = absurd (unsigned (inl (eqb-true _ _ is)))
     go false is = rw is refl
 
--- the same of what `std` reads, which is the text behind a plus
+-- the same of what `std` reads, which is the text after a plus
 pub told_behind : (most : ℕ) (text : List ℕ) (why : IntErrorKind) → (BeginsWithSign text → ⊥)
     → IsParseIntError 10 text (without_leading_plus text) kind.PosOverflow why
     → (IsNumeral 10 (without_leading_plus text) × (digits_value 10 (without_leading_plus text) < 2 ^ 64) → ⊥)

@@ -16,7 +16,7 @@ bare_before_or (acc.fin negated set) = refl
 bare_before_or (acc.conjunction left right) = refl
 bare_before_or (acc.disjunction left right) = refl
 
--- nor does an atom behind it
+-- nor does an atom after it
 pub with_atom : (tree : AccTree) (negated : Bool) (set : ℕ)
     → acc_written (acc.disjunction tree (acc.inf negated set)) ≡ raw_acc.disjunction (acc_written tree) (raw_acc.atom (codes "Inf") negated set)
 with_atom tree negated set = ap (λ (f : RawAccTree). raw_acc.disjunction f (raw_acc.atom (codes "Inf") negated set)) (bare_before_or tree)

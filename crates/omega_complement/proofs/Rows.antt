@@ -7,7 +7,7 @@ use Rattle.omega_automaton.specs.declared.edge.Edge.{Edge}
 use Rattle.omega_complement.specs.Labels.{each_by_index}
 
 module _ {X : Type 0} (given : ℕ → Edge → X) where
-  -- one edge behind others
+  -- one edge after others
   pub each_push : (first : ℕ) (edges : List Edge) (edge : Edge)
       → each_by_index given first (edges ++ edge ∷ []) ≡ each_by_index given first edges ++ given (first + length edges) edge ∷ []
   each_push first [] edge = let e : first ≡ first + 0 = omega arith in ap (λ i. given i edge ∷ []) e
@@ -16,7 +16,7 @@ module _ {X : Type 0} (given : ℕ → Edge → X) where
       ap (λ (rest : List X). given first x ∷ rest)
       (each_push (first + 1) edges edge ∙ ap (λ i. each_by_index given (first + 1) edges ++ given i edge ∷ []) e)
 
-  -- the edge at a place behind those before it
+  -- the edge at a place after those before it
   pub each_more : (edges : List Edge) (at : ℕ) (edge : Edge) → at < length edges → edge ≡ get_or edges at edge
       → each_by_index given 0 (take (at + 1) edges) ≡ each_by_index given 0 (take at edges) ++ given at edge ∷ []
   each_more edges at edge below here =
@@ -26,7 +26,7 @@ module _ {X : Type 0} (given : ℕ → Edge → X) where
       ∙ each_push 0 (take at edges) edge
       ∙ ap (λ i. each_by_index given 0 (take at edges) ++ given i edge ∷ []) long
 
-  -- what is given for it behind what is given for those
+  -- what is given for it after what is given for those
   pub each_grown : (edges : List Edge) (at : ℕ) (edge : Edge) (items : List X) (x : X) → at < length edges → edge ≡ get_or edges at edge
       → items ≡ each_by_index given 0 (take at edges) → x ≡ given at edge → items ++ x ∷ [] ≡ each_by_index given 0 (take (at + 1) edges)
   each_grown edges at edge items x below here so_far is =

@@ -11,7 +11,7 @@ use Rattle.omega_complement.specs.Letters.{AreExclusive, LacksLetter}
 use Rattle.omega_complement.specs.Written.{IsTurned}
 use Rattle.omega_complement.specs.private.Turned.{AreTurned}
 
--- one number behind others
+-- one number after others
 pub range_push : (first count : ℕ) → range_with_len first (suc count) ≡ range_with_len first count ++ (first + count) ∷ []
 range_push first zero = let e : first ≡ first + 0 = omega arith in ap (λ n. n ∷ []) e
 range_push first (suc count) =

@@ -72,7 +72,7 @@ sink_state a = record {
   edges = record { label = Some (raw_label.constant true); targets = a.states ∷ []; marks = Some (a.sets ∷ []) } ∷ [];
 }
 
--- the states behind those of the automaton
+-- the states after those of the automaton
 abbrev pub sinks : Description → Bool → List RawState
 sinks a sink = if sink then sink_state a ∷ [] else []
 

@@ -20,7 +20,7 @@ use std::alloc::Global;
 /// States keep their numbers and names, edges their order and targets; labels and marks of states move to their edges,
 /// and edges that are written without a label get that of their valuation. The acceptance is the dual one. Where a
 /// state lacks letters it has a further edge for them, to a further state, the sink, which keeps each word and is in a
-/// set of its own, behind the others: then the acceptance is `dual | Inf(set)`. Without a start the sink is the start.
+/// set of its own, after the others: then the acceptance is `dual | Inf(set)`. Without a start the sink is the start.
 ///
 /// Refusals, the first that applies: 41 where a start or an edge lists several states; 55 where a further state, a
 /// further edge for each state, a further set or, as it is written, a formula one deeper would pass a limit

@@ -54,7 +54,7 @@ fn needs_sink(automaton: &Automaton, lacks: bool) -> bool
     }
 }
 
-/// The states, and the sink behind them if there is one. 60 alone.
+/// The states, and the sink after them if there is one. 60 alone.
 fn with_sink(
     alloc: Global,
     automaton: &Automaton,

@@ -57,7 +57,7 @@ module _ (a : Description) (is_automaton : IsAutomaton a) where
       All-contains (λ (m : ℕ). m < a.states) (to ∷ []) to
       (subst (AreBelow a.states) move.enters (edge_of n move.index move.edge move.there).1.targets.below) (0, omega arith, refl)
 
-  -- no move is in the set behind all
+  -- no move is in the set after all
   pub move_unmarked : (n : ℕ) (held : ℕ → Bool) (to : ℕ) (marks : List ℕ) → IsMove a n held to marks → holds a.sets marks ≡ true → ⊥
   move_unmarked n held to marks move e =
       go (Contains-append_cases (state_at a n).marks move.edge.marks a.sets (held_contains ((state_at a n).marks ++ move.edge.marks) a.sets (ap (holds a.sets) (sym move.marked) ∙ e)))

@@ -5,7 +5,7 @@ ghost use Rattle.omega_components.specs.private.Lists.{list_at, AreStarts};
 use std::alloc::{AllocError, Global};
 use std::marker::Model;
 
-/// Groups of edges, each with its edges one behind the other.
+/// Groups of edges, each with its edges one after the other.
 #[derive(Debug, Drop)]
 pub struct Groups {
     // The edges of all groups, and where each group starts.
@@ -35,7 +35,7 @@ impl Groups {
         }
     }
 
-    /// Adds a group behind the others.
+    /// Adds a group after the others.
     pub(crate) fn push(&mut self, group: &[u32]) -> Result<(), AllocError>
         ensures ok { OnOk result (self.new ≡ self.old ++ group.now ∷ []) }
         ensures err { OnErr result (self.new ≡ self.old) }
@@ -48,7 +48,7 @@ impl Groups {
         Ok(())
     }
 
-    /// Adds a group behind the others unless it is empty.
+    /// Adds a group after the others unless it is empty.
     pub(crate) fn add(&mut self, group: &[u32]) -> Result<(), AllocError>
         ensures some { OnOk result (0 < length group.now → self.new ≡ self.old ++ group.now ∷ []) }
         ensures none { OnOk result (length group.now ≡ 0 → self.new ≡ self.old) }
@@ -76,7 +76,7 @@ impl Groups {
     }
 }
 
-/// The list at an index of those that lie one behind the other.
+/// The list at an index of those that lie one after the other.
 fn list_in<'a>(starts: &[usize], items: &'a [u32], index: usize) -> &'a [u32]
     requires within { index < length starts.now }
     requires starts { AreStarts starts.now (length items.now) }

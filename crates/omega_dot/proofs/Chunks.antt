@@ -12,7 +12,7 @@ pub text_written : (left text rest out after whole : List ℕ) → escaped left 
 text_written left text rest out after whole front step so_far =
     ap (λ list. list ++ escaped rest) step ∙ append_assoc out text (escaped rest) ∙ ap (λ list. out ++ list) (sym front) ∙ so_far
 
--- a chunk of text, and U+FFFD for the bytes of no character behind it
+-- a chunk of text, and U+FFFD for the bytes of no character after it
 pub chunk_written : (left valid invalid rest out between after whole : List ℕ) → left ≡ valid ++ (invalid ++ rest) → length valid ≡ utf8_valid_len left
     → length invalid ≡ utf8_invalid_len (drop (utf8_valid_len left) left) → 0 < length invalid
     → between ≡ out ++ escaped_bytes valid → after ≡ between ++ replacement_bytes → out ++ escaped left ≡ whole → after ++ escaped rest ≡ whole

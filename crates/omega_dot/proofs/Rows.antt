@@ -1,4 +1,4 @@
--- Texts of items one behind the other, numbered or not: of one item more, and of two lists.
+-- Texts of items one after the other, numbered or not: of one item more, and of two lists.
 use Rattle.std.proofs.Common.{◌≡◌, ℕ, ◌+◌, ◌<◌, ◌≤◌, List, [], ◌∷◌, ◌++◌, length, take, get_or, sym, ap, ◌∙◌, append_assoc, arith}
 use Rattle.std.proofs.lemmas.List.{append-nil, flat_map_more, length-take-le, take_all, take_more}
 use Rattle.std.specs.List.{flat_map}
@@ -23,7 +23,7 @@ numbered_more text first xs i d below =
     ∙ ap (λ n. numbered text first (take i xs) ++ (text (first + n) (get_or xs i d) ++ [])) (length-take-le i xs within)
     ∙ ap (λ list. numbered text first (take i xs) ++ list) (append-nil (text (first + i) (get_or xs i d)))
 
--- one text more is written behind the others
+-- one text more is written after the others
 pub row_more : {X : Type 0} (text : ℕ → X → List ℕ) (first : ℕ) (xs : List X) (i : ℕ) (d : X) (front before after : List ℕ) → i < length xs
     → before ≡ front ++ numbered text first (take i xs) → after ≡ before ++ text (first + i) (get_or xs i d)
     → after ≡ front ++ numbered text first (take (i + 1) xs)
@@ -40,7 +40,7 @@ first_row_more text xs i d front before after below so_far step =
     let e : i ≡ 0 + i = omega arith in
     row_more text 0 xs i d front before after below so_far (step ∙ ap (λ n. before ++ text n (get_or xs i d)) e)
 
--- all texts are written, and what is behind them
+-- all texts are written, and what is after them
 pub rows_end : {X : Type 0} (text : ℕ → X → List ℕ) (xs : List X) (i : ℕ) (front back before after : List ℕ) → length xs ≤ i
     → before ≡ front ++ numbered text 0 (take i xs) → after ≡ before ++ back
     → after ≡ front ++ (numbered text 0 xs ++ back)

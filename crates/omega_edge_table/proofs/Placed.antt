@@ -84,7 +84,7 @@ module _ (a : Description) (at : ℕ) (state : State) (places : List EdgePlace) 
       subst (λ n. EdgeStandsAt a n place) sum (subst (EdgeStandsAt a (length places + k)) (sym own.1) (own_stands k own.0)))
       (cases_lt number (length places))
 
-  -- the edges behind this state
+  -- the edges after this state
   stands_more : (k : ℕ) → StandsFrom a.defined (length places + length state.edges + k) (drop (at + 1) a.defined) k
   stands_more k =
       let later = stands_later state (drop (at + 1) a.defined) a.defined (length places + (length state.edges + k)) (length state.edges + k) (omega arith) (split (length state.edges + k)) in
@@ -110,7 +110,7 @@ module _ (a : Description) (at : ℕ) (state : State) (places : List EdgePlace) 
         stands = λ k. subst (λ n. StandsFrom a.defined (n + k) (drop (at + 1) a.defined) k) (sym longer) (stands_more k);
       })
 
--- behind the last state all edges have places
+-- after the last state all edges have places
 pub all_placed : (a : Description) (at : ℕ) (places : List EdgePlace) → length a.defined ≤ at → ArePlacedTo a at places → ArePlaces a places
 all_placed a at places past placed =
     let none : length (flat_map edges_from (drop at a.defined)) ≡ 0 = ap (λ (states : List State). length (flat_map edges_from states)) (none_left a.defined at past) in

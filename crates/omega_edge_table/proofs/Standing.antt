@@ -47,7 +47,7 @@ pub index_here : (state : State) (left : List State) (states : List State) (numb
 index_here state left states number k below stands =
     sym (stands.index ∙ ap (λ b. if b then k else index_in left (k - length state.edges)) (lt-ltb k (length state.edges) below))
 
--- or behind it
+-- or after it
 pub stands_later : (state : State) (left : List State) (states : List State) (number k : ℕ) → length state.edges ≤ k → StandsFrom states number (state ∷ left) k
     → StandsFrom states number left (k - length state.edges)
 stands_later state left states number k past stands =
@@ -74,7 +74,7 @@ split_at states i state number k below here stands =
       index = stands.index ∙ ap (λ (left : List State). index_in left k) e;
     }
 
--- nothing is left behind the last
+-- nothing is left after the last
 pub none_left : {X : Type 0} (xs : List X) (i : ℕ) → length xs ≤ i → drop i xs ≡ []
 none_left [] zero past = refl
 none_left [] (suc i) past = refl

@@ -11,7 +11,7 @@ use Rattle.omega_acc.specs.declared.formula.kind.AccKind.TheVariants.{Parity, Ge
 use Rattle.omega_acc.specs.declared.formula.kind.ParityKind.{ParityKind}
 use Rattle.omega_empty.specs.Counters.{counter_after, counters, priority_at_counter}
 
--- the counter behind marks, one after the other
+-- the counter after marks, one after the other
 abbrev pub counter_behind : AccKind → ℕ → List (List ℕ) → ℕ
 counter_behind kind counter [] = counter
 counter_behind kind counter (marks ∷ rest) = counter_behind kind (counter_after kind counter marks) rest

@@ -10,7 +10,7 @@ abbrev pub counters : AccKind → ℕ
 counters (Parity kind) = 1
 counters (GenBuchi sets) = sets
 
--- a counter waits for its set: at marks that hold it the next counter comes, and behind the last the first
+-- a counter waits for its set: at marks that hold it the next counter comes, and after the last the first
 abbrev pub counter_after : AccKind → ℕ → List ℕ → ℕ
 counter_after (Parity kind) counter marks = counter
 counter_after (GenBuchi sets) counter marks =

@@ -25,7 +25,7 @@ state_id a counter state = counter * span a + state
 abbrev pub edge_id : Description → ℕ → ℕ → ℕ
 edge_id a counter number = counter * span a + a.states + number
 
--- the identifier of the sink, behind those of all counters
+-- the identifier of the sink, after those of all counters
 abbrev pub sink_id : AccKind → Description → ℕ
 sink_id kind a = counters kind * span a
 

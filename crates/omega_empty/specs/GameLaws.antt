@@ -8,7 +8,7 @@ use Rattle.omega_game.specs.Winning.{InRegion, IsClosedWalk, IsWalk, end_of, gre
 use Rattle.omega_empty.specs.EmptinessGame.{IsEmptinessGame, span}
 use Rattle.omega_empty.specs.Lasso.{AcceptsFrom, IsAcceptingLasso, IsStart}
 
--- the identifier of the node at a place within its counter: a state, or an edge's number behind all states
+-- the identifier of the node at a place within its counter: a state, or an edge's number after all states
 abbrev pub within_counter : Description → List Node → ℕ → ℕ
 within_counter a game v = identifier_at game v % span a
 

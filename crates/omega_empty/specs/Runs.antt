@@ -12,7 +12,7 @@ pub record IsRun (a : Description) (states edges : ℕ → ℕ) : Type 0 where
   pub begins : IsStart a (states 0)
   pub steps : (i : ℕ) → IsStep a (states i) (edges i) (states (i + 1))
 
--- at or behind every index some marks hold the set, or with `!` lack it
+-- at or after every index some marks hold the set, or with `!` lack it
 abbrev pub ForEver : (ℕ → List ℕ) → Bool → ℕ → Type 0
 ForEver marks negated set = (i : ℕ) → (j : ℕ) × (i ≤ j) × IsTrue (meets negated set (marks j))
 

@@ -112,7 +112,7 @@ fn lasso_from(
     lasso_of(alloc, knotted.edges.as_slice(), knotted.knot)
 }
 
-/// The lasso whose cycle begins behind so many of the edges. 60 alone.
+/// The lasso whose cycle begins after so many of the edges. 60 alone.
 fn lasso_of(alloc: Global, edges: &[u32], knot: usize) -> Result<Verdict, Refusal>
     requires { knot ≤ length edges.now }
     ensures lasso { IfOk result (λ verdict. verdict ≡ Verdict.Lasso (take knot edges.now) (drop knot edges.now)) }

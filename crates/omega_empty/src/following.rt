@@ -10,7 +10,7 @@ use omega_budget::Found;
 use omega_game::Arena;
 use std::alloc::Global;
 
-/// Edges passed one behind the other, of which the last leads back to where the knot's begins.
+/// Edges passed one after the other, of which the last leads back to where the knot's begins.
 #[derive(Drop)]
 pub(crate) struct Knotted {
     /// The numbers of the edges.

@@ -30,7 +30,7 @@ pub(crate) fn edge_priority(kind: AccKind, counter: u32, state: &State, edge: &E
     }
 }
 
-/// The counter behind an edge at a counter.
+/// The counter after an edge at a counter.
 pub(crate) fn counter_after(kind: AccKind, counter: u32, state: &State, edge: &EdgeRef<'_>) -> u32
     requires { counter < counters kind }
     ensures value { result ≡ counter_after kind counter (state.now.marks ++ edge.now.marks) }

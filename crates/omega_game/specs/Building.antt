@@ -50,7 +50,7 @@ has_undefined specs = list_any (λ spec. list_any (λ successor. specified_times
 abbrev pub listed_successors : List NodeSpec → ℕ
 listed_successors specs = sum_by (λ spec. length spec.successors) specs
 
--- the fault of specifications behind a header that is too small or not:
+-- the fault of specifications after a header that is too small or not:
 -- of those that apply the one with the least number, or none
 abbrev pub fault_with : Bool → List NodeSpec → Option GameFault
 fault_with small specs =
@@ -61,7 +61,7 @@ fault_with small specs =
     if nat_lt most_successors (listed_successors specs) then Some TooManyEdges else
     None
 
--- the fault of specifications behind no header
+-- the fault of specifications after no header
 abbrev pub game_fault_of : List NodeSpec → Option GameFault
 game_fault_of specs = fault_with false specs
 

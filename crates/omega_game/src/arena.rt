@@ -20,7 +20,7 @@ pub struct Arena {
     priorities: Vec<u32>,
     owners: Vec<Player>,
     successors: Lists<u32>,
-    // The name of each node behind an opening quote, so that an empty name differs from none. It ends with the
+    // The name of each node after an opening quote, so that an empty name differs from none. It ends with the
     // last node that is named.
     quoted: Lists<u8>,
     priority_counts: Vec<PriorityCount>,

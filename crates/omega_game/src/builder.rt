@@ -16,8 +16,8 @@ use omega_text::{GameFault, Refusal};
 use std::alloc::{AllocError, Global};
 use std::marker::Model;
 
-/// Specifications that are handed over one by one, kept flat: no vector for each node. Behind 2^32 successors, or
-/// behind names of 2^32 bytes, the next is refused with `Memory` too, since a place in them takes four bytes.
+/// Specifications that are handed over one by one, kept flat: no vector for each node. After 2^32 successors, or
+/// after names of 2^32 bytes, the next is refused with `Memory` too, since a place in them takes four bytes.
 #[derive(Drop)]
 pub struct GameBuilder {
     ids: Vec<u32>,
@@ -25,7 +25,7 @@ pub struct GameBuilder {
     owners: Vec<Player>,
     // The identifiers of the successors.
     successors: Lists<u32>,
-    // The name of each specification behind an opening quote, as in a game.
+    // The name of each specification after an opening quote, as in a game.
     quoted: Lists<u8>,
 }
 

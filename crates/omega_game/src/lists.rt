@@ -10,7 +10,7 @@ use indexmap::IndexSet;
 use std::alloc::{AllocError, Global};
 use std::marker::Model;
 
-/// Lists that lie one behind the other in one vector, with the place where each starts.
+/// Lists that lie one after the other in one vector, with the place where each starts.
 #[derive(Drop)]
 pub(crate) struct Lists<T> {
     starts: Vec<u32>,
@@ -93,7 +93,7 @@ impl<T: Copy> Lists<T> {
         Ok(lists)
     }
 
-    /// Adds a list behind the others. Refused also where it would start at 2^32 or beyond: a start takes four bytes.
+    /// Adds a list after the others. Refused also where it would start at 2^32 or beyond: a start takes four bytes.
     pub(crate) fn push_list(&mut self, list: &[T]) -> Result<(), AllocError>
         ensures ok { OnOk result (self.new ≡ self.old ++ list.now ∷ []) }
         ensures err { OnErr result (self.new ≡ self.old) }
@@ -107,7 +107,7 @@ impl<T: Copy> Lists<T> {
         Ok(())
     }
 
-    /// Adds a list of one item behind the others. Refused where `push_list` is.
+    /// Adds a list of one item after the others. Refused where `push_list` is.
     #[inline(always)]
     pub(crate) fn push_single(&mut self, item: T) -> Result<(), AllocError>
         ensures ok { OnOk result (self.new ≡ self.old ++ (item ∷ []) ∷ []) }
@@ -132,7 +132,7 @@ impl<T: Copy> Lists<T> {
 }
 
 impl Lists<u8> {
-    /// Replaces the last list by an item and those behind it.
+    /// Replaces the last list by an item and those after it.
     pub(crate) fn replace_last(&mut self, first: u8, rest: &[u8]) -> Result<(), AllocError>
         requires { 0 < length self.old }
         ensures ok { OnOk result (self.new ≡ slice_set self.old (length self.old - 1) (first ∷ rest.now)) }
@@ -155,7 +155,7 @@ impl Lists<u32> {
     }
 }
 
-/// Replaces what stands from a place on by an item and those behind it.
+/// Replaces what stands from a place on by an item and those after it.
 fn replace_end(items: &mut Vec<u8>, start: usize, first: u8, rest: &[u8]) -> Result<(), AllocError>
     requires { start ≤ vec_len items.old }
     ensures ok { OnOk result (items.new.items ≡ take start items.old.items ++ (first ∷ rest.now)) }
@@ -168,7 +168,7 @@ fn replace_end(items: &mut Vec<u8>, start: usize, first: u8, rest: &[u8]) -> Res
     Ok(())
 }
 
-/// The list at an index of those that lie one behind the other.
+/// The list at an index of those that lie one after the other.
 fn list_in<'a, T>(starts: &[u32], items: &'a [T], index: usize) -> &'a [T]
     requires within { index < length starts.now }
     requires starts { AreStarts starts.now (length items.now) }

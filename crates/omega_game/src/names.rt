@@ -15,7 +15,7 @@ pub(crate) fn name_at(quoted: &Lists<u8>, place: usize) -> Option<&[u8]>
     }
 }
 
-/// What stands behind an opening quote; none where there is no quote.
+/// What stands after an opening quote; none where there is no quote.
 fn behind_quote(quoted: &[u8]) -> Option<&[u8]>
     ensures { option_map (λ name. name.now) result ≡ name_in_column quoted.now }
 {

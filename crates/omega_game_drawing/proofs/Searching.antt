@@ -80,7 +80,7 @@ module _ (nodes : List Node) (depth : Option ℕ) (place : ℕ) where
       let e : rest + (steps + 1) ≡ (rest + 1) + steps = omega arith in
       ap {B = Option ℕ} Some e ∙ ap (option_map (λ rest. rest + steps)) less ∙ counted
 
-  -- the search goes on with what is behind the front
+  -- the search goes on with what is after the front
   pub search_goes_on : (drawn : List Bool) (front : List ℕ) (left : Option ℕ) (drawn' : List Bool) (front' : List ℕ) (left' : Option ℕ)
       → IsGame nodes → place < length nodes → IsSearch drawn front left → AreEntered (IsBehind nodes front) drawn [] drawn' front'
       → option_map (λ rest. rest + 1) left' ≡ left → IsSearch drawn' front' left'

@@ -1,7 +1,7 @@
--- Texts written one behind another.
+-- Texts written one after another.
 use Rattle.std.proofs.Common.{◌≡◌, ℕ, List, ◌++◌, decimal, ap, ◌∙◌, append_assoc}
 
--- a number between two texts, behind a front
+-- a number between two texts, after a front
 pub number_between : (front before behind one two three : List ℕ) (n number : ℕ) → n ≡ number → one ≡ front ++ before → two ≡ one ++ decimal n
     → three ≡ two ++ behind → three ≡ front ++ (before ++ (decimal number ++ behind))
 number_between front before behind one two three n number is first second third =

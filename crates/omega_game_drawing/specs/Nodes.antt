@@ -56,7 +56,7 @@ edge_to nodes drawn choice node place = if is_drawn drawn place then successor_l
 abbrev pub leads_on : List Bool → Node → Bool
 leads_on drawn node = list_any (λ place. not (is_drawn drawn place)) node.successors
 
--- `...` behind a node
+-- `...` after a node
 abbrev pub dots : Node → List ℕ
 dots node = codes "  more" ++ (decimal node.identifier ++ codes " [shape=plaintext, label=\"...\"];\n")
 

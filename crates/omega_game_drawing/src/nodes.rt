@@ -225,7 +225,7 @@ fn leads_on(game: &Arena, drawn: &[bool], place: u32) -> bool
     false
 }
 
-/// Appends `...` behind the node at a place.
+/// Appends `...` after the node at a place.
 fn write_dots(game: &Arena, place: u32, out: &mut Vec<u8>) -> Result<(), Refusal>
     requires { place < length game.now }
     ensures ok { OnOk result (out.new.items ≡ out.old.items ++ dots (node_at game.now place)) }

@@ -188,7 +188,7 @@ fn the_greatest_of_a_line_or_a_cycle_decides(rt: HostRuntime) {
     }
 }
 
-/// Adds a cycle of falling odd priorities behind one even priority above them all.
+/// Adds a cycle of falling odd priorities after one even priority above them all.
 fn add_falling(builder: &mut GameBuilder, nodes: u16) -> Result<(), Refusal> {
     let last = u32::from(nodes);
     add(builder, 0, 2 * last + 2, Zero, 1)?;

@@ -93,7 +93,7 @@ fn assert_game(rt: &impl Abort, alloc: Global, rows: &[Row], asked: &[Asked]) {
     }
 }
 
-// A cycle behind the listed place, one through it, and the shortest of several ways.
+// A cycle after the listed place, one through it, and the shortest of several ways.
 #[test]
 fn small_games(rt: HostRuntime) {
     assert_game(&rt, rt.alloc(), &ODD_BEHIND, &ODD_BEHIND_ASKED);

@@ -31,7 +31,7 @@ fn all_places(alloc: Global, game: &Game) -> Result<Vec<u32>, Refusal> {
     Ok(places)
 }
 
-/// The number behind another in a pseudo-random order.
+/// The number after another in a pseudo-random order.
 fn next(number: u64) -> u64 {
     number
         .wrapping_mul(6_364_136_223_846_793_005)

@@ -1,4 +1,4 @@
-//! The options of the subcommands. What their texts stand for is judged behind `clap`.
+//! The options of the subcommands. What their texts stand for is judged after `clap`.
 ghost use Rattle.std.specs.Prelude.{◌≡◌, false};
 ghost use Rattle.clap.specs.Words.{rule_of};
 ghost use Rattle.omega_help.specs.private.building.Building.{rule_for};

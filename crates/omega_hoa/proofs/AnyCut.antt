@@ -15,7 +15,7 @@ use Rattle.omega_hoa.specs.declared.item.Item.{Item}
 use Rattle.omega_hoa.proofs.OneStream.{stream_faults_one, stream_unrefused, streams_one}
 use Rattle.omega_hoa.proofs.Readings.{Readings}
 
--- the bytes are a stream with these items, or refused behind them
+-- the bytes are a stream with these items, or refused after them
 abbrev IsEnd : List ℕ → List Item → Option Refusal → Type 0
 IsEnd seen items None = IsStreamText seen items
 IsEnd seen items (Some refusal) = IsStreamFault seen items refusal
@@ -39,7 +39,7 @@ ended seen items kept None within fed answered = answered
 ended seen items kept (Some refusal) within fed answered =
     refused_at_end seen items kept refusal kept.refused (λ long. within (ap (λ said. Some said) long)) fed answered
 
--- pieces that were taken behind others
+-- pieces that were taken after others
 taken_behind : (pieces : List (List ℕ)) (old new : Kept) (seen : List ℕ) (before items : List Item) → IsFed seen before old → TakesPieces old pieces items new
     → IsFed (seen ++ bytes_of pieces) (before ++ items) new
 taken_behind [] old new seen before items fed taken =

@@ -12,7 +12,7 @@ use Rattle.omega_text.specs.hoa.Cut.IsGap.{nothing}
 use Rattle.omega_text.specs.hoa.Format.{hoa_format}
 
 module _ {Kind : Type 0} (format : TextFormat Kind) where
-  -- a cut of tokens one behind the other is that of the first, and of the others from where it ends
+  -- a cut of tokens one after the other is that of the first, and of the others from where it ends
   pub cuts_split : (source : List ℕ) (from to : ℕ) (front back : List (Lexeme Kind)) → Cuts format source from (front ++ back) to
       → (middle : ℕ) × Cuts format source from front middle × Cuts format source middle back to
   cuts_split source from to [] back cuts = (from, refl, cuts)
@@ -39,7 +39,7 @@ module _ {Kind : Type 0} (format : TextFormat Kind) where
   cuts_end source from one other (lexeme ∷ lexemes) here there = cuts_end source lexeme.span.end one other lexemes here.1 there.1
 
 module _ {Kind : Type 0} (format : TextFormat Kind) (exact : GoesOneWay format) where
-  -- a cut ends where it begins or behind it, within the text
+  -- a cut ends where it begins or after it, within the text
   pub cuts_forward : (source : List ℕ) (from to : ℕ) (lexemes : List (Lexeme Kind)) → from ≤ length source → Cuts format source from lexemes to
       → (from ≤ to) × (to ≤ length source)
   cuts_forward source from to [] within cuts = (omega (arith, cuts), omega (arith, cuts))
@@ -126,7 +126,7 @@ part_cut exact source base to lexemes inside cuts =
       };
     }
 
--- what is the same from a place on is so from each place behind it
+-- what is the same from a place on is so from each place after it
 pub same_further : (one other : List ℕ) (from to : ℕ) → from ≤ to → drop from one ≡ drop from other → drop to one ≡ drop to other
 same_further one other from to further same =
     let place : from + (to - from) ≡ to = omega arith in
@@ -145,7 +145,7 @@ same_follows one other from lexeme same follows = record {
   end = follows.end;
 }
 
--- and so do tokens one behind the other
+-- and so do tokens one after the other
 pub same_cuts : GoesOneWay hoa_format → (one other : List ℕ) (from to : ℕ) (lexemes : List (Lexeme HoaKind)) → drop from one ≡ drop from other
     → Cuts hoa_format one from lexemes to → Cuts hoa_format other from lexemes to
 same_cuts exact one other from to [] same cuts = cuts

@@ -6,7 +6,7 @@ use Rattle.omega_hoa.specs.Stream.{IsItemOf, IsOpen, IsSegment, IsStream, NoneEn
 use Rattle.omega_hoa.specs.declared.item.Item.{Item}
 use Rattle.omega_hoa.proofs.Cutting.{moved}
 
--- a segment behind segments
+-- a segment after segments
 pub stream_push : (front segment : List (Lexeme HoaKind)) (items : List Item) (item : Item) → IsStream front items → IsItemOf segment item
     → IsStream (front ++ segment) (items ++ item ∷ [])
 stream_push front segment [] item stream of = (segment, [], ap (λ lexemes. lexemes ++ segment) stream ∙ sym (append-nil segment), of, refl)

@@ -26,7 +26,7 @@ finished_cuts : (fault : Option TextFault) (seen : List ℕ) (lexemes : List (Le
 finished_cuts None seen lexemes cut = (cut.end, cut.cuts)
 finished_cuts (Some fault) seen lexemes faults = (faults.end, faults.cuts)
 
--- a fault behind divided tokens
+-- a fault after divided tokens
 faults_behind : (seen : List ℕ) (lexemes : List (Lexeme HoaKind)) (items : List Item) (begins : ℕ) (inside : Bool) (fault : TextFault) → IsDivided seen lexemes items begins inside
     → FaultsBehind seen lexemes fault → IsStreamFault seen items (Text fault)
 faults_behind seen lexemes items begins inside fault divided faults = record {
@@ -38,7 +38,7 @@ faults_behind seen lexemes items begins inside fault divided faults = record {
   refused = fault_behind seen divided.rest faults.end inside fault divided.behind faults.faults;
 }
 
--- a token behind whole segments that is not `HOA:`
+-- a token after whole segments that is not `HOA:`
 stray_behind : (seen : List ℕ) (lexemes others : List (Lexeme HoaKind)) (items : List Item) (begins to : ℕ) (token : PlacedToken) → IsDivided seen lexemes items begins false
     → Cuts hoa_format seen 0 (lexemes ++ lexeme_in seen token ∷ others) to → (token.kind ≡ HeaderName → ⊥) → IsStreamFault seen items (Text (Syntax token.span.start))
 stray_behind seen lexemes others items begins to token divided cuts other =

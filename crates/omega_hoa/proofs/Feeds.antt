@@ -1,4 +1,4 @@
--- A piece of a stream, behind the bytes before.
+-- A piece of a stream, after the bytes before.
 use Rattle.std.proofs.Common.{◌≡◌, ℕ, ◌+◌, ◌-◌, ◌≤◌, ◌<◌, Bool, false, Option, None, Some, List, [], ◌++◌, length, take, drop, refl, sym, ap, subst, ◌∙◌, inl, inr, arith, append_assoc, append-nil, length-append, length-drop}
 use Rattle.std.proofs.lemmas.List.{drop-append-le, drop-drop, drop_at, length-take-le, take-append-drop, take_all, take_at}
 use Rattle.std.specs.Prelude.{◌≢◌, Result, Ok, Err, IfErr, MatchOption, OnOk}
@@ -74,7 +74,7 @@ too_long seen items kept piece taken long = inl (
   },
 )
 
--- what is refused so far is so with more bytes behind it
+-- what is refused so far is so with more bytes after it
 refused_longer : (seen piece : List ℕ) (items : List Item) (kept : Kept) (refusal : Refusal) → IsRefusedSoFar seen items kept refusal → IsRefusedSoFar (seen ++ piece) items kept refusal
 refused_longer seen piece items kept refusal refused = elim refused [
   | inl past ↦ inl (
@@ -136,7 +136,7 @@ module _ (exact : GoesOneWay hoa_format) (seen : List ℕ) (items : List Item) (
   same_with rest = drop-append-le kept.begins known.seen rest begins_inside.0 ∙ ap (λ bytes. bytes ++ rest) same_behind
       ∙ sym (drop-append-le kept.begins seen rest begins_inside.1)
 
-  -- those behind the whole segments stand in both
+  -- those after the whole segments stand in both
   known_behind : (rest : List ℕ) → Cuts hoa_format (known.seen ++ rest) kept.begins known.divided.rest at.end
   known_behind rest =
       let all = subst (λ ls. Cuts hoa_format (known.seen ++ rest) 0 ls at.end) known.divided.split (at.cuts rest tt) in

@@ -17,7 +17,7 @@ use Rattle.omega_hoa.specs.Laws.{FillsSegment}
 use Rattle.omega_hoa.specs.Stream.{Opens}
 use Rattle.omega_hoa.proofs.Writing.{written_ends}
 
--- what does not go on with an operator does not without the tokens behind it
+-- what does not go on with an operator does not without the tokens after it
 ends_first : (front rest : List (Lexeme HoaKind)) → EndsThere (front ++ rest) → EndsThere front
 ends_first [] rest ends = tt
 ends_first (lexeme ∷ front) rest ends = ends

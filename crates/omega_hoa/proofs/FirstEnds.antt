@@ -41,7 +41,7 @@ open_unended lexemes begun = subst NoneEnds (sym begun.split) (ap is_end begun.o
 pub segment_split : (mark : HoaKind) (segment rest : List (Lexeme HoaKind)) → (is : IsSegment mark segment) → segment ++ rest ≡ is.inside ++ is.last ∷ rest
 segment_split mark segment rest is = ap (λ all. all ++ rest) is.split ∙ append_assoc is.inside (is.last ∷ []) rest
 
--- two segments at the front of the same tokens are one, with the same mark and the same tokens behind
+-- two segments at the front of the same tokens are one, with the same mark and the same tokens after
 pub record SegmentsAreOne (mark other : HoaKind) (segment front rest others : List (Lexeme HoaKind)) : Type 0 where
   pub same : segment ≡ front
   pub behind : rest ≡ others

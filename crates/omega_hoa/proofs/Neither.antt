@@ -24,7 +24,7 @@ use Rattle.omega_hoa.proofs.Cutting.{cuts_split}
 use Rattle.omega_hoa.proofs.Dividing.{ended, stream_push}
 use Rattle.omega_hoa.proofs.Places.{first_start}
 
--- a mark that ends a segment, and what stands before and behind it
+-- a mark that ends a segment, and what stands before and after it
 record Marked (lexemes : List (Lexeme HoaKind)) : Type 0 where
   inside : List (Lexeme HoaKind)
   last : Lexeme HoaKind
@@ -58,7 +58,7 @@ end_or_abort End is = inl refl
 end_or_abort Abort is = inr refl
 end_or_abort kind is = let clash : false ≡ true = is in cc
 
--- the tokens behind `HOA:` are a segment so far, or a whole one and others
+-- the tokens after `HOA:` are a segment so far, or a whole one and others
 module _ (first : Lexeme HoaKind) (rest : List (Lexeme HoaKind)) (opens : Opens first) where
   begun : NoneEnds rest → IsOpen (first ∷ rest)
   begun none = record { first = first; rest = rest; split = refl; opens = opens; unended = none }
@@ -128,7 +128,7 @@ module _ (there : MeaningsAreThere) (source : List ℕ) (short : length source �
     whole_segment segment [] whole split = alone segment whole split
     whole_segment segment (next ∷ more) whole split = followed segment more next whole split
 
-    -- behind `HOA:`
+    -- after `HOA:`
     opened : (first : Lexeme HoaKind) (rest : List (Lexeme HoaKind)) → lexemes ≡ first ∷ rest → Opens first → ⊥
     opened first rest split opens = elim (marked_or_not rest) [
       | inl none ↦ tokens_refused (Text (Syntax (length source))) (inl (length source, refl, inr (inr (inl (subst IsOpen (sym split) (begun first rest opens none), refl)))))
@@ -225,7 +225,7 @@ module _ (there : MeaningsAreThere) (exact : GoesOneWay hoa_format) (source : Li
       (λ automaton is. onward automaton (stream_push front segment items (AutomatonItem automaton) stream (whole, is)))
       (λ refusal fault. no_fault items refusal (record { front = front; rest = segment; from = at; cuts = cuts; before = stream; refused = inr (inr (whole, fault)) }))
 
-  -- so many tokens at most are left behind whole segments
+  -- so many tokens at most are left after whole segments
   walked : (count : ℕ) (front : List (Lexeme HoaKind)) (items : List Item) (at end : ℕ) (tokens : List (Lexeme HoaKind)) → length tokens ≤ count → IsStream front items
       → Cuts hoa_format source 0 front at → Cuts hoa_format source at tokens end → Stops source end → ⊥
   walked count front items at end [] few stream cuts more stops = stops_outside front items at stream cuts (subst (Stops source) (sym more) stops)

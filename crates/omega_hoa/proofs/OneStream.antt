@@ -1,4 +1,4 @@
--- A text is one stream, or is refused in one way, behind the same items.
+-- A text is one stream, or is refused in one way, after the same items.
 use Rattle.std.proofs.Common.{◌≡◌, ℕ, ◌⊎◌, true, List, [], ◌∷◌, ◌++◌, length, refl, sym, ap, subst, ◌∙◌, inl, inr, append_assoc, append-nil}
 use Rattle.omega_text.specs.Cases.{never, or_text}
 use Rattle.omega_text.specs.Cut.{Cuts, IsCut}
@@ -75,7 +75,7 @@ module _ (readings : Readings) where
       let parts = segments_one (mark_of item) End front segment others more (marked item) refl (ends_marked item front is) whole (sym same) in
       fault_has_no_item segment refusal item whole fault (subst (λ ls. IsItemOf ls item) parts.same is)
 
-  -- the same items, and the same tokens behind
+  -- the same items, and the same tokens after
   record SameItems (items others : List Item) (rest left : List (Lexeme HoaKind)) : Type 0 where
     same : items ≡ others
     behind : rest ≡ left
@@ -122,15 +122,15 @@ module _ (exact : GoesOneWay hoa_format) (source : List ℕ) where
         | inr goes ↦ inr (record { more = goes.more; is = ap (λ it. it ∷ ones) same ∙ ap (λ all. other ∷ all) goes.is; cuts = goes.cuts })
       ]
 
--- two refusals behind these tokens are the same, or both are 3 and of these as one segment
+-- two refusals after these tokens are the same, or both are 3 and of these as one segment
 abbrev Agree : List (Lexeme HoaKind) → Refusal → Refusal → Type 0
 Agree left one other = (one ≡ other) ⊎ AreOfSegment left one other
 
--- the tokens behind whole segments are none, or those of a segment so far
+-- the tokens after whole segments are none, or those of a segment so far
 abbrev IsPart : List (Lexeme HoaKind) → Type 0
 IsPart rest = (rest ≡ []) ⊎ IsOpen rest
 
--- why a text is refused behind whole segments, in four cases: a fault of tokens, a token other than `HOA:`,
+-- why a text is refused after whole segments, in four cases: a fault of tokens, a token other than `HOA:`,
 -- a segment without end, a segment that is no automaton
 data Why (source : List ℕ) (rest : List (Lexeme HoaKind)) (from : ℕ) (refusal : Refusal) : Type 0 where
   lexical : IsPart rest → (fault : TextFault) → refusal ≡ Text fault → hoa_format.faults source from fault → Why source rest from refusal
@@ -295,7 +295,7 @@ module _ (readings : Readings) (exact : GoesOneWay hoa_format) (source : List �
       alike_short rest left from to one other begun ends three there none.1 (self_append rest more left none.0 same)
   alike rest more left from to one other (faulty whole fault) there cuts same = alike_faulty rest more left to one other whole fault there same
 
-  -- of two refusals, the second where the first is or behind
+  -- of two refusals, the second where the first is or after
   faults_alike : (items others : List Item) (one other : Refusal) → (here : IsStreamFault source items one) → (there : IsStreamFault source others other)
       → GoesOn source (here.front ++ here.rest) (there.front ++ there.rest) here.from there.from → (items ≡ others) × AreAlike source one other
   faults_alike items others one other here there goes =
@@ -320,7 +320,7 @@ module _ (readings : Readings) (exact : GoesOneWay hoa_format) (source : List �
     | inr (front, segment, end, cuts, are) ↦ inr (front, segment, end, cuts, record { whole = are.whole; unread = are.unread; first = are.second; second = are.first })
   ]
 
-  -- a text is refused in one way, behind the same items
+  -- a text is refused in one way, after the same items
   pub stream_faults_one : (items others : List Item) (one other : Refusal) → IsStreamFault source items one → IsStreamFault source others other → (items ≡ others) × AreAlike source one other
   stream_faults_one items others one other here there =
       elim (one_goes_on exact source 0 here.from there.from (here.front ++ here.rest) (there.front ++ there.rest) here.cuts there.cuts) [

@@ -42,7 +42,7 @@ pub fault_behind : (source : List ℕ) (rest : List (Lexeme HoaKind)) (from : �
 fault_behind source rest from true fault behind faults = inr (inl (behind, fault_inside source from fault faults))
 fault_behind source rest from false fault behind faults = inl (behind, fault_outside source from fault faults)
 
--- a text whose tokens are divided is refused by the fault behind them
+-- a text whose tokens are divided is refused by the fault after them
 pub fault_refuses : (seen : List ℕ) (lexemes : List (Lexeme HoaKind)) (items : List Item) (begins : ℕ) (inside : Bool) (fault : TextFault) → IsDivided seen lexemes items begins inside
     → SettlesFault seen lexemes fault → (more : List ℕ) → IsStreamFault (seen ++ more) items (Text fault)
 fault_refuses seen lexemes items begins inside fault divided settles more = record {
@@ -112,7 +112,7 @@ module _ (bytes : List ℕ) (first : ℕ) (division : Division) (settled : Settl
       → IsDivided seen (lexemes ++ settled_lexemes seen settled) all begins inside
   both_divided all begins inside divided = subst (λ ls. IsDivided seen ls all begins inside) apart divided
 
-  -- the fault behind them refuses the text
+  -- the fault after them refuses the text
   pub fault_next : (all : List Item) (begins : ℕ) (inside : Bool) (fault : TextFault) → settled.fault ≡ Some fault
       → IsDivided seen ((lexemes ++ lexemes_in seen settled.first) ++ lexemes_in seen settled.second) all begins inside
       → (more : List ℕ) → IsStreamFault (seen ++ more) all (Text fault)
@@ -193,7 +193,7 @@ module _ (bytes : List ℕ) (first place : ℕ) (progress : ReadProgress) (prior
         short = so_far.short;
       }
 
-  -- a refusal at the byte, behind what was appended, is one of the whole
+  -- a refusal at the byte, after what was appended, is one of the whole
   pub refused_whole : (byte : ℕ) (old new : List Item) (refusal : Refusal) → byte ≡ get_or bytes place 0
       → IsRefusedThen ((prior ++ take place bytes) ++ byte ∷ []) old new items refusal → IsRefusedThen (prior ++ bytes) old new items refusal
   refused_whole byte old new refusal is refused = elim refused [
@@ -201,7 +201,7 @@ module _ (bytes : List ℕ) (first place : ℕ) (progress : ReadProgress) (prior
     | inr more ↦ inr (record { added = more.added; is = more.is; holds = refused_on byte (items ++ more.added) refusal is more.holds })
   ]
 
--- a refusal behind some items that were appended, where nothing was appended then
+-- a refusal after some items that were appended, where nothing was appended then
 pub refused_behind : (seen : List ℕ) (old middle new items added : List Item) (refusal : Refusal) → middle ≡ old ++ added → new ≡ middle
     → IsRefusedNow seen (items ++ added) refusal → IsRefusedThen seen old new items refusal
 refused_behind seen old middle new items added refusal is same refused = elim refused [
@@ -209,7 +209,7 @@ refused_behind seen old middle new items added refusal is same refused = elim re
   | inr fault ↦ inr (record { added = added; is = same ∙ is; holds = fault })
 ]
 
--- a refusal behind some items that were appended, and others
+-- a refusal after some items that were appended, and others
 pub refused_later : (seen : List ℕ) (old middle new items added : List Item) (refusal : Refusal) → middle ≡ old ++ added
     → IsRefusedThen seen middle new (items ++ added) refusal → IsRefusedThen seen old new items refusal
 refused_later seen old middle new items added refusal is refused = elim refused [

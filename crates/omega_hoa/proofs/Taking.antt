@@ -49,7 +49,7 @@ window_bytes bytes first seen start end window from forward within =
     ∙ drop-append-le start seen window.behind (omega arith))
     ∙ take-append-le count (drop start seen) window.behind long
 
--- a token behind whole segments and a rest
+-- a token after whole segments and a rest
 pub record IsBehind (source : List ℕ) (front rest : List (Lexeme HoaKind)) (begins : ℕ) (last : Lexeme HoaKind) : Type 0 where
   pub middle : ℕ
   pub before : Cuts hoa_format source 0 (front ++ rest) middle
@@ -87,7 +87,7 @@ module _ (exact : GoesOneWay hoa_format) (bytes : List ℕ) (first : ℕ) (divis
         segment = subst (λ n. Cuts hoa_format source division.begins (rest ++ last ∷ []) n) (sym parts.3) (subst (λ n. Cuts hoa_format source n (rest ++ last ∷ []) cut.0) begin all.2);
       }
 
-  -- it stands behind the whole segments, within the text
+  -- it stands after the whole segments, within the text
   pub next_place : (division.begins ≤ token.span.start) × (token.span.start ≤ token.span.end) × (token.span.end ≤ length seen) × (division.begins ≤ length seen)
   next_place =
       let there = behind [] in
@@ -107,7 +107,7 @@ module _ (exact : GoesOneWay hoa_format) (bytes : List ℕ) (first : ℕ) (divis
   pub next_within : token.span.end ≤ first + length bytes
   next_within = let place = next_place in let window = next.window in omega (arith, place.2, window.within)
 
-  -- outside segments no token is left behind the whole ones
+  -- outside segments no token is left after the whole ones
   nothing_behind : division.inside ≡ false → next.divided.rest ≡ []
   nothing_behind outside = subst (λ inside. IsRest inside next.divided.rest) outside next.divided.behind
 

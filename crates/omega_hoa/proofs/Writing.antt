@@ -135,7 +135,7 @@ end_alone tokens rest spells = record {
   unended = tt;
 }
 
--- behind `HOA:` an automaton that is written ends with `--END--`
+-- after `HOA:` an automaton that is written ends with `--END--`
 pub written_ends : (raw : RawAutomaton) → EndSpelled (word raw.version ∷ each item_row raw.items (sign kind.Body ∷ each state_row raw.states (sign kind.End ∷ [])))
 written_ends raw =
     let states = each state_row raw.states (sign kind.End ∷ []) in

@@ -36,7 +36,7 @@ HasNoSegmentAt length lexemes at = ((lexemes ≡ []) × (at ≡ length))
 abbrev pub IsInGrammar : List (Lexeme HoaKind) → Type 0
 IsInGrammar lexemes = (raw : RawAutomaton) × IsRawOf lexemes raw
 
--- the tokens begin with a segment that ends with `--END--`, and are refused: by its syntax, then by a token behind it,
+-- the tokens begin with a segment that ends with `--END--`, and are refused: by its syntax, then by a token after it,
 -- then by its meaning
 pub record IsSegmentRefused (lexemes : List (Lexeme HoaKind)) (refusal : Refusal) : Type 0 where
   pub segment : List (Lexeme HoaKind)

@@ -13,7 +13,7 @@ use Rattle.omega_hoa.specs.Kept.{Kept}
 use Rattle.omega_hoa.specs.Stream.{IsOpen, IsStream, IsStreamFault}
 use Rattle.omega_hoa.specs.declared.item.Item.{Item}
 
--- the tokens behind the last whole segment: those of one that has not ended, or none
+-- the tokens after the last whole segment: those of one that has not ended, or none
 abbrev pub IsRest : Bool → List (Lexeme HoaKind) → Type 0
 IsRest true lexemes = IsOpen lexemes
 IsRest false lexemes = lexemes ≡ []
@@ -45,7 +45,7 @@ pub record IsPastLimit (seen : List ℕ) (items : List Item) (kept : Kept) : Typ
   pub taken : IsTaken front items kept
   pub long : most_text < length seen
 
--- the bytes so far passed the limit, or are refused however they go on, behind segments with these items
+-- the bytes so far passed the limit, or are refused however they go on, after segments with these items
 abbrev pub IsRefusedSoFar : List ℕ → List Item → Kept → Refusal → Type 0
 IsRefusedSoFar seen items kept refusal = ((refusal ≡ Text TooLong) × IsPastLimit seen items kept)
     ⊎ ((more : List ℕ) → IsStreamFault (seen ++ more) items refusal)
@@ -55,16 +55,16 @@ abbrev pub IsFed : List ℕ → List Item → Kept → Type 0
 IsFed seen items kept = MatchOption kept.refused (IsTaken seen items kept) (IsRefusedSoFar seen items kept)
 
 -- with one more piece, whatever was fed before, a stream was fed with the bytes before and these, and gave these items
--- behind those before
+-- after those before
 abbrev pub TakesPiece : Kept → List ℕ → List Item → Kept → Type 0
 TakesPiece old piece given new = (seen : List ℕ) (items : List Item) → IsFed seen items old → IsFed (seen ++ piece) (items ++ given) new
 
--- some values were appended to a list, and of others with these behind them a fact holds
+-- some values were appended to a list, and of others with these after them a fact holds
 pub record Appends {X : Type 0} (old new values : List X) (Holds : List X → Type 0) : Type 0 where
   pub added : List X
   pub is : new ≡ old ++ added
   pub holds : Holds (values ++ added)
 
--- memory was refused, or the text is, however it goes on, behind the items that were appended
+-- memory was refused, or the text is, however it goes on, after the items that were appended
 abbrev pub IsRefusedThen : List ℕ → (old new items : List Item) → Refusal → Type 0
 IsRefusedThen seen old new items refusal = (refusal ≡ Memory) ⊎ Appends old new items (λ all. (more : List ℕ) → IsStreamFault (seen ++ more) all refusal)

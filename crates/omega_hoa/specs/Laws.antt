@@ -55,7 +55,7 @@ AutomataOrRefused = (source : List ℕ) → ((automaton : Description) → IsAut
 abbrev pub StreamsAreOne : Type 0
 StreamsAreOne = (source : List ℕ) (one other : List Item) → IsStreamText source one → IsStreamText source other → one ≡ other
 
--- a text that is no stream is refused behind at most one list of items, and has at most one refusal
+-- a text that is no stream is refused after at most one list of items, and has at most one refusal
 abbrev pub StreamFaultsAreOne : Type 0
 StreamFaultsAreOne = (source : List ℕ) (items others : List Item) (one other : Refusal) → IsStreamFault source items one → IsStreamFault source others other
     → (items ≡ others) × AreAlike source one other
@@ -88,17 +88,17 @@ CutsChangeNothing = (seen : List ℕ) (items others : List Item) (kept left : Ke
     → (one ≡ Some (Text TooLong) → ⊥) → (other ≡ Some (Text TooLong) → ⊥) → IsAnsweredAtEnd seen items kept one → IsAnsweredAtEnd seen others left other
     → (items ≡ others) × AnswersAreAlike seen one other
 
--- the bytes of pieces, one piece behind the other
+-- the bytes of pieces, one piece after the other
 abbrev pub bytes_of : List (List ℕ) → List ℕ
 bytes_of pieces = flat_map (λ piece. piece) pieces
 
--- calls of `feed`, one behind the other with these pieces and none refused memory, lead from one stream to another,
+-- calls of `feed`, one after the other with these pieces and none refused memory, lead from one stream to another,
 -- and append these items
 abbrev pub TakesPieces : Kept → List (List ℕ) → List Item → Kept → Type 0
 TakesPieces old [] items new = (old ≡ new) × (items ≡ [])
 TakesPieces old (piece ∷ pieces) items new = (next : Kept) × (first : List Item) × (rest : List Item) × TakesPiece old piece first next × TakesPieces next pieces rest new × (items ≡ first ++ rest)
 
--- a stream was fed with these pieces, one behind the other, from the first on, and gave these items
+-- a stream was fed with these pieces, one after the other, from the first on, and gave these items
 pub record IsFedIn (pieces : List (List ℕ)) (items : List Item) (kept : Kept) : Type 0 where
   pub empty : Kept
   pub fresh : IsFed [] [] empty

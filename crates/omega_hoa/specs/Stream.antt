@@ -1,4 +1,4 @@
--- Streams: segments one behind the other, each from `HOA:` to the first mark of its end.
+-- Streams: segments one after the other, each from `HOA:` to the first mark of its end.
 use Rattle.std.specs.Prelude.{◌≡◌, ℕ, ◌<◌, ◌≤◌, ◌⊎◌, Bool, true, false, List, [], ◌∷◌, ◌++◌, length, codes}
 use Rattle.omega_text.specs.Cases.{never, or_text}
 use Rattle.omega_text.specs.Cut.{Cuts, IsCut}
@@ -33,7 +33,7 @@ abbrev pub NoneEnds : List (Lexeme HoaKind) → Type 0
 NoneEnds [] = Unit {0}
 NoneEnds (lexeme ∷ lexemes) = (is_end lexeme.kind ≡ false) × NoneEnds lexemes
 
--- a segment so far: `HOA:`, and behind it no mark of its end
+-- a segment so far: `HOA:`, and after it no mark of its end
 pub record IsOpen (lexemes : List (Lexeme HoaKind)) : Type 0 where
   pub first : Lexeme HoaKind
   pub rest : List (Lexeme HoaKind)
@@ -75,14 +75,14 @@ IsFaultInside source from (Number at) = HasFaultFrom source from (Number at)
 IsFaultInside source from (Syntax at) = Ends source from × (at ≡ length source)
 IsFaultInside source from TooLong = ⊥
 
--- behind whole segments stand these tokens, up to a place, and what refuses the text: a fault outside segments,
+-- after whole segments stand these tokens, up to a place, and what refuses the text: a fault outside segments,
 -- a fault inside one, or a whole one that is no automaton
 abbrev pub IsRefusedBehind : List ℕ → List (Lexeme HoaKind) → ℕ → Refusal → Type 0
 IsRefusedBehind source lexemes from refusal = ((lexemes ≡ []) × or_text (IsFaultOutside source from) never refusal)
     ⊎ ((IsOpen lexemes × or_text (IsFaultInside source from) never refusal)
     ⊎ (IsSegment End lexemes × IsSegmentFault lexemes refusal))
 
--- a text is refused behind whole segments, which have these items
+-- a text is refused after whole segments, which have these items
 pub record IsStreamFault (source : List ℕ) (items : List Item) (refusal : Refusal) : Type 0 where
   pub front : List (Lexeme HoaKind)
   pub rest : List (Lexeme HoaKind)

@@ -16,7 +16,7 @@ use std::alloc::Global;
 /// or memory.
 ///
 /// A fault of tokens comes first, wherever it stands; then 3: at the first token if that is not `HOA:`, at the length
-/// of a text without the end of a segment, at an `--ABORT--` that ends it, inside the segment, at a token behind it.
+/// of a text without the end of a segment, at an `--ABORT--` that ends it, inside the segment, at a token after it.
 /// What the segment means comes last. The bytes are looked at once, those of the segment once more.
 pub fn read_one(alloc: Global, bytes: &[u8]) -> Result<Automaton, Refusal>
     ensures automaton { IfOk result (IsAutomatonText bytes.now) }
@@ -47,7 +47,7 @@ fn read_whole(alloc: Global, bytes: &[u8], end: usize) -> Result<Automaton, Refu
     read_segment(alloc, &bytes[..end], 0)
 }
 
-/// The refusal of a text that is one segment, up to a place, and tokens behind it, the first at another place.
+/// The refusal of a text that is one segment, up to a place, and tokens after it, the first at another place.
 fn read_followed(alloc: Global, bytes: &[u8], end: usize, next: usize) -> Refusal
     requires short { length bytes.now ≤ most_text }
     requires followed { HasFollowed bytes.now end next }

@@ -13,7 +13,7 @@ use omega_text::{HoaKind, PlacedToken, Refusal, Settled, Span, TextFault, TokenK
 use std::alloc::Global;
 
 /// How the tokens of a stream are divided so far: where the last whole segment ends,
-/// and whether another has begun behind it.
+/// and whether another has begun after it.
 #[derive(Clone, Copy, Debug, PartialEq, Eq)]
 pub(crate) struct Division {
     pub(crate) begins: usize,

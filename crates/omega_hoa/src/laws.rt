@@ -54,7 +54,7 @@ pub fn streams_are_one()
     meanings_are_one();
 }
 
-/// A text that is no stream is refused behind at most one list of items, and has at most one refusal but for the place
+/// A text that is no stream is refused after at most one list of items, and has at most one refusal but for the place
 /// of 3 inside a segment.
 pub fn stream_faults_are_one()
     ensures { StreamFaultsAreOne }
@@ -85,7 +85,7 @@ pub fn streams_or_refused()
 /// In whichever pieces a text within the limit is fed to a `Stream`, its items are the same, and what is answered at
 /// its end is alike: nothing, or the same refusal but for the place of 3 inside a segment. So it is of streams that are
 /// known to be fed with the same bytes (`fed`), and of every two lists of pieces with the same bytes (`pieces`), since
-/// pieces that are fed one behind the other are their bytes fed (`together`).
+/// pieces that are fed one after the other are their bytes fed (`together`).
 pub fn pieces_change_nothing()
     ensures fed { CutsChangeNothing }
     ensures together { PiecesAreFed }

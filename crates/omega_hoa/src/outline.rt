@@ -22,7 +22,7 @@ pub(crate) enum TextOutline {
     Aborted { at: usize },
     /// A segment that ends with `--END--`, up to this place.
     Whole { end: usize },
-    /// The same, and behind it a token at this place.
+    /// The same, and after it a token at this place.
     Followed { end: usize, next: usize },
 }
 
@@ -55,7 +55,7 @@ fn with_token(outline: TextOutline, token: &Token<'_, HoaKind>) -> TextOutline
     }
 }
 
-/// Behind no token.
+/// After no token.
 fn begun(token: &Token<'_, HoaKind>) -> TextOutline
     ensures { IsOutline (lexeme_of token.now ∷ []) result }
 {

@@ -55,7 +55,7 @@ pub(crate) fn read_written(
     }
 }
 
-/// Where the first token begins that stands at a place or behind it, or the last if none does.
+/// Where the first token begins that stands at a place or after it, or the last if none does.
 fn token_start(bytes: &[u8], at: usize) -> usize
     requires { (lexemes : List (Lexeme HoaKind)) × IsCut hoa_format bytes.now lexemes }
     ensures { (lexemes : List (Lexeme HoaKind)) → IsCut hoa_format bytes.now lexemes → (lexemes ≡ [] → ⊥) → IsStartOf lexemes result }

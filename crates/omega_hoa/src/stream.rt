@@ -16,7 +16,7 @@ use std::marker::Model;
 
 /// Reads a stream of automata that comes in pieces, cut anywhere.
 ///
-/// It keeps the bytes behind the last whole segment, where they begin, how they are cut so far,
+/// It keeps the bytes after the last whole segment, where they begin, how they are cut so far,
 /// and a refusal once there is one.
 #[derive(Drop)]
 pub struct Stream {

@@ -64,7 +64,7 @@ fn add_marks(alloc: Global, marks: &mut Vec<Numbers>, state: &State) -> Result<(
     Ok(())
 }
 
-/// Some numbers, and others behind them. 60 alone.
+/// Some numbers, and others after them. 60 alone.
 fn joined(alloc: Global, first: &[u32], second: &[u32]) -> Result<Numbers, Refusal>
     ensures list { IfOk result (λ list. list ≡ first.now ++ second.now) }
     ensures memory { IsOkUnless result Refusal.Memory }

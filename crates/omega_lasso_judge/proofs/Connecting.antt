@@ -17,7 +17,7 @@ pub all_behind : (P : ℕ → Type 0) (xs ys : List ℕ) → All P (xs ++ ys) �
 all_behind P [] ys all = all
 all_behind P (x ∷ xs) ys all = all_behind P xs ys (All-tail P x (xs ++ ys) all)
 
--- the first edge of the cycle behind the last
+-- the first edge of the cycle after the last
 pub round_is : (stem cycle : List ℕ) → 0 < length cycle → (stem ++ cycle) ++ get_or cycle 0 0 ∷ [] ≡ once_round stem cycle
 round_is stem [] longer = absurd (omega arith)
 round_is stem (first ∷ cycle) longer = append_assoc stem (first ∷ cycle) (first ∷ [])

@@ -45,7 +45,7 @@ module _ (a : Description) where
   unfolding Leaves
   leaves_at from number numbers to leads = (leads.0, leads.1)
 
-  -- the edges of a way, and those behind it, follow one another
+  -- the edges of a way, and those after it, follow one another
   links_on : (from : ℕ) (numbers : List ℕ) (to last : ℕ) (rest : List ℕ) → Leads a from numbers to → Leaves last to
       → Links a (last ∷ rest) → Links a (numbers ++ last ∷ rest)
   links_on from [] to last rest leads leaves links = links

@@ -52,7 +52,7 @@ pub record IsFirstApart (a : Description) (numbers : List ℕ) (number : ℕ) : 
   pub linked : (k : ℕ) → k < before → FollowsEdge a (slice_index numbers k) (slice_index numbers (k + 1))
   pub apart : ¬ FollowsEdge a (slice_index numbers before) number
 
--- the edges of a lasso, and behind the last one the first of the cycle again, to which it returns
+-- the edges of a lasso, and after the last one the first of the cycle again, to which it returns
 abbrev pub once_round : List ℕ → List ℕ → List ℕ
 once_round stem cycle = stem ++ (cycle ++ take 1 cycle)
 

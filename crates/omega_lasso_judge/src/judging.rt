@@ -106,7 +106,7 @@ fn link_fault(
     }
 }
 
-/// Some numbers, and others behind them. 60 alone.
+/// Some numbers, and others after them. 60 alone.
 fn joined(alloc: Global, first: &[u32], second: &[u32]) -> Result<Vec<u32>, Refusal>
     ensures list { IfOk result (λ list. list.items ≡ first.now ++ second.now) }
     ensures memory { IsOkUnless result Refusal.Memory }

@@ -33,7 +33,7 @@ pub(crate) fn runs(
     Ok(runs)
 }
 
-/// Adds marks of the edge behind so many. 60 alone.
+/// Adds marks of the edge after so many. 60 alone.
 fn add_marks(runs: &mut IndexMap<u32, usize>, at: usize, marks: &[u32]) -> Result<(), Refusal>
     requires { at < 2 ^ 63 }
     ensures runs { OnOk result ((rows : List (List ℕ)) (begun : List ℕ) → length rows ≡ at → AreRuns (rows ++ begun ∷ []) (get nat_eq runs.old)
@@ -46,7 +46,7 @@ fn add_marks(runs: &mut IndexMap<u32, usize>, at: usize, marks: &[u32]) -> Resul
     Ok(())
 }
 
-/// Adds a mark of the edge behind so many. 60 alone.
+/// Adds a mark of the edge after so many. 60 alone.
 fn add_mark(runs: &mut IndexMap<u32, usize>, at: usize, mark: u32) -> Result<(), Refusal>
     requires { at < 2 ^ 63 }
     ensures run { OnOk result (GoesOn at mark (get nat_eq runs.old) (get nat_eq runs.new)) }

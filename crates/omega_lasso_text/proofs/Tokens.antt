@@ -57,7 +57,7 @@ front_longest kind bytes word =
     let counted : 0 < count = omega (arith, first.1) in
     (longest_word bytes some (sym (ap is_letter (head-take count bytes counted)) ∙ first.0)).0
 
--- a word behind a gap is the token that follows
+-- a word after a gap is the token that follows
 pub word_follows : (source : List ℕ) (from place : ℕ) (lexeme : Lexeme LassoKind) → IsGap source from place → IsWordToken source place lexeme → Follows source from lexeme
 word_follows source from place lexeme gap token =
     let bytes = drop place source in

@@ -33,7 +33,7 @@ module _ (source gap text rest : List ℕ) (from : ℕ) (kind : LassoKind) (valu
       let all = ap length is in
       omega (arith, length-drop from source, length-append gap (text ++ rest), length-append text rest)
 
-  -- what stands behind the white space
+  -- what stands after the white space
   behind_gap : drop (from + length gap) source ≡ text ++ rest
   behind_gap = sym (drop-drop (length gap) from source) ∙ ap (drop (length gap)) is ∙ drop_at gap (text ++ rest) (length gap) refl
 
@@ -106,7 +106,7 @@ module _ (gaps : EndsAreGaps) (numerals : NumbersAreLongest) (words : WordsAreLo
     gap = gaps source from within (subst (AllPass is_white) (sym e) (one_white 10 refl));
   }
 
-  -- a token and what is written behind it
+  -- a token and what is written after it
   token_written : (gap text rest : List ℕ) (kind : LassoKind) (value : ℕ) (symbols : List LassoSymbol)
       → AllPass is_white gap → Spells kind value text → IsLongest (text ++ rest) (length text)
       → IsWritten rest symbols → IsWritten (gap ++ (text ++ rest)) (symbol kind value ∷ symbols)

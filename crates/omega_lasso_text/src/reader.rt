@@ -75,7 +75,7 @@ impl Reader {
         }
     }
 
-    /// Takes the word `cycle`, unless it stands at another place than behind the stem.
+    /// Takes the word `cycle`, unless it stands at another place than after the stem.
     fn take_cycle(&mut self) -> bool
         ensures { Goes result (cycle_at self.old.stage (kept self.old.stage self.old.stem.items self.old.cycle.items))
             (kept self.new.stage self.new.stem.items self.new.cycle.items) }

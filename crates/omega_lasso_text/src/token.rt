@@ -14,8 +14,8 @@ use omega_text::{PgKind, Span, TextFault, Token, next_pg_token};
 /// The next token of a lasso text from a place on, or none where only white space is left.
 ///
 /// White space and numbers are those of game texts, and words that no game text has are looked at again. A fault is 1
-/// or 2, at the least place from there. No memory is taken, and no byte behind the token is looked at, but for the one
-/// behind a number or a word.
+/// or 2, at the least place from there. No memory is taken, and no byte after the token is looked at, but for the one
+/// after a number or a word.
 pub(crate) fn next_lasso_token(
     source: &[u8],
     at: usize,

@@ -5,7 +5,7 @@ use Rattle.omega_automaton.specs.Branching.{has_branch}
 use Rattle.omega_empty.specs.Lasso.{IsAcceptingLasso}
 use Rattle.omega_empty.specs.Words.{CanBeTaken, IsAccepted}
 
--- the number at an index of some, behind which come a first one and others, and these for ever
+-- the number at an index of some, after which come a first one and others, and these for ever
 abbrev pub number_along : ℕ → List ℕ → List ℕ → ℕ → ℕ
 number_along first others [] zero = first
 number_along first others [] (suc i) = number_along first others others i

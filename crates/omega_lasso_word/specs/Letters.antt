@@ -28,7 +28,7 @@ label_words tightness names (disjunction left right) =
 abbrev pub literal_text : ℕ → ℕ → List ℕ → List ℕ
 literal_text index p name = if has_bit index p then name_text name else codes "!" ++ name_text name
 
--- those of the propositions from one on, each behind `&`
+-- those of the propositions from one on, each after `&`
 abbrev pub literals_behind : ℕ → ℕ → List (List ℕ) → List ℕ
 literals_behind index p [] = []
 literals_behind index p (name ∷ names) = (codes " & " ++ literal_text index p name) ++ literals_behind index (p + 1) names

@@ -4,7 +4,7 @@ use Rattle.std.specs.List.{flat_map}
 use Rattle.omega_automaton.specs.Automaton.{Description}
 use Rattle.omega_lasso_word.specs.Letters.{letter_text}
 
--- the letters of a stem, `;` behind each
+-- the letters of a stem, `;` after each
 abbrev pub stem_text : Description → List ℕ → List ℕ
 stem_text a numbers = flat_map (λ number. letter_text a number ++ codes "; ") numbers
 

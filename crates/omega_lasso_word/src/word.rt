@@ -11,7 +11,7 @@ use omega_edge_table::{EdgePlace, edge_of, edge_places};
 use omega_text::{ByteString, Refusal};
 use std::alloc::Global;
 
-/// The word of a lasso, whose stem and cycle are the numbers of edges: the letters of the stem, a semicolon behind
+/// The word of a lasso, whose stem and cycle are the numbers of edges: the letters of the stem, a semicolon after
 /// each, and those of the cycle in `cycle{..}`, as Spot writes words.
 ///
 /// A letter is what the label of its edge demands, by the names of the propositions: a name stands in quotes where it

@@ -88,7 +88,7 @@ zeros_least (x ∷ xs) (z ∷ zs) e h = go (zeros_least xs zs (omega arith)) (ca
     go f (inr (inl k)) = f (sym k.0 ∙ h)
     go f (inr (inr k)) = omega (arith, k.1)
 
--- the entries with all behind the first k cleared, by recursion
+-- the entries with all after the first k cleared, by recursion
 abbrev pub cleared : ℕ → List ℕ → List ℕ
 cleared zero xs = replicate (length xs) 0
 cleared (suc k) [] = []

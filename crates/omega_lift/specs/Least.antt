@@ -14,7 +14,7 @@ limits_of player priorities = map (bearers priorities) (losing_priorities player
 abbrev pub cleared_after : ℕ → List ℕ → List ℕ
 cleared_after kept entries = take kept entries ++ replicate (length entries - kept) 0
 
--- the entries with the last of the first `kept` that is below its limit raised by one, and all behind it cleared;
+-- the entries with the last of the first `kept` that is below its limit raised by one, and all after it cleared;
 -- none where each is at its limit
 abbrev pub raised : ℕ → List ℕ → List ℕ → Option (List ℕ)
 raised zero limits entries = None
@@ -25,7 +25,7 @@ raised (suc kept) (limit ∷ limits) (x ∷ xs) =
     (if nat_lt x limit then Some (suc x ∷ replicate (length xs) 0) else None)
 
 -- the least measure that suffices at priority p: the entries for priorities at least p, raised if p loses,
--- and zeros behind them
+-- and zeros after them
 abbrev pub least_sufficient : Player → List ℕ → ℕ → Measure → Measure
 least_sufficient player priorities p None = None
 least_sufficient player priorities p (Some entries) =

@@ -102,7 +102,7 @@ front_ends bound (t ∷ ts) (d ∷ ds) (suc k) g w l gap =
     let power = ap (λ n. d * n) (pow-add 2 r g) ∙ sym (mul_assoc d (2 ^ r) (2 ^ g)) in
     (d * 2 ^ r + rest.0, shifted d (r + g) s (value ts ds) t place ∙ omega (arith, rest.1, power))
 
--- one digit replaced, and those behind it cleared
+-- one digit replaced, and those after it cleared
 pub value-replaced :
     (bound : ℕ) (ts ds : List ℕ) (k n x : ℕ) → AreWithin bound ts ds → n + suc k ≡ length ts
     → value ts (take k ds ++ x ∷ replicate n 0) + get_or ds k 0 * 2 ^ get_or ts k 0 ≡ (value ts ds / 2 ^ get_or ts k 0 + x) * 2 ^ get_or ts k 0

@@ -95,7 +95,7 @@ module _ (fields : List Field) (row : List ℕ) (are : AreFields (length row) fi
         ∙ sym (allowance-raised (entry_limits fields) (digits_in fields row) kept at (length fields - suc at) (AreDigits-row (length row) fields row are packed) below (omega (arith, long)) (omega (arith, long, at_in))
         (subst (λ ls. IsLastBelow (digits_in fields row) ls (suc kept) at) limits last))
 
-  -- the row after all behind a field is cleared
+  -- the row after all after a field is cleared
   module _ (d : Field) where
     same_kept : get_or fields kept top_field ≡ get_or fields kept d
     same_kept = get_or_default fields kept top_field d l

@@ -44,7 +44,7 @@ compare-digits limits (suc t ∷ xs) (suc u ∷ ys) k d e =
     let rest = same_zeros xs ys long (λ i. d.top ne_t (suc i) (omega arith)) (λ i. e.top ne_u (suc i) (omega arith)) in
     sym (slice_cmp-same (suc t ∷ xs) (suc u ∷ ys) (suc k) (ap (λ z. z ∷ xs) same_top ∙ ap (λ zs. suc u ∷ zs) rest))
 
--- the digits below top with all behind the first kept cleared
+-- the digits below top with all after the first kept cleared
 take-get_or : (y : ℕ) (xs rest : List ℕ) (k : ℕ) → k ≤ length xs → take k (y ∷ xs) ++ (get_or (y ∷ xs) k 0 + 0) ∷ rest ≡ y ∷ (take k xs ++ rest)
 take-get_or y xs rest zero l = ap (λ z. z ∷ rest) (omega arith)
 take-get_or y [] rest (suc k) l = absurd (omega arith)

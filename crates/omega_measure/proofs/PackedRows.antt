@@ -33,7 +33,7 @@ at_most_zeros [] (suc n) e = absurd (omega arith)
 at_most_zeros (l ∷ limits) zero e = absurd (omega arith)
 at_most_zeros (l ∷ limits) (suc n) e = (omega arith, at_most_zeros limits n (omega arith))
 
--- one number replaced, and those behind it cleared
+-- one number replaced, and those after it cleared
 pub at_most_replaced : (limits xs : List ℕ) (k n x : ℕ) → AreAtMost limits xs → n + suc k ≡ length xs → x ≤ get_or limits k 0 → AreAtMost limits (take k xs ++ x ∷ replicate n 0)
 at_most_replaced [] [] k n x small size fits = absurd (omega arith)
 at_most_replaced [] (y ∷ xs) k n x small size fits = absurd small
@@ -59,7 +59,7 @@ then_equal Greater = refl
 whole_front : (x : ℕ) → x / 2 ^ 0 ≡ x
 whole_front x = omega arith
 
--- behind the first of a list of zeros
+-- after the first of a list of zeros
 tail_zero : (x n i : ℕ) → 0 < i → get_or (x ∷ replicate n 0) i 0 ≡ 0
 tail_zero x n zero some = absurd (omega arith)
 tail_zero x zero (suc i) some = refl
@@ -187,7 +187,7 @@ module _ (n : ℕ) (fields : List Field) (are : AreFields n fields) where
     pub length-digits : length (digits_in fields row) ≡ length fields
     length-digits = length-map fields (digit_in row)
 
-    -- a digit raised by `by` (0 or 1), and all behind it cleared
+    -- a digit raised by `by` (0 or 1), and all after it cleared
     module _ (k by m z : ℕ) (l : k < length fields) (fits : get_or (digits_in fields row) k 0 + by ≤ get_or (limits_in fields) k 0) (free : 0 < k → get_or (digits_in fields row) 0 0 ≡ 0)
         (behind : m + suc k ≡ length fields) (words_behind : z + suc (get_or fields k top_field).word ≡ n) where
       abbrev pub new_word : ℕ

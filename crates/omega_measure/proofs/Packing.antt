@@ -1,4 +1,4 @@
--- Fields one behind another, and as many bits as a limit needs.
+-- Fields one after another, and as many bits as a limit needs.
 use Rattle.std.proofs.Common.{◌≡◌, ℕ, zero, suc, ◌+◌, ◌-◌, ◌*◌, ◌/◌, ◌%◌, ◌^◌, ◌<◌, ◌≤◌, List, [], ◌∷◌, ◌++◌, length, get_or, take, sym, refl, ap, ◌∙◌, subst, arith}
 use Rattle.std.specs.Int.Count.{count_leading_zeros}
 use Rattle.std.proofs.Math.Pow.{pow_mono}
@@ -41,7 +41,7 @@ packed_more limits i fields last field l packed is follows =
     subst (λ ls. ArePacked ls (fields ++ field ∷ [])) (sym (take_more limits i 0 l))
     (packed-push (take i limits) fields (get_or limits i 0) field packed (subst (λ before. FollowsField before (get_or limits i 0) field) is follows))
 
--- ---- fields one behind another
+-- ---- fields one after another
 
 -- a field without bits, before the first
 abbrev pub start : Field

@@ -45,7 +45,7 @@ put_mid_end a k xs ys l =
     let none = drop-drop k a xs ∙ drop_all (a + k) xs l in
     ap (λ zs. take a xs ++ (ys ++ zs)) none ∙ ap (λ zs. take a xs ++ zs) (append-nil ys)
 
--- the row after one entry is raised and those behind it are cleared
+-- the row after one entry is raised and those after it are cleared
 pub raised_row : (at k n y : ℕ) (entries zeros : List ℕ) → at < length entries → k ≡ length entries - (at + 1) → zeros ≡ replicate n 0 → put_mid (at + 1) k (set entries at y) zeros ≡ take at entries ++ y ∷ replicate n 0
 raised_row at k n y entries zeros within size filled =
     put_mid_end (at + 1) k (set entries at y) zeros (omega (arith, length-set entries at y))
@@ -53,7 +53,7 @@ raised_row at k n y entries zeros within size filled =
     ∙ append_assoc (take at entries) (y ∷ []) zeros
     ∙ ap (λ zs. take at entries ++ y ∷ zs) filled
 
--- the row after those behind the first `kept` are cleared
+-- the row after those after the first `kept` are cleared
 pub cleared_row : (kept k : ℕ) (entries zeros : List ℕ) → k ≡ length entries - kept → zeros ≡ replicate k 0 → put_mid kept k entries zeros ≡ cleared_after kept entries
 cleared_row kept k entries zeros size filled =
     put_mid_end kept k entries zeros (omega arith) ∙ ap (λ zs. take kept entries ++ zs) (filled ∙ ap (λ m. replicate m 0) size)

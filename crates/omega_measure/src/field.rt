@@ -1,4 +1,4 @@
-/// Where the flag for top or an entry stands in a row of words: its word, how many bits of the word are behind it, how
+/// Where the flag for top or an entry stands in a row of words: its word, how many bits of the word are after it, how
 /// many bits it has, and the greatest number that it holds.
 #[derive(Clone, Copy)]
 pub(crate) struct Field {

@@ -5,7 +5,7 @@ use crate::field::Field;
 use omega_game::Refusal;
 use std::alloc::Global;
 
-/// The fields of a row: that of the flag for top, and behind it those of entries up to the limits.
+/// The fields of a row: that of the flag for top, and after it those of entries up to the limits.
 pub(crate) fn fields_of(alloc: Global, limits: &[u32]) -> Result<Vec<Field>, Refusal>
     requires few { length limits.now < 2 ^ 32 - 1 }
     ensures packed { IfOk result (λ fields. ArePacked limits.now fields.items) }
@@ -34,7 +34,7 @@ fn top() -> Field
     }
 }
 
-/// The field behind another for an entry up to a limit: in the same word where there is room,
+/// The field after another for an entry up to a limit: in the same word where there is room,
 /// else in front of the next.
 fn next(before: Field, limit: u32) -> Field
     requires room { before.shift < 64 }

@@ -56,7 +56,7 @@ fn last_below(row: &[u32], limits: &[u32], kept: usize) -> Option<usize>
     None
 }
 
-/// Raises the last of the first `kept` entries that is below its limit by one, and clears all behind it. False where
+/// Raises the last of the first `kept` entries that is below its limit by one, and clears all after it. False where
 /// none is.
 fn raise_row(row: &mut [u32], limits: &[u32], kept: usize) -> bool
     requires rows { length row.old ≡ length limits.now }

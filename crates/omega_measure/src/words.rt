@@ -55,7 +55,7 @@ fn last_below(row: &[u64], fields: &[Field], kept: usize) -> usize
     0
 }
 
-/// The word of a field in a row, added to from the field up, and cleared behind it.
+/// The word of a field in a row, added to from the field up, and cleared after it.
 fn front(row: &[u64], field: Field, by: u64) -> u64
     requires field { IsInside (length row.now) field }
     requires fits { (slice_index row.now field.word / 2 ^ field.shift + by) * 2 ^ field.shift < 2 ^ 64 }
@@ -64,7 +64,7 @@ fn front(row: &[u64], field: Field, by: u64) -> u64
     ((row[field.word as usize] >> field.shift) + by) << field.shift
 }
 
-/// Adds to a row from a field up, and clears all behind that field.
+/// Adds to a row from a field up, and clears all after that field.
 fn raise_front(row: &mut [u64], field: Field, by: u64)
     requires field { IsInside (length row.old) field }
     requires fits { (slice_index row.old field.word / 2 ^ field.shift + by) * 2 ^ field.shift < 2 ^ 64 }

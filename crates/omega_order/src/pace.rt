@@ -1,7 +1,7 @@
 //! When a nested schedule sweeps over the ranks, and when it stays with the least.
 
 /// Sweeps and focus in turn. A sweep goes over the pending ranks from the least to the greatest, and leaves what
-/// becomes pending behind it to the next one. In focus always the least pending rank is taken, as long as there is
+/// becomes pending after it to the next one. In focus always the least pending rank is taken, as long as there is
 /// fuel. So a short cycle counts to top in focus while the others wait, and a region that must rise together does so in
 /// sweeps. Each goes on in proportion to what the other took, and both grow, so that a long focus is not disturbed.
 /// Nothing is claimed of it but that it is safe: numbers that would wrap stay where they are.
@@ -9,7 +9,7 @@
 pub struct Pace {
     /// Where to look for the next rank.
     pub cursor: usize,
-    /// Where the next sweep begins: no rank before it is pending that this sweep leaves behind.
+    /// Where the next sweep begins: no rank before it is pending that this sweep leaves after.
     pub low: usize,
     /// How many takes are left to focus; none in a sweep.
     fuel: u64,
@@ -46,7 +46,7 @@ impl Pace {
         }
     }
 
-    /// Goes on behind a rank that is taken. One before the cursor is the first of another sweep, or of a focus.
+    /// Goes on after a rank that is taken. One before the cursor is the first of another sweep, or of a focus.
     #[inline(always)]
     pub fn take(&mut self, rank: usize) {
         if rank < self.cursor {
@@ -63,7 +63,7 @@ impl Pace {
         self.repeats = 0;
     }
 
-    /// Ends a sweep, or a focus, behind which nothing is pending.
+    /// Ends a sweep, or a focus, after which nothing is pending.
     fn turn(&mut self) {
         self.cursor = self.low;
         self.low = usize::MAX;

@@ -15,7 +15,7 @@ use Rattle.omega_product.specs.Transitions.{Standing}
 use Rattle.omega_product.specs.private.Tables.{standing_at}
 use Rattle.omega_product.proofs.Steps.{flat_one}
 
--- behind no set a formula is itself
+-- after no set a formula is itself
 pub moved_nowhere : (f : AccTree) → moved_behind 0 f ≡ f
 moved_nowhere (constant value) = refl
 moved_nowhere (inf negated set) = let e : 0 + set ≡ set = omega arith in ap (inf negated) e
@@ -23,7 +23,7 @@ moved_nowhere (fin negated set) = let e : 0 + set ≡ set = omega arith in ap (f
 moved_nowhere (conjunction left right) = ap (λ l. conjunction l (moved_behind 0 right)) (moved_nowhere left) ∙ ap (conjunction left) (moved_nowhere right)
 moved_nowhere (disjunction left right) = ap (λ l. disjunction l (moved_behind 0 right)) (moved_nowhere left) ∙ ap (disjunction left) (moved_nowhere right)
 
--- a place that is not found is behind the last
+-- a place that is not found is after the last
 pub place_within : {X : Type 0} (p : X → Bool) (xs : List X) → position_or_len p xs ≤ length xs
 place_within p [] = omega arith
 place_within p (x ∷ xs) = go (p x) (place_within p xs)

@@ -1,4 +1,4 @@
--- The acceptance of a product: that of both, the sets of the second behind those of the first (HOA v1, acceptance
+-- The acceptance of a product: that of both, the sets of the second after those of the first (HOA v1, acceptance
 -- names).
 use Rattle.std.specs.Prelude.{◌≡◌, ◌⊎◌, ◌==◌, ℕ, ◌+◌, if◌then◌else◌, [], ◌∷◌, Option, Some, None, codes}
 use Rattle.omega_acc.specs.formula.Acceptance.{AccTree}
@@ -15,7 +15,7 @@ use Rattle.omega_acc.specs.declared.formula.name.Parameter.TheVariants.{Number}
 use Rattle.omega_automaton.specs.Automaton.{Description}
 use Rattle.omega_automaton.specs.AcceptanceKind.{HasKind}
 
--- an acceptance formula whose sets are behind so many others
+-- an acceptance formula whose sets are after so many others
 abbrev pub moved_behind : ℕ → AccTree → AccTree
 moved_behind before (acc.constant value) = acc.constant value
 moved_behind before (acc.inf negated set) = acc.inf negated (before + set)

@@ -25,7 +25,7 @@ first_standing one other = record {
   before = 0;
 }
 
--- how the second does: its sets are behind those of the first
+-- how the second does: its sets are after those of the first
 abbrev pub second_standing : Description → Description → Standing
 second_standing one other = record {
   count = length other.propositions;

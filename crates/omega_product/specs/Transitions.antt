@@ -1,5 +1,5 @@
 -- The edges of an automaton as its product with another sees them: labels and marks of states moved to edges, labels
--- for edges that have none, propositions joined by name, sets behind those of the other (HOA v1, semantics).
+-- for edges that have none, propositions joined by name, sets after those of the other (HOA v1, semantics).
 use Rattle.std.specs.Prelude.{ℕ, ◌+◌, ◌==◌, Bool, true, false, ◌||◌, if◌then◌else◌, List, [], ◌∷◌, ◌++◌, map, slice_index_or}
 use Rattle.omega_acc.specs.label.Label.{LabelTree, propositions, truth}
 use Rattle.omega_automaton.specs.declared.edge.Edge.{Edge}

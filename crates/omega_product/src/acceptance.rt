@@ -27,7 +27,7 @@ pub(crate) struct WrittenAcceptance {
     pub(crate) formula: RawAcc,
 }
 
-/// The acceptance of both: that of the first, and that of the second behind its sets; generalized Büchi where both are
+/// The acceptance of both: that of the first, and that of the second after its sets; generalized Büchi where both are
 /// Büchi or generalized Büchi. 55 where it is too deep.
 pub(crate) fn joint_acceptance(
     alloc: Global,
@@ -110,7 +110,7 @@ fn conjoined(
     })
 }
 
-/// The formula of an automaton whose sets are behind so many others.
+/// The formula of an automaton whose sets are after so many others.
 fn moved_acceptance(alloc: Global, automaton: &Automaton, before: u32) -> Result<AccShape, Refusal>
     ensures ok { IfOk result (λ shape. acc_tree_of_shape shape ≡ moved_behind before automaton.now.acceptance) }
     ensures err { IfErr result IsMemory }
@@ -119,7 +119,7 @@ fn moved_acceptance(alloc: Global, automaton: &Automaton, before: u32) -> Result
     moved(alloc, &shape, before)
 }
 
-/// A formula whose sets are behind so many others. Refusal 60 also where a number would not fit, which no set of a
+/// A formula whose sets are after so many others. Refusal 60 also where a number would not fit, which no set of a
 /// product has.
 fn moved(alloc: Global, shape: &AccShape, before: u32) -> Result<AccShape, Refusal>
     ensures ok { IfOk result (λ moved. acc_tree_of_shape moved ≡ moved_behind before (acc_tree_of_shape shape.now)) }

@@ -93,7 +93,7 @@ pub(crate) fn number_of(found: &IndexSet<(u32, u32)>, pair: (u32, u32)) -> u32
     }
 }
 
-/// Numbers and others behind them.
+/// Numbers and others after them.
 fn joined(alloc: Global, numbers: &[u32], others: &[u32]) -> Result<Numbers, Refusal>
     ensures ok { IfOk result (λ all. all ≡ numbers.now ++ others.now) }
     ensures err { IfErr result IsMemory }

@@ -29,7 +29,7 @@ use std::alloc::Global;
 ///
 /// Propositions are joined by name, those of the first in front. States are the pairs that are reached, numbered
 /// breadth first from the starts in order, each named by its two numbers. An edge stands for each two edges whose
-/// labels can hold together; labels and marks of states move to edges. The sets of the second stand behind those of the
+/// labels can hold together; labels and marks of states move to edges. The sets of the second stand after those of the
 /// first; the acceptance is the conjunction, named where both are Büchi or generalized Büchi.
 ///
 /// Refused are: 41 where a start or an edge lists several states; then 42 where it is not decided whether the labels of
@@ -167,7 +167,7 @@ fn first_table(
     Table::of(alloc, one, places.as_slice(), 0)
 }
 
-/// The edges of the second, whose sets are behind those of the first. 55 where a label is too deep or too large.
+/// The edges of the second, whose sets are after those of the first. 55 where a label is too deep or too large.
 fn second_table(
     alloc: Global,
     one: &Automaton,

@@ -67,7 +67,7 @@ impl Table {
         }
     }
 
-    /// The edges at a place, none behind the last.
+    /// The edges at a place, none after the last.
     fn row(&self, place: usize) -> &[Transition]
         ensures { result.now ≡ get_or self.now.rows.items place [] }
     {

@@ -9,6 +9,6 @@ pub struct Transition {
     pub label: Label,
     /// The state that it leads to.
     pub target: u32,
-    /// The marks of the edge and of the state that it leaves, behind the sets before them.
+    /// The marks of the edge and of the state that it leaves, after the sets before them.
     pub marks: Numbers,
 }

@@ -77,7 +77,7 @@ fn shape_of(
     renumbered(alloc, &label, places)
 }
 
-/// The marks of a state and of an edge behind so many sets. Refusal 60 also where a number would not fit, which no
+/// The marks of a state and of an edge after so many sets. Refusal 60 also where a number would not fit, which no
 /// set of an automaton within the limits has.
 fn marks_behind(
     alloc: Global,
@@ -94,7 +94,7 @@ fn marks_behind(
     Ok(marks)
 }
 
-/// Puts sets last, behind so many others.
+/// Puts sets last, after so many others.
 fn push_behind(alloc: Global, marks: &mut Numbers, sets: &[u32], before: u32) -> Result<(), Refusal>
     ensures ok { OnOk result (marks.new ≡ marks.old ++ map (λ set. before + set) sets.now) }
     ensures err { IfErr result IsMemory }

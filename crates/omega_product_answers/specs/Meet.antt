@@ -10,7 +10,7 @@ use Rattle.omega_product.specs.Product.{IsProduct}
 use Rattle.omega_product.specs.Refusing.{HaveNoBranch, IsProductRefusal}
 
 -- what `meet` answers: both texts stand for automata without universal branching, and the canonical text of their
--- product is written, the one of the file behind the other
+-- product is written, the one of the file after the other
 pub record IsMeetAnswer (of_file text output : List ℕ) : Type 0 where
   pub second : Description
   pub second_read : IsAutomatonText of_file second

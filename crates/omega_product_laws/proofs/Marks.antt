@@ -119,7 +119,7 @@ module _ (before : ℕ) (marks moved : ℕ → List ℕ) where
   moved_satisfies (disjunction left right) same (inl h) = inl (moved_satisfies left (λ set c. same set (Contains-append_left (sets_of left) (sets_of right) set c)) h)
   moved_satisfies (disjunction left right) same (inr h) = inr (moved_satisfies right (λ set c. same set (Contains-append_right (sets_of left) (sets_of right) set c)) h)
 
--- behind no set a formula is itself
+-- after no set a formula is itself
 pub moved_nowhere : (f : AccTree) → moved_behind 0 f ≡ f
 moved_nowhere (constant value) = refl
 moved_nowhere (inf negated set) = let e : 0 + set ≡ set = omega arith in ap (inf negated) e

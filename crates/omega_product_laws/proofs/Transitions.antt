@@ -66,7 +66,7 @@ module _ (standing : Standing) where
     pub at : slice_get (flat_map edges_from states) number ≡ Some edge
     pub is : t ≡ transition_of standing edge.source (index_in states number) edge.edge
 
-  -- the index of an edge within the first state, and behind it
+  -- the index of an edge within the first state, and after it
   index_first : (state : State) (states : List State) (k : ℕ) → k < length state.edges → index_in (state ∷ states) k ≡ k
   index_first state states k below = ap (λ b. if b then k else index_in states (k - length state.edges)) (lt-ltb k (length state.edges) below)
 

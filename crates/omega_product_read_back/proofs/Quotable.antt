@@ -5,7 +5,7 @@ use Rattle.std.specs.List.{AllByRecursion}
 use Rattle.omega_text.specs.hoa.Forms.{IsQuotable, empty, escaped, plain}
 use Rattle.omega_product.specs.Pairs.{Pair, pair_name}
 
--- quotable bytes behind others
+-- quotable bytes after others
 pub both_quotable : (first second : List ℕ) → IsQuotable first → IsQuotable second → IsQuotable (first ++ second)
 both_quotable first second empty q = q
 both_quotable first second (plain byte rest other slash behind) q = plain byte (rest ++ second) other slash (both_quotable rest second behind q)

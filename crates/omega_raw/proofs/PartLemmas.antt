@@ -10,7 +10,7 @@ use Rattle.omega_raw.specs.private.steps.First.{FirstIs}
 use Rattle.omega_text.specs.declared.hoa.kind.HoaKind.{HoaKind}
 use Rattle.omega_text.specs.declared.refusal.Refusal.{Refusal}
 
--- parts that are still to be read, behind those that were read
+-- parts that are still to be read, after those that were read
 pub record Remains {X : Type 0} (Is : X → Type 0) (row : X → List AutomatonSymbol → List AutomatonSymbol) (values all : List X) (now : Tokens) (others : List AutomatonSymbol) (rest : Tokens) : Type 0 where
   pub more : List X
   pub joined : values ≡ all ++ more

@@ -88,7 +88,7 @@ item_name (item.Name bytes) = codes "name"
 item_name (item.Properties words) = codes "properties"
 item_name (item.Unknown name values) = name
 
--- what stands behind an item's header
+-- what stands after an item's header
 abbrev pub content_row : RawItem → List AutomatonSymbol → List AutomatonSymbol
 content_row (item.States count) others = number count ∷ others
 content_row (item.Start states) others = conj_row states others
@@ -101,7 +101,7 @@ content_row (item.Name bytes) others = text bytes ∷ others
 content_row (item.Properties words) others = each word_row words others
 content_row (item.Unknown name values) others = each value_row values others
 
--- item: a HEADERNAME and what stands behind it
+-- item: a HEADERNAME and what stands after it
 abbrev pub item_row : RawItem → List AutomatonSymbol → List AutomatonSymbol
 item_row it others = header (item_name it) ∷ content_row it others
 

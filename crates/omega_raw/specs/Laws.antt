@@ -3,6 +3,6 @@ use Rattle.omega_raw.specs.Grammar.{ReadsAutomaton, ReadsNoOther}
 use Rattle.omega_raw.specs.Symbols.{Tokens}
 use Rattle.omega_raw.specs.declared.raw_automaton.RawAutomaton.{RawAutomaton}
 
--- tokens begin with at most one automaton, behind which one rest is left
+-- tokens begin with at most one automaton, after which one rest is left
 abbrev pub RawsAreOne : Type 0
 RawsAreOne = (tokens : Tokens) (raw : RawAutomaton) (rest : Tokens) → ReadsAutomaton tokens raw rest → ReadsNoOther tokens raw rest

@@ -10,7 +10,7 @@ use crate::taking::{take_int, take_sign};
 use omega_text::{HoaKind, Numbers, Refusal, TokenSource};
 use std::alloc::Global;
 
-/// A further state of a conj, behind `&`.
+/// A further state of a conj, after `&`.
 struct Joined;
 
 impl<'a, S: TokenSource<'a, HoaKind>> Part<'a, S> for Joined {
@@ -54,7 +54,7 @@ pub(crate) fn conj<'a, S: TokenSource<'a, HoaKind>>(
     Ok(states)
 }
 
-/// A number and others behind it.
+/// A number and others after it.
 #[inline(always)]
 fn with_first(alloc: Global, first: u32, others: Numbers) -> Result<Numbers, Refusal>
     ensures ok { IfOk result (λ numbers. numbers ≡ first ∷ others) }

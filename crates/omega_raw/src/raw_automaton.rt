@@ -5,7 +5,7 @@ use omega_text::{ByteString, Seq};
 /// An automaton as its text writes it, from `HOA:` to `--END--` (HOA v1).
 #[derive(Debug, Drop)]
 pub struct RawAutomaton {
-    /// The identifier behind `HOA:`.
+    /// The identifier after `HOA:`.
     pub version: ByteString,
     /// The items of the header in the order written.
     pub items: Seq<RawItem>,

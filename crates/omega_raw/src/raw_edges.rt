@@ -126,7 +126,7 @@ impl RawEdges {
 }
 
 /// The same values in as much memory as they need. A few are moved, and not shrunk in place: what a short list leaves
-/// behind it is mostly too small to be used again.
+/// after it is mostly too small to be used again.
 fn exact<T: Drop>(alloc: Global, values: Vec<T>) -> Result<Vec<T>, AllocError>
     ensures { IfOk result (λ same. same.items ≡ values.items) }
 {

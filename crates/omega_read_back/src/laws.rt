@@ -57,7 +57,7 @@ pub fn canonical_texts_are_read()
     meanings_are_automata();
 }
 
-/// The canonical texts of the automata of a stream, one behind the other, are within the limit of texts a stream of
+/// The canonical texts of the automata of a stream, one after the other, are within the limit of texts a stream of
 /// these automata: `read_stream` reads them back. Segments that are aborted are left out.
 pub fn canonical_streams_are_read()
     ensures { CanonicalStreamsAreRead }

@@ -4,7 +4,7 @@ use Rattle.omega_text.specs.declared.refusal.Refusal.{Refusal}
 use Rattle.omega_text.specs.declared.refusal.Refusal.TheVariants.{Io}
 use Rattle.omega_io.specs.RefusalLine.{line_of}
 
--- what is printed for a refusal of a text that has this name: behind its line another has the name
+-- what is printed for a refusal of a text that has this name: after its line another has the name
 abbrev pub lines_in : List ℕ → Refusal → List ℕ
 lines_in name refusal = line_of refusal ++ (codes "omega: in the " ++ (name ++ codes "\n"))
 

@@ -32,7 +32,7 @@ module _ (nodes : List Node) (u : ℕ) (us : List ℕ) where
   comes_at_last v [] = let lap = attained u us in (suc lap.0, omega arith, lap.1)
   comes_at_last v (w ∷ ws) = let later = comes_at_last w ws in (suc later.0, omega arith, later.2)
 
-  -- at or behind every index
+  -- at or after every index
   comes_again : (v : ℕ) (ws : List ℕ) (i : ℕ) → Comes v ws i
   comes_again v ws zero = comes_at_last v ws
   comes_again v [] (suc i) = let later = comes_again u us i in (suc later.0, omega (arith, later.1), later.2)
@@ -46,7 +46,7 @@ module _ (nodes : List Node) (u : ℕ) (us : List ℕ) where
   none_greater v [] (suc i) most = none_greater u us i (omega arith)
   none_greater v (w ∷ ws) (suc i) most = none_greater w ws i (omega arith)
 
-  -- nor behind the way, if none stands at its end
+  -- nor after the way, if none stands at its end
   none_greater_behind : (v : ℕ) (ws : List ℕ) (i : ℕ) → length ws ≤ i → priority_at nodes (end_of v ws) ≤ greatest_on nodes u us
       → priority_at nodes (laps u us v ws i) ≤ greatest_on nodes u us
   none_greater_behind v [] i behind most = none_greater v [] i most

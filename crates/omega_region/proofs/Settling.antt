@@ -6,11 +6,11 @@ use Rattle.omega_game.specs.Game.{Node, priority_at}
 use Rattle.omega_region.specs.Plays.{IsPlay, IsLimit, PassesSomewhereOrNowhere}
 use Rattle.omega_region.proofs.Stretches.{inside}
 
--- the number comes at or behind every index, or from some index on it does not come
+-- the number comes at or after every index, or from some index on it does not come
 abbrev Settled : (ℕ → ℕ) → ℕ → Type 0
 Settled f p = ((i : ℕ) → (j : ℕ) × (i ≤ j) × (f j ≡ p)) ⊎ ((i : ℕ) × ((j : ℕ) → i ≤ j → f j ≢ p))
 
--- the number comes at or behind the index, or not
+-- the number comes at or after the index, or not
 abbrev Coming : (ℕ → ℕ) → ℕ → ℕ → Type 0
 Coming f p i = ((j : ℕ) × (i ≤ j) × (f j ≡ p)) ⊎ ((j : ℕ) → i ≤ j → f j ≢ p)
 
@@ -27,7 +27,7 @@ record Greatest (f : ℕ → ℕ) : Type 0 where
   none_greater : (i : ℕ) → from ≤ i → f i ≤ number
 
 module _ (middle : PassesSomewhereOrNowhere) (f : ℕ → ℕ) where
-  -- the test of the numbers behind an index
+  -- the test of the numbers after an index
   coming : (p i : ℕ) → Coming f p i
   coming p i = go (middle (λ k. f (i + k) == p))
     where

@@ -11,7 +11,7 @@ pub record IsPlay (nodes : List Node) (player : Player) (choices : List (Option 
   pub first : play 0 ≡ v
   pub steps : (i : ℕ) → Leaves nodes player choices (play i) (play (i + 1))
 
--- the priority is recurring in the play: it comes at or behind every index
+-- the priority is recurring in the play: it comes at or after every index
 abbrev pub IsRecurring : List Node → (ℕ → ℕ) → ℕ → Type 0
 IsRecurring nodes play p = (i : ℕ) → (j : ℕ) × (i ≤ j) × (priority_at nodes (play j) ≡ p)
 

@@ -14,9 +14,9 @@ use Rattle.omega_io.specs.Writing.{Tells, WritesBeginning}
 use Rattle.omega_run.specs.Progress.{GoesOnByLine, HasTold, progress_line}
 use Rattle.omega_run.specs.private.steps.Telling.{TellsLast, TellsOn}
 
--- ---- one text behind another
+-- ---- one text after another
 
--- a beginning of the text that follows is, behind the whole of the first, a beginning of both
+-- a beginning of the text that follows is, after the whole of the first, a beginning of both
 begins_behind : (start before after : Option (List ℕ)) (text more : List ℕ) → Appends start before text → WritesBeginning before after more
     → WritesBeginning start after (text ++ more)
 begins_behind start before after text more whole begun = record {

@@ -37,7 +37,7 @@ impl<E: Output> Watch<E> for ProgressLines {
     }
 }
 
-/// Tells a number in decimal behind what was told, unless a write failed since so many had. It takes no memory.
+/// Tells a number in decimal after what was told, unless a write failed since so many had. It takes no memory.
 fn tell_number<E: Output>(errors: &mut E, sound: u64, number: u64)
     ensures { TellsOn sound (E.contents errors.old) (E.contents errors.new) (E.failed errors.old) (E.failed errors.new) (decimal number) }
 {
@@ -45,7 +45,7 @@ fn tell_number<E: Output>(errors: &mut E, sound: u64, number: u64)
     tell_on(errors, sound, buffer.format(number).as_bytes());
 }
 
-/// Tells a text behind what was told, unless a write failed since so many had.
+/// Tells a text after what was told, unless a write failed since so many had.
 fn tell_on<E: Output>(errors: &mut E, sound: u64, text: &[u8])
     ensures { TellsOn sound (E.contents errors.old) (E.contents errors.new) (E.failed errors.old) (E.failed errors.new) text.now }
 {

@@ -42,7 +42,7 @@ pub(crate) fn report<E: Output>(alloc: Global, outcome: Result<Exit, Refusal>, e
     }
 }
 
-/// Tells of a refusal behind lines of progress, unless a write of those failed, and gives the status after the outcome.
+/// Tells of a refusal after lines of progress, unless a write of those failed, and gives the status after the outcome.
 pub(crate) fn report_behind<E: Output>(
     alloc: Global,
     outcome: Result<Exit, Refusal>,

@@ -80,7 +80,7 @@ pub(crate) fn perform<F: GameFiles, R: Input, W: Output, E: Output>(
     }
 }
 
-/// Runs a command that is watched, tells of a refusal behind the lines of its progress, and gives the status to end
+/// Runs a command that is watched, tells of a refusal after the lines of its progress, and gives the status to end
 /// with.
 fn watch<R: Input, W: Output, E: Output>(
     alloc: Global,

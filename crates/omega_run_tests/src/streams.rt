@@ -16,7 +16,7 @@ pub(crate) const ALIAS: &str =
 pub(crate) const CANONICAL: &str =
     "HOA: v1\nStates: 1\nStart: 0\nAP: 1 \"a\"\nacc-name: Buchi\nAcceptance: 1 Inf(0)\n--BODY--\nState: 0\n[!(0|t)&0] 0 {0}\n--END--\n";
 
-/// So many automata, one behind the other, and this behind them.
+/// So many automata, one after the other, and this after them.
 fn many(alloc: Global, end: &str) -> Result<String, AllocError> {
     let mut text = String::new(alloc);
     for _ in 0..MANY {

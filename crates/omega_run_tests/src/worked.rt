@@ -172,7 +172,7 @@ static AUTOMATA: [(&str, &str, &str); 16] = [
     ("omega check --format hoa", "", "accepted\n"),
 ];
 
-/// A command line, an input, and the status and the line of a run that is refused, behind the program's name.
+/// A command line, an input, and the status and the line of a run that is refused, after the program's name.
 static REFUSALS: [(&str, &str, u8, &str); 18] = [
     (
         "omega solve --budget 3",
@@ -274,7 +274,7 @@ static REFUSALS: [(&str, &str, u8, &str); 18] = [
     ),
 ];
 
-/// A fault of the command line that is found behind `clap`, and what is told of it.
+/// A fault of the command line that is found after `clap`, and what is told of it.
 const FAULT: (&str, &str) = (
     "omega canon --format hoa --from 4",
     "error: the argument '--from <ID>' can only be used with '--format pg'\n\nUsage: omega canon [OPTIONS] --format <FORMAT> [FILE]\n\nFor more information, try '--help'.\n",

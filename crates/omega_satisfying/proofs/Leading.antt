@@ -17,7 +17,7 @@ leads_by-same (Either first second) count leading held one other is same = λ i.
 leads_by-same (Try literal) count leading held one other is same =
     λ i. (is_as literal.sign (held literal.proposition) && same literal.next is.next_before i) || same literal.otherwise is.otherwise_before i
 
--- a step may stand behind more steps
+-- a step may stand after more steps
 IsStep-more : (step : Step) (count more : ℕ) (leading further : (ℕ → Bool) → ℕ → Bool) → IsStep count leading step → count ≤ more
     → ((held : ℕ → Bool) (place : ℕ) → place < count → further held place ≡ leading held place) → IsStep more further step
 IsStep-more Done count more leading further is longer same = tt

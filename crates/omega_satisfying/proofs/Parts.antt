@@ -106,7 +106,7 @@ disjunction-joined true left right = refl
 disjunction-joined false true right = refl
 disjunction-joined false false right = refl
 
--- a part behind `!` is wanted the other way round
+-- a part after `!` is wanted the other way round
 pub negation-as : (wanted value : Bool) → is_as wanted (not value) ≡ is_as (not wanted) value
 negation-as true value = refl
 negation-as false true = refl

@@ -9,7 +9,7 @@ use omega_lift::{allowances_are_unique, runs_keep_tables};
 use omega_measure::{Game, MeasureTable, Player};
 
 /// Lifts a place that leads to itself again, while a lift is due there and the schedule takes it again, at most so many
-/// times. How often. Nothing is woken: that is done once, behind the last of these lifts.
+/// times. How often. Nothing is woken: that is done once, after the last of these lifts.
 pub(crate) fn lift_again<T: MeasureTable, S: Schedule>(
     game: &Game,
     player: Player,

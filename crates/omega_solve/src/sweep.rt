@@ -12,7 +12,7 @@ pub struct Sweep {
     pending: Vec<bool>,
     /// How many places are pending.
     count: u32,
-    /// Where the rest of the round begins: right behind the last place looked at and taken.
+    /// Where the rest of the round begins: right after the last place looked at and taken.
     from: u32,
     /// The place to look at: the first pending one from there on, round the end, if there is one.
     place: u32,
@@ -73,14 +73,14 @@ impl Schedule for Sweep {
         }
         self.pending[place as usize] = true;
         self.count += 1;
-        // Wrapped differences order the places as the sweep comes to them: those behind it are of the next round.
+        // Wrapped differences order the places as the sweep comes to them: those after it are of the next round.
         if self.count == 1 || place.wrapping_sub(self.from) < self.place.wrapping_sub(self.from) {
             self.place = place;
         }
     }
 }
 
-/// The first pending place behind a place, round the end.
+/// The first pending place after a place, round the end.
 fn next_pending(pending: &Vec<bool>, place: u32) -> u32
     requires small { length pending.now.items < 2 ^ 32 }
     requires some { ¬ ((k : ℕ) → k < length pending.now.items → slice_get pending.now.items k ≡ Some false) }

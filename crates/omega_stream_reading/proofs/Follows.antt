@@ -19,7 +19,7 @@ use Rattle.omega_hoa.proofs.Wholes.{errors_are_one}
 use Rattle.omega_stream_reading.specs.Telling.{IsTelling, texts_from}
 use Rattle.omega_stream_reading.specs.private.steps.Following.{AreRefusedBy, TellsItems}
 
--- the texts of items with others behind them
+-- the texts of items with others after them
 pub texts_from-append : (text : ℕ → Item → List ℕ) (number : ℕ) (items more : List Item)
     → texts_from text number (items ++ more) ≡ texts_from text number items ++ texts_from text (number + length items) more
 texts_from-append text number [] more = ap (λ n. texts_from text n more) (omega arith)
@@ -81,7 +81,7 @@ same_as_before (Some before) refusal Says errs says = errors_are_one refusal bef
 pub kept_refusal : (refused : Option Refusal) (refusal : Refusal) → (refusal ≡ Memory → ⊥) → (refusal ≡ Memory) ⊎ (refused ≡ Some refusal) → refused ≡ Some refusal
 kept_refusal refused refusal other kept = elim kept [ inl memory ↦ absurd (other memory) | inr is ↦ is ]
 
--- bytes that are refused however they go on are refused with more behind them
+-- bytes that are refused however they go on are refused with more after them
 refused_more : (seen piece : List ℕ) (refusal : Refusal) → AreRefusedBy seen refusal → AreRefusedBy (seen ++ piece) refusal
 refused_more seen piece refusal refused more =
     let found = refused (piece ++ more) in

@@ -21,7 +21,7 @@ pub record IsReading (text : ℕ → Item → List ℕ) (before now : Option (Li
   pub count : total ≡ length seen
   pub follows : total ≤ most_text → FollowsTelling text seen telling
 
--- a piece was read behind them, and followed
+-- a piece was read after them, and followed
 pub reads_piece : (text : ℕ → Item → List ℕ) (before now after : Option (List ℕ)) (total : ℕ) (old new : Telling) (piece : List ℕ) (count next : ℕ)
     → IsReading text before now total old → total ≤ most_text → Consumes now after piece → count ≡ length piece → next ≡ total + count
     → ((seen : List ℕ) → length seen + length piece ≤ most_text → FollowsTelling text seen old → FollowsTelling text (seen ++ piece) new)

@@ -1,4 +1,4 @@
--- What is told of a stream of automata: a text for each of its items, one behind the other.
+-- What is told of a stream of automata: a text for each of its items, one after the other.
 use Rattle.std.specs.Prelude.{◌≡◌, ℕ, ◌+◌, List, [], ◌∷◌, ◌++◌}
 use Rattle.omega_hoa.specs.Stream.{IsStreamText}
 use Rattle.omega_hoa.specs.declared.item.Item.{Item}

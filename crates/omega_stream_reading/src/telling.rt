@@ -34,7 +34,7 @@ pub(crate) fn begin<T: ItemText>(alloc: Global) -> Telling
 }
 
 /// Takes the next piece, and tells of the items of the segments that end in it. Of a piece that is refused, and of
-/// those behind it, nothing is told: the stream keeps its refusal. 60 alone.
+/// those after it, nothing is told: the stream keeps its refusal. 60 alone.
 pub(crate) fn take_piece<T: ItemText>(telling: &mut Telling, piece: &[u8]) -> Result<(), Refusal>
     requires { FollowsSome T.text telling.old }
     ensures follows { OnOk result ((seen : List ℕ) → length seen + length piece.now ≤ most_text → FollowsTelling T.text seen telling.old → FollowsTelling T.text (seen ++ piece.now) telling.new) }

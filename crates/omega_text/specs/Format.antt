@@ -11,7 +11,7 @@ pub record TextFormat (Kind : Type 0) : Type 1 where
   pub ends : List ℕ → ℕ → Type 0
   pub faults : List ℕ → ℕ → TextFault → Type 0
 
--- a part of a text that is not empty, at a place or behind it
+-- a part of a text that is not empty, at a place or after it
 pub record IsPartBehind (source : List ℕ) (from : ℕ) (span : Span) : Type 0 where
   pub forward : from ≤ span.start
   pub nonempty : span.start < span.end

@@ -12,12 +12,12 @@ use Rattle.omega_text.specs.declared.refusal.Refusal.{Refusal}
 abbrev pub IsTokenOf : {Kind : Type 0} → TextFormat Kind → Lexeme Kind → Type 0
 IsTokenOf format lexeme = (source : List ℕ) × (from : ℕ) × format.follows source from lexeme
 
--- a call took a token behind others, or refused it: the others begin a text, and with it they begin none
+-- a call took a token after others, or refused it: the others begin a text, and with it they begin none
 abbrev pub TakesOrRefuses : {Kind : Type 0} → Bool → (List (Lexeme Kind) → Type 0) → (List (Lexeme Kind) → Type 0) → List (Lexeme Kind) → Lexeme Kind → Type 0
 TakesOrRefuses true begins taken lexemes lexeme = taken (lexemes ++ lexeme ∷ [])
 TakesOrRefuses false begins taken lexemes lexeme = begins lexemes × (begins (lexemes ++ lexeme ∷ []) → ⊥)
 
--- a call took the tokens of a text between two places behind others
+-- a call took the tokens of a text between two places after others
 pub record TakesRun {Kind : Type 0} (format : TextFormat Kind) (taken : List (Lexeme Kind) → Type 0) (source : List ℕ) (from to : ℕ) (before : List (Lexeme Kind)) : Type 0 where
   pub run : List (Lexeme Kind)
   pub cuts : Cuts format source from run to

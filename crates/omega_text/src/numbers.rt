@@ -103,7 +103,7 @@ impl Numbers {
     }
 }
 
-/// The first so many of the values, and a number behind them: in memory where there is no room in place.
+/// The first so many of the values, and a number after them: in memory where there is no room in place.
 fn with_one_more(
     alloc: Global,
     count: u8,

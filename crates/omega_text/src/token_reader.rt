@@ -29,7 +29,7 @@ pub trait TokenReader<K: TokenKind>: Drop {
             → TakesOrRefuses taken begins (λ all. becomes start all self.new) before (lexeme_of token.now)) }
         ensures memory { IsOkUnless result Refusal.Memory };
 
-    /// Takes as many tokens from a place on as can be taken at once, and answers the place behind them. A reader that
+    /// Takes as many tokens from a place on as can be taken at once, and answers the place after them. A reader that
     /// takes its tokens one by one takes none here.
     fn take_run(&mut self, source: &[u8], from: usize) -> Result<usize, Refusal>
         requires begun { ((start : Self) × ((before : List (Lexeme K)) × becomes start before self.old)) }

@@ -9,7 +9,7 @@ use std::alloc::{AllocError, Global};
 
 pub(crate) type Part = (HoaKind, usize, usize);
 
-// Texts, the kinds and places of their tokens, and the number and the place of the fault behind them.
+// Texts, the kinds and places of their tokens, and the number and the place of the fault after them.
 pub(crate) static TEXTS: [(&[u8], &[Part], Option<(u32, usize)>); 53] = [
     (b"", &[], None),
     (b" \t\r\n", &[], None),
@@ -195,7 +195,7 @@ static LASTS: [(&str, Option<Part>, Option<(u32, usize)>); 15] = [
     ("a$b", None, Some((1, 1))),
 ];
 
-// What a tokenizer settles of a piece that begins at a place is put behind other tokens; the answer is its fault.
+// What a tokenizer settles of a piece that begins at a place is put after other tokens; the answer is its fault.
 fn read<T: ByteTokenizer>(
     tokenizer: &mut T,
     place: usize,
@@ -225,7 +225,7 @@ fn keep(settled: &Settled, tokens: &mut Vec<PlacedToken>) -> Result<(), AllocErr
     Ok(())
 }
 
-// The places at which a tokenizer stops in a piece that begins at a place are put behind others;
+// The places at which a tokenizer stops in a piece that begins at a place are put after others;
 // the answer is its fault.
 fn pass<T: ByteTokenizer>(
     tokenizer: &mut T,
@@ -272,7 +272,7 @@ fn wrong_stop(
     Ok(None)
 }
 
-// Whether a text that comes in two pieces is cut into these parts, with this fault behind them.
+// Whether a text that comes in two pieces is cut into these parts, with this fault after them.
 fn is_cut_in_two(
     alloc: Global,
     pieces: (&[u8], &[u8]),
@@ -345,7 +345,7 @@ pub(crate) fn number_and_place(fault: TextFault) -> (u32, usize) {
     }
 }
 
-// Whether a text is cut into these parts, with this fault behind them.
+// Whether a text is cut into these parts, with this fault after them.
 fn is_cut(alloc: Global, text: &[u8], parts: &[Part], fault: Option<(u32, usize)>) -> bool {
     match hoa_tokens(alloc, text) {
         Ok(tokens) => {

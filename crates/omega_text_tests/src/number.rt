@@ -2,7 +2,7 @@ use crate::rows::assert_row;
 use omega_text::{Refusal, write_number};
 use std::alloc::Global;
 
-// What is written of a number, behind `<`.
+// What is written of a number, after `<`.
 fn written(alloc: Global, number: u128) -> Result<Vec<u8>, Refusal> {
     let mut out = vec![in alloc; b'<']?;
     write_number(number, &mut out)?;
@@ -16,7 +16,7 @@ fn is_written(alloc: Global, number: u128, want: &[u8]) -> bool {
     }
 }
 
-// The greatest power of ten that a `u128` can be, behind `<`.
+// The greatest power of ten that a `u128` can be, after `<`.
 const GREATEST: &[u8] = b"<100000000000000000000000000000000000000";
 
 // Whether each power of ten is written as one and so many zeros.

@@ -42,7 +42,7 @@ abbrev pub IsLineOf : List ℕ → Options → Line → Type 0
 IsLineOf subcommand options line =
     Asks subcommand options line ⊎ ((found : Mistake) × IsMistake subcommand options found × IsFaultLineOf found line)
 
--- the line for the subcommand of this name, where the options are those that `clap` found behind it
+-- the line for the subcommand of this name, where the options are those that `clap` found after it
 abbrev pub IsLineFor : List ℕ → List Row → Line → Type 0
 IsLineFor subcommand rows line =
     (options : Options) × ((name : OptionName) → text_of name options ≡ first_of (id_of name) rows) × IsLineOf subcommand options line

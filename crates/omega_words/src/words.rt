@@ -38,7 +38,7 @@ fn asked_for(alloc: Global, found: &ArgMatches<'_>) -> Result<Line, Refusal>
     }
 }
 
-/// The line for a subcommand with the options that `clap` found behind it.
+/// The line for a subcommand with the options that `clap` found after it.
 fn answered(alloc: Global, subcommand: &str, matches: &ArgMatches<'_>) -> Result<Line, Refusal>
     ensures line { IfOk result (IsLineFor subcommand.now (rows_of (found_of matches.now))) }
     ensures runnable { IfOk result IsRunnable }

@@ -21,7 +21,7 @@ impl Chain {
     }
 }
 
-/// The place behind each place in its list.
+/// The place after each place in its list.
 #[derive(Drop)]
 pub(crate) struct Chains {
     behind: Numbers,
@@ -34,7 +34,7 @@ impl Chains {
         Ok(Chains { behind })
     }
 
-    /// The place behind a place, none at the end.
+    /// The place after a place, none at the end.
     #[inline(always)]
     pub(crate) fn behind(&self, place: u32) -> u32 {
         self.behind.at(place)
@@ -56,7 +56,7 @@ impl Chains {
         }
     }
 
-    /// One list behind another.
+    /// One list after another.
     pub(crate) fn joined(&mut self, chain: Chain, other: Chain) -> Chain {
         if chain.is_empty() {
             return other;

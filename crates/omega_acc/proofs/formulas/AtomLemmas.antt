@@ -50,7 +50,7 @@ sign_passed : (old new : List (Lexeme HoaKind)) (lexeme : Lexeme HoaKind) (symbo
     → old ≡ lexeme ∷ new → expression_symbol_of lexeme ≡ symbol → Passed old (symbol ∷ []) new
 sign_passed old new lexeme symbol next is = record { front = lexeme ∷ []; split = next; spells = ap (λ s. s ∷ []) is }
 
--- a set is passed behind its `(`
+-- a set is passed after its `(`
 barred_set : (old one two new : List (Lexeme HoaKind)) (negated : Bool) (set : ℕ)
     → Passed old (sign kind.OpenParenthesis ∷ []) one → IsBarred negated one two → Passed two (number set ∷ sign kind.CloseParenthesis ∷ []) new
     → PassesSet negated set old new
@@ -71,7 +71,7 @@ PassesSet-of old one two three new negated set opens bar counts closes =
     let behind : Passed two (number set ∷ sign kind.CloseParenthesis ∷ []) new = passed_then two three new _ _ set_passed close_passed in
     barred_set old one two new negated set open_passed bar behind
 
--- fewer tokens are left behind a set
+-- fewer tokens are left after a set
 pub PassesSet-shorter : (negated : Bool) (set : ℕ) (old new : List (Lexeme HoaKind)) → PassesSet negated set old new → length new < length old
 PassesSet-shorter negated set old new passes =
     omega (arith, ap length passes.split, length-append passes.front new, sym (length-map passes.front expression_symbol_of) ∙ ap length passes.spells)

@@ -37,7 +37,7 @@ parity-alone order parity count = alone-node (has_parity parity (first_left orde
 abbrev pub chain : Order → Parity → ℕ → ℕ → List AccNode
 chain order parity count left = acc_postfix (formula_of order parity (sets_left order count left))
 
--- the ends of a formula with sets behind its first one
+-- the ends of a formula with sets after its first one
 ends-at : (order : Order) (parity : Parity) (count behind fewer : ℕ) → suc fewer ≡ behind
     → chain order parity count (suc behind)
     ≡ atom_node parity (first_left order count behind) ∷ (chain order parity count behind ++ joining_node parity (first_left order count behind) ∷ [])
@@ -45,7 +45,7 @@ ends-at order parity count behind fewer e =
     subst (λ n. chain order parity count (suc n) ≡ atom_node parity (first_left order count n) ∷ (chain order parity count n ++ joining_node parity (first_left order count n) ∷ []))
     e (parity-ends order parity count fewer)
 
--- without both ends, nodes are the formula of the sets behind exactly if they were the formula
+-- without both ends, nodes are the formula of the sets after exactly if they were the formula
 pub chain-middle : (order : Order) (parity : Parity) (count behind fewer : ℕ) (rest others middle : List AccNode) (atom joining : AccNode)
     → suc fewer ≡ behind → rest ≡ atom ∷ others → others ≡ middle ++ joining ∷ []
     → atom ≡ atom_node parity (first_left order count behind) → joining ≡ joining_node parity (first_left order count behind)

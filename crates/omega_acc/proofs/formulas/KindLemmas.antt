@@ -100,7 +100,7 @@ value-held forever order parity set (next ∷ rest) occ =
     (λ tree. accepts forever tree ≡ has_parity parity set)
     (λ yes. ap (λ b. b || accepts forever others) occ ∙ sym yes) (λ no. ap (λ b. not b && accepts forever others) occ ∙ sym no)
 
--- a set that does not occur leaves it to those behind it
+-- a set that does not occur leaves it to those after it
 value-passed : (forever : List (List ℕ)) (order : Order) (parity : Parity) (set next : ℕ) (rest : List ℕ) → occurs forever false set ≡ false
     → accepts forever (formula_of order parity (set ∷ next ∷ rest)) ≡ accepts forever (formula_of order parity (next ∷ rest))
 value-passed forever order parity set next rest occ =

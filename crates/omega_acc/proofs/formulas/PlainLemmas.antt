@@ -44,7 +44,7 @@ atom-meant true other negated set = refl
 atom-meant false true negated set = refl
 atom-meant false false negated set = refl
 
--- nothing behind nodes
+-- nothing after nodes
 behind-none : (nodes : Option (List AccNode)) → behind_nodes nodes (Some []) ≡ nodes
 behind-none None = refl
 behind-none (Some nodes) = ap Some (append-nil nodes)

@@ -88,7 +88,7 @@ has_leaf whole middle left lexeme nodes names pending tree more all_nodes all_na
       (ap (λ symbols. before_symbols wants.before ++ symbols) spells ∙ sym (append_assoc (before_symbols wants.before) (expression_symbol_of lexeme ∷ []) more));
 }
 
--- a part behind `&`
+-- a part after `&`
 conjoined_before : (before : Before) (whole left : List (Lexeme HoaKind)) (depth other deeper : ℕ) (nodes : List RawAccNode) (names : List ℕ) (rest : List Pending) (part : RawAccTree)
     → IsAccOf unary part → IsOpenBefore before → depth ≡ capped part → deeper ≡ min (max depth other + 1) 257 → nodes ≡ before_nodes before ++ raw_acc_postfix part
     → names ≡ before_names before ++ atom_names part → And other ∷ rest ≡ before_pending before → Passed whole (before_symbols before ++ formula_symbols part) left
@@ -118,7 +118,7 @@ has_conjoined whole left depth other deeper nodes all names pending rest waits e
     subst (λ final. Has conjunctive whole left deeper final names rest) (sym ended)
     (conjoined_before has.before whole left depth other deeper nodes names rest has.part has.is has.sound has.deep more has.flat has.named (sym waits ∙ has.pends) has.passed)
 
--- a part behind `|`
+-- a part after `|`
 disjoined_before : (before : Before) (whole left : List (Lexeme HoaKind)) (depth other deeper : ℕ) (nodes : List RawAccNode) (names : List ℕ) (rest : List Pending) (part : RawAccTree)
     → IsAccOf conjunctive part → IsOpenBefore before → depth ≡ capped part → deeper ≡ min (max depth other + 1) 257 → nodes ≡ before_nodes before ++ raw_acc_postfix part
     → names ≡ before_names before ++ atom_names part → Or other ∷ rest ≡ before_pending before → Passed whole (before_symbols before ++ formula_symbols part) left
@@ -229,7 +229,7 @@ pub has_is_free : (whole left : List (Lexeme HoaKind)) (depth : ℕ) (nodes : Li
     → Has disjunctive whole left depth nodes names pending → IsFree pending
 has_is_free whole left depth nodes names pending has = subst IsFree (sym has.pends) (free_of has.before has.fits)
 
--- `&` is passed behind a part
+-- `&` is passed after a part
 pub wants_conjunct : (whole old left : List (Lexeme HoaKind)) (lexeme : Lexeme HoaKind) (depth : ℕ) (nodes : List RawAccNode) (names : List ℕ) (pending : List Pending)
     → Has conjunctive whole old depth nodes names pending → old ≡ lexeme ∷ left → expression_symbol_of lexeme ≡ sign kind.And
     → Wants whole left nodes names (And depth ∷ pending)
@@ -242,7 +242,7 @@ wants_conjunct whole old left lexeme depth nodes names pending has next is = rec
   passed = passed_next whole old left lexeme _ _ _ has.passed next is (sym (append_assoc (before_symbols has.before) (formula_symbols has.part) (sign kind.And ∷ [])));
 }
 
--- `|` is passed behind a part
+-- `|` is passed after a part
 pub wants_disjunct : (whole old left : List (Lexeme HoaKind)) (lexeme : Lexeme HoaKind) (depth : ℕ) (nodes : List RawAccNode) (names : List ℕ) (pending : List Pending)
     → Has disjunctive whole old depth nodes names pending → old ≡ lexeme ∷ left → expression_symbol_of lexeme ≡ sign kind.Or
     → Wants whole left nodes names (Or depth ∷ pending)

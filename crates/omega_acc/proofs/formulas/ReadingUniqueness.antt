@@ -45,7 +45,7 @@ closed (opened before) part = bound before (group part)
 closed start part = whole part
 closed before part = failed
 
--- the formula behind which other tokens stand
+-- the formula after which other tokens stand
 abbrev finished : Before → RawAccTree → Stage
 finished start part = whole part
 finished before part = failed
@@ -109,7 +109,7 @@ fits-more (opened before) fits = tt
 fits-more (anded before left) fits = fits
 fits-more (ored before left) fits = absurd fits
 
--- an or-expression is read: what stands last of it, behind what stands before that
+-- an or-expression is read: what stands last of it, after what stands before that
 pub record IsReadBehind (before : Before) (part : RawAccTree) (stage : Stage) : Type 0 where
   pub inner : Before
   pub last : RawAccTree

@@ -235,7 +235,7 @@ IsStuck-numbered [] not count through = through
 IsStuck-numbered (lexeme ∷ rest) not count through =
     failed-stuck (numbered count) rest lexeme (stuck-numbered lexeme.kind count lexeme.value lexeme.text not) through
 
--- what is stuck behind a token is stuck before it
+-- what is stuck after a token is stuck before it
 pub IsStuck-behind : (old new : List (Lexeme HoaKind)) (lexeme : Lexeme HoaKind) (symbol : ExpressionSymbol) (before behind : ℕ → NameState)
     → old ≡ lexeme ∷ new → expression_symbol_of lexeme ≡ symbol → ((count : ℕ) → go (before count) symbol ≡ behind count) → IsStuck behind new → IsStuck before old
 IsStuck-behind old new lexeme symbol before behind next is goes stuck count through =

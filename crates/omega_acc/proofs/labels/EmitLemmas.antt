@@ -176,6 +176,6 @@ emitted-group entries names more nodes place d before out whole within here so_f
     ∙ (ap (λ ns. before ++ emitted entries ns (drop (place + 1) nodes)) same
     ∙ (ap (λ back. before ++ back) (sym (emitted-at entries names nodes place Group d within here)) ∙ so_far))
 
--- the aliases behind stand for something too
+-- the aliases after stand for something too
 pub stand-moved : (entries : List Entry) (names more : List ℕ) (nodes : List LabelNode) → AllStand entries names nodes → more ≡ names → AllStand entries more nodes
 stand-moved entries names more nodes all same = subst (λ ns. AllStand entries ns nodes) (sym same) all

@@ -11,7 +11,7 @@ use Rattle.omega_acc.specs.label.Raw.{RawLabelTree, alias, conjunction, constant
 use Rattle.omega_acc.specs.private.layout.label.Extents.{extent_named, extent_of}
 use Rattle.omega_acc.specs.declared.label.extents.Extent.{Extent}
 
--- the entry of a definition behind earlier entries
+-- the entry of a definition after earlier entries
 abbrev pub entry_of : List Entry → Defined → Entry
 entry_of before next = record { name = next.name; meaning = replaced before next.body }
 
@@ -88,7 +88,7 @@ meaning-here true before next entries rest place limit there body is lt others =
 meaning-here false before next entries rest place limit there body is lt others =
     others is (omega arith) ∙ ap (λ entries. replaced entries body) (append_assoc before (entry_of before next ∷ []) (take place entries))
 
--- a name before the limit stands for what its definition means behind the entries before it
+-- a name before the limit stands for what its definition means after the entries before it
 pub stands_for-at : (name : List ℕ) (before : List Entry) (definitions : List Defined) (limit : ℕ) (body : RawLabelTree)
     → IsBodyAt definitions (place_among definitions name) body → place_among definitions name < limit
     → stands_for (take limit (entries_of before definitions)) name ≡ replaced (before ++ take (place_among definitions name) (entries_of before definitions)) body

@@ -40,7 +40,7 @@ AllKept-push (first ∷ kept) (next ∷ entries) last entry all is = (all.0, All
 same-body : {one other : RawLabelTree} → Some one ≡ Some other → one ≡ other
 same-body e = cc
 
--- what is kept at a place are the nodes of what the definition there means behind those before it
+-- what is kept at a place are the nodes of what the definition there means after those before it
 pub kept-at : (before : List Entry) (items : List Definition) (place : ℕ) (d : Definition) (nodes : List LabelNode) (body : RawLabelTree)
     → AllKept (map (λ d. d.expanded) items) (entries_of before (map defined_of items)) → place < length items → (get_or items place d).expanded ≡ Some nodes
     → IsBodyAt (map defined_of items) place body → nodes ≡ nodes_of (replaced (before ++ take place (entries_of before (map defined_of items))) body)

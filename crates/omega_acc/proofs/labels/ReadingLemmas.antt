@@ -136,7 +136,7 @@ has_negated whole left depth deeper nodes all names pending rest waits ended mor
     subst (λ final. Has unary whole left deeper final names rest) (sym ended)
     (negated_before has.before whole left depth deeper nodes names rest has.part has.is has.sound has.deep more has.flat has.named (sym waits ∙ has.pends) has.passed)
 
--- a part behind `&`
+-- a part after `&`
 conjoined_before : (before : Before) (whole left : List (Lexeme HoaKind)) (depth other deeper : ℕ) (nodes : List LabelNode) (names : List ℕ) (rest : List Pending) (part : RawLabelTree)
     → IsOf unary part → IsOpenBefore before → depth ≡ capped part → deeper ≡ min (max depth other + 1) 257 → nodes ≡ before_nodes before ++ raw_postfix part
     → names ≡ before_names before ++ alias_names part → And other ∷ rest ≡ before_pending before → Passed whole (before_symbols before ++ label_symbols part) left
@@ -167,7 +167,7 @@ has_conjoined whole left depth other deeper nodes all names pending rest waits e
     subst (λ final. Has conjunctive whole left deeper final names rest) (sym ended)
     (conjoined_before has.before whole left depth other deeper nodes names rest has.part has.is has.sound has.deep more has.flat has.named (sym waits ∙ has.pends) has.passed)
 
--- a part behind `|`
+-- a part after `|`
 disjoined_before : (before : Before) (whole left : List (Lexeme HoaKind)) (depth other deeper : ℕ) (nodes : List LabelNode) (names : List ℕ) (rest : List Pending) (part : RawLabelTree)
     → IsOf conjunctive part → IsOpenBefore before → depth ≡ capped part → deeper ≡ min (max depth other + 1) 257 → nodes ≡ before_nodes before ++ raw_postfix part
     → names ≡ before_names before ++ alias_names part → Or other ∷ rest ≡ before_pending before → Passed whole (before_symbols before ++ label_symbols part) left
@@ -287,7 +287,7 @@ pub has_is_free : (whole left : List (Lexeme HoaKind)) (depth : ℕ) (nodes : Li
     → Has disjunctive whole left depth nodes names pending → IsFree pending
 has_is_free whole left depth nodes names pending has = subst IsFree (sym has.pends) (free_of has.before has.fits)
 
--- `&` is passed behind a part
+-- `&` is passed after a part
 pub wants_conjunct : (whole old left : List (Lexeme HoaKind)) (lexeme : Lexeme HoaKind) (depth : ℕ) (nodes : List LabelNode) (names : List ℕ) (pending : List Pending)
     → Has conjunctive whole old depth nodes names pending → old ≡ lexeme ∷ left → expression_symbol_of lexeme ≡ sign kind.And
     → Wants whole left nodes names (And depth ∷ pending)
@@ -300,7 +300,7 @@ wants_conjunct whole old left lexeme depth nodes names pending has next is = rec
   passed = passed_next whole old left lexeme _ _ _ has.passed next is (sym (append_assoc (before_symbols has.before) (label_symbols has.part) (sign kind.And ∷ [])));
 }
 
--- `|` is passed behind a part
+-- `|` is passed after a part
 pub wants_disjunct : (whole old left : List (Lexeme HoaKind)) (lexeme : Lexeme HoaKind) (depth : ℕ) (nodes : List LabelNode) (names : List ℕ) (pending : List Pending)
     → Has disjunctive whole old depth nodes names pending → old ≡ lexeme ∷ left → expression_symbol_of lexeme ≡ sign kind.Or
     → Wants whole left nodes names (Or depth ∷ pending)
@@ -629,7 +629,7 @@ has_literal false whole old first next left depth deeper value nodes all names s
     (subst (λ p. Has conjunctive whole left deeper all names p) (sym waits)
     (has_conjoined whole left 1 depth deeper (nodes ++ literal false value) all names _ pending refl flat deep atom))
 
--- `&` is passed and waits, and behind it `!` or not
+-- `&` is passed and waits, and after it `!` or not
 pub after_and_not : (negated : Bool) (whole old first next place : List (Lexeme HoaKind)) (depth : ℕ) (nodes all : List LabelNode) (names same : List ℕ) (pending more : List Pending)
     → PassesOne kind.And old first → MatchBool negated (PassesOne kind.Not first next) (next ≡ first) → place ≡ next
     → all ≡ nodes → same ≡ names → more ≡ (if negated then Not ∷ And depth ∷ pending else And depth ∷ pending)

@@ -41,7 +41,7 @@ closed (opened before) part = bound before (group part)
 closed start part = whole part
 closed before part = failed
 
--- the label behind which other tokens stand
+-- the label after which other tokens stand
 abbrev finished : Before → RawLabelTree → Stage
 finished start part = whole part
 finished before part = failed
@@ -102,7 +102,7 @@ fits-more (denied before) fits = fits
 fits-more (anded before left) fits = fits
 fits-more (ored before left) fits = absurd fits
 
--- an or-expression is read: what stands last of it, behind what stands before that
+-- an or-expression is read: what stands last of it, after what stands before that
 pub record IsReadBehind (before : Before) (part : RawLabelTree) (stage : Stage) : Type 0 where
   pub inner : Before
   pub last : RawLabelTree

@@ -71,7 +71,7 @@ stretch-none old start =
     let none : 0 ≡ start - start = omega arith in
     sym (append-nil old) ∙ ap (λ n. old ++ take n (drop start old)) none
 
--- a part, and the one behind it
+-- a part, and the one after it
 stretch-more : (old : List LabelNode) (start middle stop : ℕ) → start ≤ middle → middle ≤ stop → slice_range old start middle ++ slice_range old middle stop ≡ slice_range old start stop
 stretch-more old start middle stop first last =
     let place : middle ≡ start + (middle - start) = omega (arith, first) in

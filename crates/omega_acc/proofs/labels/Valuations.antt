@@ -104,7 +104,7 @@ number_of-lowest held next rest =
     let low : number_of held (next ∷ rest) % 2 ≡ digit (held next) = omega arith in
     ap (λ bit. eqb bit 1) (bit_at_lowest (number_of held (next ∷ rest)) ∙ low) ∙ digit-is (held next)
 
--- the others are those of the propositions behind it
+-- the others are those of the propositions after it
 number_of-higher : (held : ℕ → Bool) (next : ℕ) (rest : List ℕ) (place : ℕ)
     → bit_at (number_of held (next ∷ rest)) (suc place) ≡ bit_at (number_of held rest) place
 number_of-higher held next rest place =

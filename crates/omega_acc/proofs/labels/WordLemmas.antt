@@ -77,7 +77,7 @@ pub peak-from : (height : ℕ) (nodes : List LabelNode) → height ≤ peak heig
 peak-from height [] = omega arith
 peak-from height (next ∷ nodes) = omega arith
 
--- so there is room for the words behind each node
+-- so there is room for the words after each node
 pub peak-grown : (room height : ℕ) (nodes : List LabelNode) (place : ℕ) (node d : LabelNode) → place < length nodes → get_or nodes place d ≡ node
     → peak height (drop place nodes) ≤ room → height_with height node ≤ room
 peak-grown room height nodes place node d within here fits =

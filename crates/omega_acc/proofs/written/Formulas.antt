@@ -79,7 +79,7 @@ apart-set : (negated : Bool) (set : ℕ) (rest : List ℕ) → StandsApart (set_
 apart-set true set rest = record { ends = refl; closes = λ is. omega (arith, is) }
 apart-set false set rest = record { ends = refl; closes = λ is. omega (arith, is) }
 
--- the tokens of a set behind its `(` or `!`
+-- the tokens of a set after its `(` or `!`
 there-closed : Tokens → (set : ℕ) (source behind : List ℕ) (from : ℕ) → set ≤ most_number
     → drop from source ≡ (decimal set ++ 41 ∷ []) ++ behind → AreThere source from (from + length (decimal set ++ 41 ∷ [])) (number set ∷ sign kind.CloseParenthesis ∷ [])
 there-closed laws set source behind from fit stands =

@@ -33,7 +33,7 @@ without_sets Min Odd = false
 abbrev pub atom_of : Parity → ℕ → AccTree
 atom_of parity set = if has_parity parity set then inf false set else fin false set
 
--- the atom of a set and the formula of the sets behind it
+-- the atom of a set and the formula of the sets after it
 abbrev pub joined_to : Parity → ℕ → AccTree → AccTree
 joined_to parity set rest = if has_parity parity set then disjunction (inf false set) rest else conjunction (fin false set) rest
 

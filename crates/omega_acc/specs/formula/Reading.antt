@@ -42,7 +42,7 @@ pub record ReadsAcc (tokens : List (Lexeme HoaKind)) (tree : RawAccTree) (rest :
   pub is : IsAccOf disjunctive tree
   pub ends : EndsThere rest
 
--- no front of the tokens is a formula with no operator behind it
+-- no front of the tokens is a formula with no operator after it
 abbrev pub ReadsNoAcc : List (Lexeme HoaKind) → Type 0
 ReadsNoAcc tokens = (tree : RawAccTree) (rest : List (Lexeme HoaKind)) → ReadsAcc tokens tree rest → ⊥
 

@@ -39,7 +39,7 @@ atom tree = Some (record { tree = tree; depth = 1 })
 abbrev pub in_parentheses : Meaning → Meaning
 in_parentheses part = record { tree = part.tree; depth = part.depth + 1 }
 
--- a meaning behind `!`
+-- a meaning after `!`
 abbrev pub negated : Meaning → Meaning
 negated part = record { tree = label.negation part.tree; depth = part.depth + 1 }
 
@@ -60,7 +60,7 @@ replaced entries (conjunction left right) = both label.conjunction (replaced ent
 replaced entries (disjunction left right) = both label.disjunction (replaced entries left) (replaced entries right)
 replaced entries (group part) = option_map in_parentheses (replaced entries part)
 
--- the entries of definitions behind earlier ones: each means what it does under those before it alone
+-- the entries of definitions after earlier ones: each means what it does under those before it alone
 abbrev pub entries_of : List Entry → List Defined → List Entry
 entries_of before [] = []
 entries_of before (next ∷ rest) =

@@ -41,7 +41,7 @@ pub record Reads (tokens : List (Lexeme HoaKind)) (tree : RawLabelTree) (rest : 
   pub is : IsOf disjunctive tree
   pub ends : EndsThere rest
 
--- no front of the tokens is a label with no operator behind it
+-- no front of the tokens is a label with no operator after it
 abbrev pub ReadsNoLabel : List (Lexeme HoaKind) → Type 0
 ReadsNoLabel tokens = (tree : RawLabelTree) (rest : List (Lexeme HoaKind)) → Reads tokens tree rest → ⊥
 

@@ -19,7 +19,7 @@ use omega_text::{HoaKind, Refusal, TextFault, TokenSource};
 use std::alloc::Global;
 
 /// Reads an acceptance formula as it is written, which is the one front of the tokens that is a formula and has neither
-/// `&` nor `|` behind it (HOA v1, acceptance). Refusal 3 where there is none. Linear time, without recursion.
+/// `&` nor `|` after it (HOA v1, acceptance). Refusal 3 where there is none. Linear time, without recursion.
 pub fn read_raw_acc<'a, S: TokenSource<'a, HoaKind>>(
     alloc: Global,
     source: &mut S,
@@ -35,7 +35,7 @@ pub fn read_raw_acc<'a, S: TokenSource<'a, HoaKind>>(
 }
 
 /// Reads an acceptance formula as `read_raw_acc` does, and gives what it means. Refusal 3 where there is none, else 31
-/// where an atom is neither `Fin` nor `Inf`, else 32 where it is over 256 deep; the tokens behind it are then left.
+/// where an atom is neither `Fin` nor `Inf`, else 32 where it is over 256 deep; the tokens after it are then left.
 pub fn read_acc<'a, S: TokenSource<'a, HoaKind>>(
     alloc: Global,
     source: &mut S,
@@ -97,7 +97,7 @@ fn is_prefix<'a, S: TokenSource<'a, HoaKind>>(
     Ok(false)
 }
 
-/// Passes a token behind a part, with the part that it joins, and says whether more may follow; if not,
+/// Passes a token after a part, with the part that it joins, and says whether more may follow; if not,
 /// the whole formula is read.
 fn goes_on<'a, S: TokenSource<'a, HoaKind>>(
     unfinished: &mut UnfinishedAcc,

@@ -191,7 +191,7 @@ fn is_buchi_formula(sets: u32, nodes: &[AccNode]) -> bool
     is_alone(rest, AccNode::Inf(false, 0))
 }
 
-/// The nodes behind this first one, if it is the first.
+/// The nodes after this first one, if it is the first.
 fn without_first(nodes: &[AccNode], node: AccNode) -> Option<&[AccNode]>
     ensures some { IfSome result (λ rest. nodes.now ≡ node ∷ rest.now) }
     ensures none { IfNone result ((rest : List AccNode) → nodes.now ≡ node ∷ rest → ⊥) }
@@ -244,7 +244,7 @@ fn without_sets(kind: ParityKind) -> AccNode
     }
 }
 
-/// The set behind which so many are left.
+/// The set after which so many are left.
 fn set_of(kind: ParityKind, behind: u32) -> u32
     requires { behind < kind.count }
     ensures { result ≡ first_left kind.order kind.count behind }
@@ -255,7 +255,7 @@ fn set_of(kind: ParityKind, behind: u32) -> u32
     }
 }
 
-/// The node of the atom of the set behind which so many are left.
+/// The node of the atom of the set after which so many are left.
 fn atom_of(kind: ParityKind, behind: u32) -> AccNode
     requires { behind < kind.count }
     ensures { result ≡ atom_node kind.parity (first_left kind.order kind.count behind) }
@@ -268,7 +268,7 @@ fn atom_of(kind: ParityKind, behind: u32) -> AccNode
     }
 }
 
-/// The node that joins that atom to the sets behind it.
+/// The node that joins that atom to the sets after it.
 fn joining_of(kind: ParityKind, behind: u32) -> AccNode
     requires { behind < kind.count }
     ensures { result ≡ joining_node kind.parity (first_left kind.order kind.count behind) }

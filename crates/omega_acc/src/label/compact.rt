@@ -253,7 +253,7 @@ impl Compact {
         Compact::of(alloc, more)
     }
 
-    /// The nodes and names of both and behind them an operator, with another depth.
+    /// The nodes and names of both and after them an operator, with another depth.
     pub(crate) fn joined(
         self,
         other: Compact,

@@ -51,7 +51,7 @@ pub(crate) fn in_parentheses(part: Option<Extent>) -> Option<Extent>
     }
 }
 
-/// The extent of a part behind `!`.
+/// The extent of a part after `!`.
 pub(crate) fn negated(part: Option<Extent>) -> Option<Extent>
     ensures { result ≡ option_map negated_extent part }
 {

@@ -21,7 +21,7 @@ use omega_text::{AutomatonFault, HoaKind, Refusal, TextFault, TokenSource};
 use std::alloc::Global;
 
 /// Reads a label as it is written, which is the one front of the tokens that is a label and has neither `&` nor `|`
-/// behind it (HOA v1, label expressions). Refusal 3 where there is none. Linear time, without recursion.
+/// after it (HOA v1, label expressions). Refusal 3 where there is none. Linear time, without recursion.
 pub fn read_raw_label<'a, S: TokenSource<'a, HoaKind>>(
     alloc: Global,
     source: &mut S,
@@ -45,7 +45,7 @@ pub fn read_raw_label<'a, S: TokenSource<'a, HoaKind>>(
 }
 
 /// Reads a label as `read_raw_label` does. Refusal 3 where there is none, else 32 where it is over 256 deep, an alias
-/// having depth 1; the tokens behind it are then left.
+/// having depth 1; the tokens after it are then left.
 pub fn read_label<'a, S: TokenSource<'a, HoaKind>>(
     alloc: Global,
     source: &mut S,
@@ -114,7 +114,7 @@ fn is_prefix<'a, S: TokenSource<'a, HoaKind>>(
     Ok(false)
 }
 
-/// Passes a token behind a part, with the part that it joins, and says whether more may follow; if not,
+/// Passes a token after a part, with the part that it joins, and says whether more may follow; if not,
 /// the whole label is read.
 fn goes_on<'a, S: TokenSource<'a, HoaKind>>(
     unfinished: &mut Unfinished,
@@ -149,7 +149,7 @@ fn goes_on<'a, S: TokenSource<'a, HoaKind>>(
     Ok(true)
 }
 
-/// Reads the part behind an `&`, and joins it. A proposition, or one behind a `!`, as most parts are,
+/// Reads the part after an `&`, and joins it. A proposition, or one after a `!`, as most parts are,
 /// waits for nothing.
 fn conjunct<'a, S: TokenSource<'a, HoaKind>>(
     unfinished: &mut Unfinished,

@@ -81,7 +81,7 @@ impl Unfinished {
         self.conjoin(left)
     }
 
-    /// The next part waits for `&` and the part that stands last, and behind a `!` for that too.
+    /// The next part waits for `&` and the part that stands last, and after a `!` for that too.
     pub(crate) fn wait(&mut self, negated: bool) -> Result<(), Refusal>
         ensures pending { OnOk result (self.new.pending ≡ (if negated then Not ∷ WaitingAnd self.old.depth ∷ self.old.pending else WaitingAnd self.old.depth ∷ self.old.pending)) }
         ensures nodes { OnOk result (self.new.nodes.items ≡ self.old.nodes.items) }

@@ -1,4 +1,4 @@
--- An acceptance formula as a list of nodes, each behind its parts.
+-- An acceptance formula as a list of nodes, each after its parts.
 use Rattle.std.specs.Prelude.{◌≡◌, ℕ, ◌<◌, false, List, [], ◌∷◌, ◌++◌, length, slice_index_or}
 use Rattle.omega_acc.specs.formula.Acceptance.{AccTree, conjunction, constant, disjunction, fin, inf}
 use Rattle.omega_accepting.specs.declared.node.Node.{Node}
@@ -16,7 +16,7 @@ node_tree trees (Or left right) = disjunction (trees left) (trees right)
 abbrev pub tree_among : List AccTree → ℕ → AccTree
 tree_among trees place = slice_index_or trees place (constant false)
 
--- formulas, and behind them those of nodes
+-- formulas, and after them those of nodes
 abbrev pub trees_behind : List AccTree → List Node → List AccTree
 trees_behind trees [] = trees
 trees_behind trees (node ∷ nodes) = trees_behind (trees ++ node_tree (tree_among trees) node ∷ []) nodes
@@ -45,6 +45,6 @@ IsMade count (Fin negated set) = Unit {0}
 IsMade count (And left right) = (left < count) × (right < count)
 IsMade count (Or left right) = (left < count) × (right < count)
 
--- nodes stand behind others, which keep their places
+-- nodes stand after others, which keep their places
 abbrev pub Goes : List Node → List Node → Type 0
 Goes before after = (more : List Node) × (after ≡ before ++ more)

@@ -101,7 +101,7 @@ replaced_below count entries all (group part) h = parentheses_below count (repla
 within : (count : ℕ) (raw : RawLabelTree) → is_beyond count raw ≡ false → are_below count (raw_propositions raw) ≡ true
 within count raw h = not-false (are_below count (raw_propositions raw)) h
 
--- the entries of definitions behind earlier ones
+-- the entries of definitions after earlier ones
 entries_below : (count : ℕ) (before : List Entry) (definitions : List Defined) → AllMentionBelow count before
     → All (λ defined. is_beyond count defined.body ≡ false) definitions → AllMentionBelow count (entries_of before definitions)
 entries_below count before [] all bodies = All-nil (λ entry. MentionsBelow count entry.meaning)

@@ -77,7 +77,7 @@ pub(crate) fn has_name_twice(alloc: Global, names: &[ByteString]) -> Result<bool
     sees_name_twice(&mut seen, names)
 }
 
-/// The same of names each of which is compared with all behind it.
+/// The same of names each of which is compared with all after it.
 fn any_two_alike(names: &[ByteString]) -> bool
     ensures { result ≡ has_repeat bytes_eq names.now }
 {

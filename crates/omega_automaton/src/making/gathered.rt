@@ -93,7 +93,7 @@ fn keep_first<T: Drop>(kept: &mut Option<T>, value: T)
     }
 }
 
-/// Puts words behind others. Where there are no others, as at the first item, all are moved at once.
+/// Puts words after others. Where there are no others, as at the first item, all are moved at once.
 fn put_all(words: &mut Vec<ByteString>, more: Seq<ByteString>) -> Result<(), Refusal>
     ensures ok { OnOk result (words.new.items ≡ words.old.items ++ more) }
     ensures err { IfErr result IsMemory }

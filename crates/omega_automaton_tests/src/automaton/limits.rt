@@ -249,7 +249,7 @@ fn put_states(text: &mut Vec<u8>, count: u32) -> Result<(), Refusal> {
     Ok(())
 }
 
-// A text with 20,000 states and what stands behind them.
+// A text with 20,000 states and what stands after them.
 fn many_states(alloc: Global, last: &str) -> Result<Vec<u8>, Refusal> {
     let mut text = text_of(alloc, &[("HOA: v1 Acceptance: 0 t --BODY-- ", 1)])?;
     put_states(&mut text, 20_000)?;

@@ -18,7 +18,7 @@ static ALONE: [(&str, Told); 15] = [
     ("x $", (1, Some(2))),
     ("HOA: v2 --BODY-- --END-- $", (1, Some(25))),
     ("HOA: 00 $", (2, Some(5))),
-    // A segment's syntax, then a token behind it, then its meaning.
+    // A segment's syntax, then a token after it, then its meaning.
     ("HOA: v2 ( --BODY-- --END-- x", (3, Some(8))),
     ("HOA: v2 --BODY-- --END-- x", (3, Some(25))),
     ("HOA: v2 --BODY-- --END--", (20, None)),

@@ -57,7 +57,7 @@ static PIECES: [(&[&str], &[Told], (usize, usize)); 12] = [
         &[(0, None), (0, None), (0, None), (0, None)],
         (0, 1),
     ),
-    // A fault of meaning and one of syntax behind an automaton, each in the call that completes its segment.
+    // A fault of meaning and one of syntax after an automaton, each in the call that completes its segment.
     (
         &[
             "HOA: v1 Acceptance: 0 t --BODY-- --END-- HOA: v2 --BODY-- --END",
@@ -134,7 +134,7 @@ const BROKEN: &str = "HOA: --ABORT-- HOA: v1 States: x --BODY-- --END-- ";
 
 const BROKEN_AT: Told = (3, Some(31));
 
-// Whether of two pieces the one that completes the second segment is refused there, and all that comes behind it.
+// Whether of two pieces the one that completes the second segment is refused there, and all that comes after it.
 fn is_broken_in_two(alloc: Global, front: &[u8], back: &[u8]) -> bool {
     let mut items = Vec::new(alloc);
     let mut stream = Stream::new(alloc);

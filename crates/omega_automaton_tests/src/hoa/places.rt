@@ -39,7 +39,7 @@ fn places_count_from_the_first_byte(rt: HostRuntime) {
 
 const BEFORE: &str = "HOA: --ABORT-- ";
 
-// The place of a fault in a segment behind another.
+// The place of a fault in a segment after another.
 fn second_place(place: usize) -> Option<usize> {
     place.checked_add(BEFORE.len())
 }

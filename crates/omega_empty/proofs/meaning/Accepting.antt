@@ -117,7 +117,7 @@ module _ (a : Description) (game : List Node) (automaton : IsAutomaton a) (is : 
           } in
           subst (λ numbers. AcceptsFrom a start stem numbers) (sym read.numbers_are) (all, refl)
 
--- the walks are read, one behind the other
+-- the walks are read, one after the other
 pub won_walks_accept : ParityIsPriority → BuchiIsEverySet → WonWalksAccept
 won_walks_accept parity buchi a game choices start v there around automaton is begins below named walk ends closed even =
     go (reading is.kind a is.usable game automaton is.usable_are is.game_is (single a game automaton is) Zero choices v 0 start there

@@ -29,7 +29,7 @@ module _ (kind : AccKind) (a : Description) (usable : List Bool) (game : List No
     pub greatest_is : greatest_on game v ws ≡ greatest_number (priorities_from kind counter (map (marks_at a) numbers))
     pub longer : 0 < length ws → 0 < length numbers
 
-  -- a walk from a state's node ends at a state's, behind an odd number of steps at an edge's, or at the sink
+  -- a walk from a state's node ends at a state's, after an odd number of steps at an edge's, or at the sink
   pub data Reading (v counter state : ℕ) (ws : List ℕ) : Type 0 where
     whole : IsRead v counter state ws → Reading v counter state ws
     half : (c number : ℕ) (edge : BodyEdge) → AtEdge kind a usable game automaton judged made (end_of v ws) c number edge

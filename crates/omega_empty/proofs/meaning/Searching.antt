@@ -50,7 +50,7 @@ module _ (a : Description) (game : List Node) (automaton : IsAutomaton a) (is : 
   inside : (u : ℕ) → u < length game → next u < length game
   inside u below = is.game_is.game.closed u (next u) (left u below).listed
 
-  -- behind an even number of steps no edge's node stands
+  -- after an even number of steps no edge's node stands
   ends : (there around : List ℕ) (i : ℕ) → length there ≡ i + i → IsClosedWalk game Zero region.choices (end_of v there) around
       → greatest_on game (end_of v there) around % 2 ≡ 0
       → Reading is.kind a is.usable game automaton is.usable_are is.game_is v 0 start there → within_counter a game (end_of v there) < a.states

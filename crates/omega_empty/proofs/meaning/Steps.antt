@@ -61,7 +61,7 @@ module _ (kind : AccKind) (a : Description) (usable : List Bool) (game : List No
     pub at_state : AtState u (counter_after kind counter (marks_of edge)) state
     pub enters : edge.edge.targets ≡ state ∷ []
 
-  -- within the counter, a state's node has its state, and an edge's the number behind all states
+  -- within the counter, a state's node has its state, and an edge's the number after all states
   pub state_within : (v counter state : ℕ) → AtState v counter state → within_counter a game v ≡ state
   state_within v counter state at =
       let below : state < span a = omega (arith, at.state_below) in

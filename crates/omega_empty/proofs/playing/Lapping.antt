@@ -13,7 +13,7 @@ laps_on cycle zero m q sum = let e : m ≡ q = omega arith in ap (laps cycle) e
 laps_on cycle (suc p) m zero sum = absurd (omega arith)
 laps_on cycle (suc p) m (suc q) sum = append_assoc cycle (laps cycle p) (laps cycle m) ∙ ap (λ list. cycle ++ list) (laps_on cycle p m q (omega arith))
 
--- the counter behind some marks and then others
+-- the counter after some marks and then others
 pub counter_on : (kind : AccKind) (counter : ℕ) (xs ys : List (List ℕ)) → counter_behind kind counter (xs ++ ys) ≡ counter_behind kind (counter_behind kind counter xs) ys
 counter_on kind counter [] ys = refl
 counter_on kind counter (x ∷ xs) ys = counter_on kind (counter_after kind counter x) xs ys

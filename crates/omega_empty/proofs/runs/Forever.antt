@@ -6,7 +6,7 @@ use Rattle.omega_acc.specs.formula.Acceptance.{AccTree, accepts, conjunction, co
 use Rattle.omega_walk.specs.Marks.{meets}
 use Rattle.omega_empty.specs.Runs.{Satisfies}
 
--- numbers in order, and then c and those behind it for ever
+-- numbers in order, and then c and those after it for ever
 abbrev pub ever : ℕ → List ℕ → List ℕ → ℕ → ℕ
 ever c cs [] zero = c
 ever c cs [] (suc i) = ever c cs cs i
@@ -25,7 +25,7 @@ module _ (c : ℕ) (cs : List ℕ) (test : ℕ → Bool) where
     | inr later ↦ let found = comes_in xs later in (suc found.0, found.1)
   ]
 
-  -- what passes somewhere in the lap comes in the lap behind a list
+  -- what passes somewhere in the lap comes in the lap after a list
   comes_at_last : (xs : List ℕ) → list_any test (c ∷ cs) ≡ true → (j : ℕ) × (test (ever c cs xs j) ≡ true)
   comes_at_last [] some = elim (or_cases (test c) (list_any test cs) some) [
     | inl here ↦ (0, here)
@@ -33,7 +33,7 @@ module _ (c : ℕ) (cs : List ℕ) (test : ℕ → Bool) where
   ]
   comes_at_last (x ∷ xs) some = let found = comes_at_last xs some in (suc found.0, found.1)
 
-  -- at or behind every index
+  -- at or after every index
   pub comes_again : (xs : List ℕ) (i : ℕ) → list_any test (c ∷ cs) ≡ true → (j : ℕ) × (i ≤ j) × (test (ever c cs xs j) ≡ true)
   comes_again xs zero some = let found = comes_at_last xs some in (found.0, omega arith, found.1)
   comes_again [] (suc i) some = let found = comes_again cs i some in (suc found.0, omega (arith, found.1), found.2)
@@ -46,7 +46,7 @@ module _ (c : ℕ) (cs : List ℕ) (test : ℕ → Bool) where
   never_comes (x ∷ xs) zero none lap = (or_parts (test x) (list_any test xs) none).0
   never_comes (x ∷ xs) (suc j) none lap = never_comes xs j (or_parts (test x) (list_any test xs) none).1 lap
 
-  -- what passes nowhere in the lap never comes behind the list
+  -- what passes nowhere in the lap never comes after the list
   pub never_behind : (xs : List ℕ) (j : ℕ) → length xs ≤ j → list_any test (c ∷ cs) ≡ false → test (ever c cs xs j) ≡ false
   never_behind [] j behind lap = never_comes [] j refl lap
   never_behind (x ∷ xs) zero behind lap = absurd (omega arith)
@@ -59,7 +59,7 @@ module _ (marks : ℕ → List ℕ) where
   occurs_is negated set [] = refl
   occurs_is negated set (x ∷ xs) = ap (λ b. meets negated set (marks x) || b) (occurs_is negated set xs)
 
-  -- a formula that holds of the lap's marks is satisfied by the lap for ever behind a list
+  -- a formula that holds of the lap's marks is satisfied by the lap for ever after a list
   pub ever_satisfies : (c : ℕ) (cs xs : List ℕ) (f : AccTree) → accepts (map marks (c ∷ cs)) f ≡ true → Satisfies (λ i. marks (ever c cs xs i)) f
   ever_satisfies c cs xs (constant value) accepted = accepted
   ever_satisfies c cs xs (inf negated set) accepted =

@@ -46,7 +46,7 @@ module _ (a : Description) (states edges : ℕ → ℕ) (run : IsAcceptingRun a 
   abbrev marks : ℕ → List ℕ
   marks i = marks_at a (edges i)
 
-  -- where the run is cut: each segment holds all that comes for ever, behind all that at last comes never
+  -- where the run is cut: each segment holds all that comes for ever, after all that at last comes never
   abbrev cut : ℕ → ℕ
   cut zero = settled marks a.acceptance run.accepted
   cut (suc k) = max (suc (cut k)) (enough marks a.acceptance run.accepted (cut k))

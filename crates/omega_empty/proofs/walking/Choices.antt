@@ -67,7 +67,7 @@ module _ (a : Description) (game : List Node) (automaton : IsAutomaton a) (is : 
     chosen = λ owned other chosen. one_choice choices v w other choice chosen;
   }
 
-  -- there is a choice at a state's node, and one behind it
+  -- there is a choice at a state's node, and one after it
   pub first_choice : (v : ℕ) → AtWon v → (w : ℕ) × Chooses choices v w
   first_choice v here =
       exact.chosen v (region v here.at.place here.wins)
@@ -123,7 +123,7 @@ module _ (a : Description) (game : List Node) (automaton : IsAutomaton a) (is : 
         next = record { counter = _; state = step.entering.state; at = step.entering.at_state; wins = step.kept };
       }
 
-  -- a place was met behind so many edges, and walks lead there and on
+  -- a place was met after so many edges, and walks lead there and on
   pub record Met (v at u j : ℕ) (edges : List ℕ) : Type 0 where
     pub before : List ℕ
     pub after : List ℕ

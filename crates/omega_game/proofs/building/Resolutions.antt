@@ -105,7 +105,7 @@ lists_of-map {X} {Y} f starts items = ap (λ g. map g (range_with_len 0 (length 
     each : (i : ℕ) → list_at starts (map f items) i ≡ map f (list_at starts items i)
     each i = ap (λ n. slice_range (map f items) (get_or starts i n) (get_or starts (i + 1) n)) size ∙ part (get_or starts i (length items)) (get_or starts (i + 1) (length items))
 
--- a front of a list is a shorter front and the part behind it
+-- a front of a list is a shorter front and the part after it
 take_parts : {X : Type 0} (xs : List X) (a b : ℕ) → a ≤ b → take b xs ≡ take a xs ++ slice_range xs a b
 take_parts xs a b h =
     let whole : a + (b - a) ≡ b = omega arith in
@@ -126,7 +126,7 @@ flat_below starts items (suc n) a =
     ∙ ap (λ xs. xs ++ flat_map (λ list. list) (list_at starts items n ∷ [])) (flat_below starts items n a)
     ∙ ap (λ xs. take (get_or starts n (length items)) items ++ xs) (append-nil (list_at starts items n)) ∙ sym front)
 
--- the lists one behind the other are the items
+-- the lists one after the other are the items
 pub flat-lists_of : {X : Type 0} (starts : List ℕ) (items : List X) → AreStarts starts (length items) → flat_map (λ list. list) (lists_of starts items) ≡ items
 unfolding lists_of
 flat-lists_of starts items a = flat_below starts items (length starts) a ∙ ap (λ n. take n items) (get_or_past starts (length starts) (length items) (omega arith)) ∙ take_all (length items) items (omega arith)

@@ -134,7 +134,7 @@ module _ (nodes : List Node) (most : ℕ) (places : List ℕ) (marks : List Bool
       waiting v (inr e) = inr (mark_set marks' p v below e)
 
 module _ (nodes : List Node) (choices : List (Option ℕ)) (most : ℕ) where
-  -- a path and an edge behind it
+  -- a path and an edge after it
   pub path_on : (v : ℕ) (ws : List ℕ) (u w : ℕ) → IsLowPath nodes choices most v ws → end_of v ws ≡ u
       → Contains (left_at nodes choices u) w → priority_at nodes w ≤ most → IsLowPath nodes choices most v (ws ++ w ∷ [])
   path_on v [] u w path ends edge low = (path, subst (λ x. Contains (left_at nodes choices x) w) (sym ends) edge, low)
@@ -156,7 +156,7 @@ module _ (nodes : List Node) (choices : List (Option ℕ)) (most : ℕ) where
     ends = end_on reached.start reached.after w;
   }
 
-  -- a search on its way: the marks are of places that are reached, and what is not marked yet lies behind what waits
+  -- a search on its way: the marks are of places that are reached, and what is not marked yet lies after what waits
   pub record IsSearch (places : List ℕ) (marks : List Bool) (stack : List ℕ) : Type 0 where
     pub count : length marks ≡ length nodes
     pub sound : (v : ℕ) → IsTrue (mark_at marks v) → IsReachedFrom nodes choices most places v

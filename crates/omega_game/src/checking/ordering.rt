@@ -78,7 +78,7 @@ pub(crate) fn ranks_along(
     Ok(ranks)
 }
 
-/// For each position the first one behind it with a greater rank, or the length.
+/// For each position the first one after it with a greater rank, or the length.
 pub(crate) fn ends_of(alloc: Global, ranks: &[u32]) -> Result<Vec<u32>, AllocError>
     requires few { length ranks.now + 1 < 2 ^ 32 }
     ensures count { IfOk result (λ ends. vec_len ends ≡ length ranks.now) }
@@ -94,7 +94,7 @@ pub(crate) fn ends_of(alloc: Global, ranks: &[u32]) -> Result<Vec<u32>, AllocErr
     Ok(ends)
 }
 
-/// The first position behind `index` with a greater rank, found by the ends of the positions behind it.
+/// The first position after `index` with a greater rank, found by the ends of the positions after it.
 fn end_behind(ranks: &[u32], ends: &[u32], index: u32) -> u32
     requires few { length ranks.now + 1 < 2 ^ 32 }
     requires index { index < length ranks.now }

@@ -10,7 +10,7 @@ use crate::player::Player;
 use crate::reaching::{edges_left, reached_from};
 use std::alloc::{AllocError, Global};
 
-/// Whether a place is reached again behind itself through priorities at most its own.
+/// Whether a place is reached again after itself through priorities at most its own.
 pub(crate) fn recurs(
     alloc: Global,
     game: &Arena,

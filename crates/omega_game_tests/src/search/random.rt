@@ -7,7 +7,7 @@ use omega_game::{Game, GameBuilder, Refusal};
 use omega_search::solve_by_search;
 use std::alloc::Global;
 
-/// The number behind another in a pseudo-random order.
+/// The number after another in a pseudo-random order.
 fn next(number: u64) -> u64 {
     number
         .wrapping_mul(6_364_136_223_846_793_005)

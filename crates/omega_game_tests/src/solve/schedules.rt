@@ -7,7 +7,7 @@ use std::alloc::Global;
 use std::process::Abort;
 
 /// Takes a schedule of so many places through steps, after which none is pending. A digit is the place to look at,
-/// which is taken out; one behind a `+` is made pending.
+/// which is taken out; one after a `+` is made pending.
 fn follow<S: Schedule, R: Abort>(rt: &R, schedule: &mut S, places: u32, steps: &[u8])
     requires { length (S.waiting schedule.old).flags ≡ places }
     ensures { length (S.waiting schedule.new).flags ≡ places }

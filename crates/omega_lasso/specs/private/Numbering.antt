@@ -25,7 +25,7 @@ ends_in names edge = record { from = name_in names edge.from; to = name_in names
 abbrev pub IsNamed : List ℕ → Edge → Type 0
 IsNamed names edge = (edge.from < length names) × (edge.to < length names)
 
--- names behind others, which keep their numbers: so many more at most
+-- names after others, which keep their numbers: so many more at most
 pub record Grows (count : ℕ) (before after : List ℕ) : Type 0 where
   pub more : List ℕ
   pub is : after ≡ before ++ more

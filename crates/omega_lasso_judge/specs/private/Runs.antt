@@ -12,11 +12,11 @@ run_in rows mark = if list_any (holds mark) rows then Some (prefix_len (holds ma
 abbrev pub AreRuns : List (List ℕ) → (ℕ → Option ℕ) → Type 0
 AreRuns rows look = (mark : ℕ) → look mark ≡ run_in rows mark
 
--- the run with one row more, behind so many
+-- the run with one row more, after so many
 abbrev pub longer_run : ℕ → ℕ → ℕ
 longer_run at run = if run == at then at + 1 else run
 
--- a mark goes on in the row behind so many, and others stay
+-- a mark goes on in the row after so many, and others stay
 pub record GoesOn (at mark : ℕ) (old new : ℕ → Option ℕ) : Type 0 where
   pub here : new mark ≡ Some (longer_run at (unwrap_or (old mark) 0))
   pub others : (other : ℕ) → (mark == other) ≡ false → new other ≡ old other

@@ -47,7 +47,7 @@ abbrev pub run : LassoState → List LassoSymbol → Option LassoState
 run state [] = Some state
 run state (symbol ∷ symbols) = option_and_then (λ next. run next symbols) (step state symbol)
 
--- the state is one of a whole text: `cycle` was read, and a number behind it
+-- the state is one of a whole text: `cycle` was read, and a number after it
 abbrev pub IsEnded : LassoState → Type 0
 IsEnded state = (state.stage ≡ Cycle) × (0 < length state.around)
 

@@ -68,7 +68,7 @@ refused_built source state (Task fault) read refused = absurd refused
 refused_built source state Memory read refused = inl refl
 refused_built source state Io read refused = absurd refused
 
--- behind a header that is too small there is a fault
+-- after a header that is too small there is a fault
 header_faulty : (duplicate undefined : Bool) (x y z : GameFault)
     → (if duplicate then Some x else if undefined then Some y else Some z) ≡ None → ⊥
 header_faulty true undefined x y z e = cc

@@ -30,7 +30,7 @@ shown_by_run symbols state e =
     run_by_shown step Shows step_shown initial [] symbols (record { there = record { none = refl; empty = refl; shown = refl }; small = refl }) in
     subst (λ o. IfSome o (λ next. Shows next symbols)) e shown
 
--- a run that ends behind a node has read a text
+-- a run that ends after a node has read a text
 pub SpellsGame-from_run : (symbols : List PgSymbol) (state : GameReaderState) → run initial symbols ≡ Some state → state.stage ≡ Ended → SpellsGame symbols (raw_of state)
 SpellsGame-from_run symbols state e ended =
     let there : ShowsAt Ended state.header state.specs symbols =
@@ -59,7 +59,7 @@ completion Listed = semicolon ∷ []
 completion Comma = number 0 ∷ semicolon ∷ []
 completion Named = semicolon ∷ []
 
--- a text has ended behind a node
+-- a text has ended after a node
 abbrev pub IsEnded : GameReaderState → Type 0
 IsEnded state = state.stage ≡ Ended
 
@@ -83,7 +83,7 @@ reads symbols raw text =
     let found = run_text symbols raw text in
     record { state = at Ended raw.header raw.specs found.small; runs = found.runs; ended = refl; kept = refl }
 
--- it has ended behind a node, or has not
+-- it has ended after a node, or has not
 ended_or_open : (stage : Stage) → (stage ≡ Ended) ⊎ (stage ≡ Ended → ⊥)
 ended_or_open Ended = inl refl
 ended_or_open _ = inr (λ e. cc)
@@ -112,7 +112,7 @@ pub taken_reached_all : (Self : Type 0) (result : Result Bool Refusal) (state ne
 taken_reached_all Self (Ok taken) state next lexeme takes = λ start lexemes reached. taken_reached taken state next lexemes lexeme takes reached
 taken_reached_all Self (Err refusal) state next lexeme takes = tt
 
--- tokens that lead behind a node are a text, and others are unfinished
+-- tokens that lead after a node are a text, and others are unfinished
 pub judged_end : (done : Bool) (state : GameReaderState) (lexemes : List (Lexeme PgKind)) → IsTrue done ↔ (state.stage ≡ Ended) → IsReachedBy (symbols_of lexemes) state
     → IsWholeOrUnfinished done (TokensBegin game_syntax) (TokensComplete game_syntax) lexemes
 judged_end true state lexemes ended reached = (raw_of state, SpellsGame-from_run (symbols_of lexemes) state reached.0 (ended.0 refl))

@@ -35,7 +35,7 @@ head_symbols id priority owner first = number id ∷ number priority ∷ number 
 nothing : (source : List ℕ) (from : ℕ) → from ≤ length source → IsPiece source from from []
 nothing source from within = record { lexemes = []; cuts = refl; spelled = refl; forward = omega arith; within = within }
 
--- a piece behind a piece
+-- a piece after a piece
 pub piece_on : (source : List ℕ) (from middle to : ℕ) (front back : List PgSymbol) → IsPiece source from middle front → IsPiece source middle to back
     → IsPiece source from to (front ++ back)
 piece_on source from middle to front back one other = record {
@@ -97,7 +97,7 @@ module _ (source : List ℕ) (at : ℕ) (inside : at < length source) where
   pub comma_piece : get_or source at 0 ≡ 44 → IsPiece source at (at + 1) (comma ∷ [])
   comma_piece is = sign_piece Comma 44 is (inr refl) (refl, refl)
 
--- behind a successor a specification is open
+-- after a successor a specification is open
 pub open_ready : (state : GameReaderState) → state.stage ≡ Listed → IsReady state → 0 < length state.specs
 open_ready state listed ready = subst (λ stage. IsReadyAt stage state.specs) listed ready
 

@@ -82,20 +82,20 @@ is_header_small-push (Some n) specs spec =
     list_any-append (λ (one : NodeSpec). nat_lt n one.id) specs (spec ∷ [])
     ∙ ap (λ b. list_any (λ (one : NodeSpec). nat_lt n one.id) specs || b) (or-false (nat_lt n spec.id))
 
--- one successor more is written behind a comma
+-- one successor more is written after a comma
 successor_symbols-push : (successors : List ℕ) (id : ℕ) → 0 < length successors
     → successor_symbols (successors ++ id ∷ []) ≡ successor_symbols successors ++ comma ∷ number id ∷ []
 successor_symbols-push [] id h = absurd (omega (arith, h))
 successor_symbols-push (first ∷ others) id h = ap (λ list. number first ∷ list) (flat_map-append (λ id. comma ∷ number id ∷ []) others (id ∷ []))
 
--- one node more is written behind the others
+-- one node more is written after the others
 spelled-push : (header : Option ℕ) (specs : List NodeSpec) (spec : NodeSpec)
     → spelled header (specs ++ spec ∷ []) ≡ spelled header specs ++ node_symbols spec
 spelled-push header specs spec =
     ap (λ list. header_symbols header ++ list) (flat_map-append node_symbols specs (spec ∷ []) ∙ ap (λ list. flat_map node_symbols specs ++ list) (append-nil (node_symbols spec)))
     ∙ sym (append_assoc (header_symbols header) (flat_map node_symbols specs) (node_symbols spec))
 
--- one symbol more behind whole nodes
+-- one symbol more after whole nodes
 IsBehind-push : (header : Option ℕ) (specs : List NodeSpec) (begun symbols : List PgSymbol) (symbol : PgSymbol)
     → IsBehind header specs begun symbols → IsBehind header specs (begun ++ symbol ∷ []) (symbols ++ symbol ∷ [])
 IsBehind-push header specs begun symbols symbol shown = record {

@@ -66,7 +66,7 @@ run_node header small specs spec rest h =
     run_owner header small specs spec.id spec.priority spec.owner _
     ∙ run_open header small specs spec.id spec.priority spec.owner spec.successors spec.name rest h
 
--- a run ended behind nodes, and kept these
+-- a run ended after nodes, and kept these
 pub record Keeps (state : GameReaderState) (symbols : List PgSymbol) (header : Option ℕ) (specs : List NodeSpec) : Type 0 where
   pub small : Bool
   pub runs : run state symbols ≡ Some (at Ended header specs small)

@@ -33,7 +33,7 @@ small_from_Covers (Some n) (spec ∷ specs) covers =
     (le-ltb n spec.id (All-head (λ (one : NodeSpec). one.id ≤ n) spec specs covers))
     (small_from_Covers (Some n) specs (All-tail (λ (one : NodeSpec). one.id ≤ n) spec specs covers))
 
--- without a fault of the specifications, behind a header that covers them, there is none
+-- without a fault of the specifications, after a header that covers them, there is none
 fault_in-none : (raw : RawGame) → game_fault_of raw.specs ≡ None → Covers raw.header raw.specs → fault_in raw ≡ None
 fault_in-none raw e covers =
     subst (λ small. fault_with small raw.specs ≡ None) (sym (small_from_Covers raw.header raw.specs covers)) e

@@ -61,7 +61,7 @@ sound_symbols source from to [] cuts = tt
 sound_symbols source from to (one ∷ lexemes) cuts =
     (sound_symbol one.kind one.value one.text cuts.0.token.spells, sound_symbols source one.span.end to lexemes cuts.1)
 
--- what holds of all symbols holds of those behind
+-- what holds of all symbols holds of those after
 pub sound_back : (xs ys : List PgSymbol) → AllByRecursion IsSound (xs ++ ys) → AllByRecursion IsSound ys
 sound_back [] ys all = all
 sound_back (x ∷ xs) ys all = sound_back xs ys all.1

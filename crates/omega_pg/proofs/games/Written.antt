@@ -45,7 +45,7 @@ others_end [] rest ends = ends
 others_end (id ∷ others) rest ends = refl
 
 module _ (tokens : TokensFollow) (gaps : EndsAreGaps) (numbers : NumbersAreLongest) (words : WordsAreLongest) (signs : SignsAreLongest) (names : NamesAreLongest) where
-  -- a name, the semicolon, and what is behind
+  -- a name, the semicolon, and what is after
   name_end_written : (called : Option (List ℕ)) (rest : List ℕ) (symbols : List PgSymbol) → IfSome called (All IsNameByte) → IsWritten rest symbols
       → IsWritten (name_part called ++ (59 ∷ rest)) (name_symbols called ++ (semicolon ∷ symbols))
   name_end_written None rest symbols allowed then = semicolon_written tokens gaps numbers words signs names rest symbols then
@@ -53,7 +53,7 @@ module _ (tokens : TokensFollow) (gaps : EndsAreGaps) (numbers : NumbersAreLonge
       name_written tokens gaps numbers words signs names bytes (59 ∷ rest) (semicolon ∷ symbols) allowed
       (semicolon_written tokens gaps numbers words signs names rest symbols then)
 
-  -- further identifiers, each behind a comma
+  -- further identifiers, each after a comma
   others_written : (others rest : List ℕ) (symbols : List PgSymbol) → All (λ id. id ≤ most_number) others → EndsNumber rest → IsWritten rest symbols
       → IsWritten (successors_behind others ++ rest) (flat_map (λ id. comma ∷ number id ∷ []) others ++ symbols)
   others_written [] rest symbols fits ends then = then
@@ -66,7 +66,7 @@ module _ (tokens : TokensFollow) (gaps : EndsAreGaps) (numbers : NumbersAreLonge
       (others_end others rest ends)
       (others_written others rest symbols (All-tail (λ id. id ≤ most_number) id others fits) ends then)))
 
-  -- identifiers behind a space
+  -- identifiers after a space
   listed_written : (ids rest : List ℕ) (symbols : List PgSymbol) → 0 < length ids → All (λ id. id ≤ most_number) ids → EndsNumber rest → IsWritten rest symbols
       → IsWritten (32 ∷ (successors_text ids ++ rest)) (successor_symbols ids ++ symbols)
   listed_written [] rest symbols some fits ends then = absurd (omega (arith, some))
@@ -78,7 +78,7 @@ module _ (tokens : TokensFollow) (gaps : EndsAreGaps) (numbers : NumbersAreLonge
       (others_end others rest ends)
       (others_written others rest symbols (All-tail (λ id. id ≤ most_number) first others fits) ends then))
 
-  -- a line behind a line feed
+  -- a line after a line feed
   line_written : (spec : NodeSpec) (rest : List ℕ) (symbols : List PgSymbol) → IsWellFormed spec → IsWritten (10 ∷ rest) symbols
       → IsWritten (10 ∷ (node_line spec ++ rest)) (node_symbols spec ++ symbols)
   line_written spec rest symbols well then =
@@ -98,7 +98,7 @@ module _ (tokens : TokensFollow) (gaps : EndsAreGaps) (numbers : NumbersAreLonge
       (listed_written spec.successors ending _ well.continued well.successors (name_ends spec.name (10 ∷ rest))
       (name_end_written spec.name (10 ∷ rest) symbols well.name then))))))
 
-  -- lines behind a line feed
+  -- lines after a line feed
   pub lines_written : (specs : List NodeSpec) → All IsWellFormed specs → IsWritten (10 ∷ flat_map node_line specs) (flat_map node_symbols specs)
   lines_written [] well = end_written tokens gaps numbers words signs names
   lines_written (spec ∷ specs) well =

@@ -73,7 +73,7 @@ module _ (tokens : TokensFollow) (gaps : EndsAreGaps) (numbers : NumbersAreLonge
     gap = gaps source from within (subst (AllPass is_white) (sym e) (All-cons (λ b. is_white b ≡ true) 10 [] refl (All-nil (λ b. is_white b ≡ true))));
   }
 
-  -- a token and what is written behind it
+  -- a token and what is written after it
   pub token_written : (gap text rest : List ℕ) (kind : PgKind) (value : ℕ) (symbols : List PgSymbol)
       → AllPass is_white gap → 0 < length text → Spells kind value text → IsLongest (text ++ rest) (length text)
       → IsWritten rest symbols → IsWritten (gap ++ (text ++ rest)) (symbol kind value text ∷ symbols)
@@ -112,7 +112,7 @@ module _ (tokens : TokensFollow) (gaps : EndsAreGaps) (numbers : NumbersAreLonge
   comma_written rest symbols then =
       token_written [] (codes ",") rest Comma 0 symbols (All-nil (λ b. is_white b ≡ true)) (omega arith) (refl, refl) (signs (codes ",") rest (inr refl)) then
 
-  -- a name behind a space
+  -- a name after a space
   pub name_written : (bytes rest : List ℕ) (symbols : List PgSymbol) → All IsNameByte bytes → IsWritten rest symbols
       → IsWritten (32 ∷ (quoted bytes ++ rest)) (name bytes ∷ symbols)
   name_written bytes rest symbols allowed then =

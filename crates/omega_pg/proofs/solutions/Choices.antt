@@ -26,7 +26,7 @@ chosen_inside nodes player choices v game strategy =
     [ None ↦ λ e. tt | Some w ↦ λ e. game.closed v w (strategy.listed v w (Chooses-from_choice choices v w e)) ]
     refl
 
--- one line more is written behind the others
+-- one line more is written after the others
 pub lines_more : (f : ℕ → SolutionLine) (k : ℕ) (front before after : List ℕ)
     → before ≡ front ++ flat_map solution_line (map f (range_with_len 0 k)) → after ≡ before ++ solution_line (f k)
     → after ≡ front ++ flat_map solution_line (map f (range_with_len 0 (k + 1)))
@@ -39,7 +39,7 @@ lines_more f k front before after e h =
 abbrev pub solution_front : List Node → List ℕ
 solution_front nodes = codes "paritysol " ++ (decimal (greatest_identifier nodes) ++ codes ";\n")
 
--- behind it the lines of all places are the text
+-- after it the lines of all places are the text
 pub text_written : (nodes : List Node) (solution : Solution) (k : ℕ) (out : List ℕ) → k ≡ length nodes
     → out ≡ solution_front nodes ++ flat_map solution_line (map (line_at nodes solution) (range_with_len 0 k))
     → out ≡ solution_text nodes solution

@@ -139,7 +139,7 @@ judged_more nodes lines line true winners zeros ones judged =
       }
     ]
 
--- lines behind judged ones are judged
+-- lines after judged ones are judged
 lines_judged : (nodes : List Node) (front rest : List SolutionLine) → Judged nodes front → Judged nodes (front ++ rest)
 lines_judged nodes front [] judged = subst (Judged nodes) (sym (append-nil front)) judged
 lines_judged nodes front (line ∷ rest) judged =

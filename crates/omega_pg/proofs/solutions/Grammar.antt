@@ -38,7 +38,7 @@ completion (Identifier id) = number 0 ∷ semicolon ∷ []
 completion (Winner id winner) = semicolon ∷ []
 completion (Chosen id winner successor) = semicolon ∷ []
 
--- a text has ended behind the header or a line
+-- a text has ended after the header or a line
 abbrev pub IsEnded : SolutionReaderState → Type 0
 IsEnded state = state.stage ≡ Ended
 
@@ -120,7 +120,7 @@ word_shown : (stage : Stage) (greatest : ℕ) (lines : List SolutionLine) (symbo
 word_shown Start greatest lines symbols shows = record { empty = shows.empty; shown = ap (λ list. list ++ paritysol ∷ []) shows.shown }
 word_shown _ greatest lines symbols shows = tt
 
--- a line more is spelled behind the others
+-- a line more is spelled after the others
 spelled-push : (greatest : ℕ) (lines : List SolutionLine) (line : SolutionLine) → spelled greatest (lines ++ line ∷ []) ≡ spelled greatest lines ++ line_symbols line
 spelled-push greatest lines line =
     ap (λ list. paritysol ∷ number greatest ∷ semicolon ∷ list)
@@ -151,7 +151,7 @@ step_shown state symbols semicolon shows = semicolon_shown state.stage state.gre
 step_shown state symbols comma shows = tt
 step_shown state symbols (name bytes) shows = tt
 
--- a run that ends behind the header or a line has read a text
+-- a run that ends after the header or a line has read a text
 pub SpellsSolution-from_run : (symbols : List PgSymbol) (state : SolutionReaderState) → run initial symbols ≡ Some state → state.stage ≡ Ended
     → SpellsSolution symbols (raw_of state)
 SpellsSolution-from_run symbols state e ended =
@@ -159,7 +159,7 @@ SpellsSolution-from_run symbols state e ended =
     let there : IsShown state symbols = subst (λ o. IfSome o (λ next. IsShown next symbols)) e shown in
     subst (λ stage. Shows stage state.greatest state.lines symbols) ended there
 
--- it has ended behind the header or a line, or has not
+-- it has ended after the header or a line, or has not
 ended_or_open : (stage : Stage) → (stage ≡ Ended) ⊎ (stage ≡ Ended → ⊥)
 ended_or_open Ended = inl refl
 ended_or_open _ = inr (λ e. cc)

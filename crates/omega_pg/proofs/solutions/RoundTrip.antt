@@ -32,7 +32,7 @@ choice_ends None rest = refl
 choice_ends (Some id) rest = refl
 
 module _ (tokens : TokensFollow) (gaps : EndsAreGaps) (numbers : NumbersAreLongest) (words : WordsAreLongest) (signs : SignsAreLongest) (names : NamesAreLongest) where
-  -- a successor, the semicolon, and what is behind
+  -- a successor, the semicolon, and what is after
   choice_end_written : (successor : Option ℕ) (rest : List ℕ) (symbols : List PgSymbol) → IfSome successor (λ id. id ≤ most_number) → IsWritten rest symbols
       → IsWritten (choice_part successor ++ (59 ∷ rest)) (choice_symbols successor ++ (semicolon ∷ symbols))
   choice_end_written None rest symbols fits then = semicolon_written tokens gaps numbers words signs names rest symbols then
@@ -40,7 +40,7 @@ module _ (tokens : TokensFollow) (gaps : EndsAreGaps) (numbers : NumbersAreLonge
       number_written tokens gaps numbers words signs names (32 ∷ []) (59 ∷ rest) id (semicolon ∷ symbols) space fits refl
       (semicolon_written tokens gaps numbers words signs names rest symbols then)
 
-  -- a line behind a line feed
+  -- a line after a line feed
   line_written : (line : SolutionLine) (rest : List ℕ) (symbols : List PgSymbol) → IsWritableLine line → IsWritten (10 ∷ rest) symbols
       → IsWritten (10 ∷ (solution_line line ++ rest)) (line_symbols line ++ symbols)
   line_written line rest symbols fits then =
@@ -55,7 +55,7 @@ module _ (tokens : TokensFollow) (gaps : EndsAreGaps) (numbers : NumbersAreLonge
       (choice_ends line.successor (10 ∷ rest))
       (choice_end_written line.successor (10 ∷ rest) symbols fits.successor then))))
 
-  -- lines behind a line feed
+  -- lines after a line feed
   lines_written : (lines : List SolutionLine) → All IsWritableLine lines → IsWritten (10 ∷ flat_map solution_line lines) (flat_map line_symbols lines)
   lines_written [] fits = end_written tokens gaps numbers words signs names
   lines_written (line ∷ lines) fits =

@@ -104,7 +104,7 @@ taken_on_all (Ok false) reader next lexeme same takes = λ start lexemes has.
     taken_on false reader.game.now lexemes lexeme reader.stage next.stage reader.greatest next.greatest reader.lines next.lines takes
     (subst (λ nodes. HasTaken nodes (symbols_of lexemes) reader.stage reader.greatest reader.lines) (sym has.0) has.1)
 
--- tokens that lead behind the header or a line are a text, and others are unfinished
+-- tokens that lead after the header or a line are a text, and others are unfinished
 pub judged_end : (done : Bool) (start reader : Reader) (lexemes : List (Lexeme PgKind)) → IsTrue done ↔ (reader.stage ≡ Ended) → HasBecome start lexemes reader
     → IsWholeOrUnfinished done (TokensBegin solution_syntax) (TokensComplete solution_syntax) lexemes
 judged_end true start reader lexemes ended has =

@@ -16,15 +16,15 @@ pub(crate) struct Head {
     pub(crate) priority: u32,
     pub(crate) owner: Player,
     pub(crate) first: u32,
-    /// The place behind them.
+    /// The place after them.
     pub(crate) end: usize,
 }
 
-/// A further successor, behind a comma.
+/// A further successor, after a comma.
 #[derive(Clone, Copy)]
 pub(crate) struct Successor {
     pub(crate) id: u32,
-    /// The place behind it.
+    /// The place after it.
     pub(crate) end: usize,
 }
 

@@ -79,7 +79,7 @@ impl Reader {
         }
     }
 
-    /// Takes the number of an owner behind an identifier and a priority, unless no player has it.
+    /// Takes the number of an owner after an identifier and a priority, unless no player has it.
     #[tactic(auto, using(crate::proofs::games::Players::player_found, crate::proofs::games::Players::no_player_found))]
     fn take_owner(&mut self, id: u32, priority: u32, number: u32) -> bool
         requires id { id ≤ most_number }

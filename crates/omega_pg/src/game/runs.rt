@@ -12,7 +12,7 @@ use crate::game::stage::Stage;
 use omega_game::Refusal;
 
 impl Reader {
-    /// Takes nodes where one may begin, as many as can be told at once, and answers the place behind them. The last one
+    /// Takes nodes where one may begin, as many as can be told at once, and answers the place after them. The last one
     /// may be taken in part.
     pub(crate) fn take_nodes(&mut self, source: &[u8], from: usize) -> Result<usize, Refusal>
         requires within { from ≤ length source.now }
@@ -34,7 +34,7 @@ impl Reader {
         Ok(at)
     }
 
-    /// Takes further successors behind commas, as many as can be told at once, and answers the place behind them.
+    /// Takes further successors after commas, as many as can be told at once, and answers the place after them.
     pub(crate) fn take_successors(&mut self, source: &[u8], from: usize) -> Result<usize, Refusal>
         requires within { from ≤ length source.now }
         requires listed { self.old.stage ≡ Listed }

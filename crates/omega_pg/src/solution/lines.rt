@@ -60,7 +60,7 @@ impl Lines {
         }
     }
 
-    /// The solution of the lines, if they are those of one behind a header with this number. 53 else.
+    /// The solution of the lines, if they are those of one after a header with this number. 53 else.
     pub(crate) fn finish(self, game: &Arena, greatest: u32) -> Result<Solution, Refusal>
         ensures judged { (lines : List SolutionLine) → AreJudged game.now lines self.good self.winners.items self.zero.items self.one.items
             → IsOutcome game.now (record { greatest = greatest; lines = lines }) result }

@@ -14,7 +14,7 @@ use Rattle.omega_raw.specs.Symbols.{AutomatonSymbol, header, sign, word}
 use Rattle.omega_raw.specs.declared.raw_automaton.RawAutomaton.{RawAutomaton}
 use Rattle.omega_text.specs.declared.hoa.kind.HoaKind.TheVariants as kind
 
--- what stands behind the items, and behind the version
+-- what stands after the items, and after the version
 abbrev behind_items : RawAutomaton → List AutomatonSymbol
 behind_items raw = sign kind.Body ∷ each state_row raw.states (sign kind.End ∷ [])
 

@@ -71,7 +71,7 @@ edge_one labels tokens x y others more rest left is so ends last spells reads =
     let c = optional_one IsAny sig_row is_brace IsKind sig_part sig_one b.1.middle x.marks y.marks others more rest left (some_any x.marks) (some_any y.marks) (sig_ends others ends) (sig_ends more last) b.1.one b.1.other in
     (edge_same x.label x.targets x.marks y a.0 b.0 c.0, c.1)
 
--- what stands behind the number of a state
+-- what stands after the number of a state
 abbrev behind_number : RawState → List AutomatonSymbol → List AutomatonSymbol
 behind_number state others = optional_row string_row state.name (optional_row sig_row state.marks (each edge_row state.edges others))
 

@@ -13,7 +13,7 @@ use crate::taking::copied;
 use omega_text::{HoaKind, Refusal, TextFault, TokenSource};
 use std::alloc::Global;
 
-/// Reads what stands behind the header of this name, which is without its colon. Where no item has it 3 is answered at
+/// Reads what stands after the header of this name, which is without its colon. Where no item has it 3 is answered at
 /// the header's place.
 pub(crate) fn content<'a, S: TokenSource<'a, HoaKind>>(
     alloc: Global,
@@ -40,7 +40,7 @@ pub(crate) fn content<'a, S: TokenSource<'a, HoaKind>>(
     }
 }
 
-/// The values behind an unknown header.
+/// The values after an unknown header.
 fn unknown<'a, S: TokenSource<'a, HoaKind>>(
     alloc: Global,
     name: &[u8],

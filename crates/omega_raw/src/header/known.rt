@@ -1,4 +1,4 @@
-//! What stands behind the header of an item.
+//! What stands after the header of an item.
 
 ghost use Rattle.std.specs.Prelude.{IfErr};
 ghost use Rattle.omega_raw.specs.private.steps.Contents.{FindsContent, GivesContent};
@@ -15,7 +15,7 @@ use omega_acc::AccName;
 use omega_text::{HoaKind, Refusal, TokenSource};
 use std::alloc::Global;
 
-/// The count of states behind `States:`.
+/// The count of states after `States:`.
 pub(crate) fn state_count<'a, S: TokenSource<'a, HoaKind>>(
     source: &mut S,
 ) -> Result<RawItem, Refusal>
@@ -26,7 +26,7 @@ pub(crate) fn state_count<'a, S: TokenSource<'a, HoaKind>>(
     Ok(RawItem::States(take_int(source)?))
 }
 
-/// A conj behind `Start:`.
+/// A conj after `Start:`.
 pub(crate) fn start<'a, S: TokenSource<'a, HoaKind>>(
     alloc: Global,
     source: &mut S,
@@ -39,7 +39,7 @@ pub(crate) fn start<'a, S: TokenSource<'a, HoaKind>>(
     Ok(RawItem::Start(states))
 }
 
-/// The count and the names behind `AP:`.
+/// The count and the names after `AP:`.
 pub(crate) fn propositions<'a, S: TokenSource<'a, HoaKind>>(
     alloc: Global,
     source: &mut S,
@@ -53,7 +53,7 @@ pub(crate) fn propositions<'a, S: TokenSource<'a, HoaKind>>(
     Ok(RawItem::Propositions { count, names })
 }
 
-/// The name and the definition behind `Alias:`.
+/// The name and the definition after `Alias:`.
 pub(crate) fn alias<'a, S: TokenSource<'a, HoaKind>>(
     alloc: Global,
     source: &mut S,
@@ -68,7 +68,7 @@ pub(crate) fn alias<'a, S: TokenSource<'a, HoaKind>>(
     Ok(RawItem::Alias { name, definition })
 }
 
-/// The count of sets and the formula behind `Acceptance:`.
+/// The count of sets and the formula after `Acceptance:`.
 pub(crate) fn acceptance<'a, S: TokenSource<'a, HoaKind>>(
     alloc: Global,
     source: &mut S,
@@ -82,7 +82,7 @@ pub(crate) fn acceptance<'a, S: TokenSource<'a, HoaKind>>(
     Ok(RawItem::Acceptance { count, formula })
 }
 
-/// The identifier and the parameters behind `acc-name:`.
+/// The identifier and the parameters after `acc-name:`.
 pub(crate) fn acc_name<'a, S: TokenSource<'a, HoaKind>>(
     alloc: Global,
     source: &mut S,
@@ -96,7 +96,7 @@ pub(crate) fn acc_name<'a, S: TokenSource<'a, HoaKind>>(
     Ok(RawItem::AccName(AccName { name, parameters }))
 }
 
-/// One or two strings behind `tool:`.
+/// One or two strings after `tool:`.
 pub(crate) fn tool<'a, S: TokenSource<'a, HoaKind>>(
     alloc: Global,
     source: &mut S,
@@ -110,7 +110,7 @@ pub(crate) fn tool<'a, S: TokenSource<'a, HoaKind>>(
     Ok(RawItem::Tool { first, second })
 }
 
-/// The string behind `name:`.
+/// The string after `name:`.
 pub(crate) fn title<'a, S: TokenSource<'a, HoaKind>>(
     alloc: Global,
     source: &mut S,
@@ -122,7 +122,7 @@ pub(crate) fn title<'a, S: TokenSource<'a, HoaKind>>(
     Ok(RawItem::Name(take_string(alloc, source)?))
 }
 
-/// The identifiers behind `properties:`.
+/// The identifiers after `properties:`.
 pub(crate) fn properties<'a, S: TokenSource<'a, HoaKind>>(
     alloc: Global,
     source: &mut S,

@@ -92,7 +92,7 @@ state_behind state first others =
 abbrev pub spelled_before : RawAutomaton → List AutomatonSymbol → List AutomatonSymbol
 spelled_before raw others = header (codes "HOA") ∷ word raw.version ∷ each item_row raw.items (sign kind.Body ∷ each state_row raw.states (sign kind.End ∷ others))
 
--- they are its symbols, and the others behind them
+-- they are its symbols, and the others after them
 pub spelled_behind : (raw : RawAutomaton) (others : List AutomatonSymbol) → spelled_before raw others ≡ automaton_symbols raw ++ others
 spelled_behind raw others =
     let states = each state_row raw.states (sign kind.End ∷ []) in

@@ -78,7 +78,7 @@ stream-spelled known (Automaton a ∷ items) all =
     (whole-spelled known a all.0 (canonical_stream items) (symbols_in items) (stream-spelled known items all.1))
 stream-spelled known (Aborted ∷ items) all = stream-spelled known items all.1
 
--- the tokens of some symbols and of others behind them
+-- the tokens of some symbols and of others after them
 spelled-front : (front back : List AutomatonSymbol) (tokens rest : Tokens) → ReadsSymbols tokens (front ++ back) rest
     → (middle : Tokens) × ReadsSymbols tokens front middle × ReadsSymbols middle back rest
 spelled-front [] back tokens rest spells = (tokens, refl, spells)

@@ -5,11 +5,11 @@ use Rattle.omega_raw.specs.Grammar.{each}
 use Rattle.omega_raw.specs.Symbols.{AutomatonSymbol}
 use Rattle.omega_read_back.proofs.texts.Spelled.{IsSpelled}
 
--- nothing is asked of the bytes behind a line
+-- nothing is asked of the bytes after a line
 abbrev pub Any : List ℕ → Type 0
 Any bytes = Unit {0}
 
--- what is asked of the bytes behind a list is so of the bytes from its first part on
+-- what is asked of the bytes after a list is so of the bytes from its first part on
 pub each-behind : {X : Type 0} (part : X → List ℕ) (May : List ℕ → Type 0) → ((it : X) (behind : List ℕ) → May behind → May (part it ++ behind))
     → (items : List X) (behind : List ℕ) → May behind → May (flat_map part items ++ behind)
 each-behind part May keeps [] behind may = may
@@ -29,7 +29,7 @@ each-spelled part row Is May keeps spells (first ∷ others) behind symbols all 
     (spells first (flat_map part others ++ behind) (each row others symbols) all.0 (each-behind part May keeps others behind may)
     (each-spelled part row Is May keeps spells others behind symbols all.1 may spelled))
 
--- the rows of two lists, one behind the other
+-- the rows of two lists, one after the other
 pub each-append : {X : Type 0} (row : X → List AutomatonSymbol → List AutomatonSymbol) (first second : List X) (symbols : List AutomatonSymbol)
     → each row (first ++ second) symbols ≡ each row first (each row second symbols)
 each-append row [] second symbols = refl

@@ -1,4 +1,4 @@
--- The parts of lines: strings, identifiers, numbers, marks and labels, each with the space before or behind it.
+-- The parts of lines: strings, identifiers, numbers, marks and labels, each with the space before or after it.
 use Rattle.std.proofs.Common.{◌≡◌, ℕ, Option, Some, None, List, [], ◌∷◌, ◌++◌, codes, decimal, option_map, append_assoc, refl, sym, subst, arith}
 use Rattle.std.specs.Prelude.{IfSome}
 use Rattle.std.specs.List.{AllByRecursion, flat_map}

@@ -174,7 +174,7 @@ word-spelled known bytes behind others form apart spelled =
     (λ lexeme rest sort value same. record { lexeme = lexeme; next = refl; shows = (sort, same) })
     spelled
 
--- the name of a header, and the colon behind it
+-- the name of a header, and the colon after it
 pub header-spelled : Known → (name behind : List ℕ) (others : List AutomatonSymbol) → IsWord name
     → IsSpelled behind others → IsSpelled (name ++ 58 ∷ behind) (header name ∷ others)
 header-spelled known name behind others is spelled =

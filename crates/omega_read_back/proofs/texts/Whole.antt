@@ -1,4 +1,4 @@
--- The whole canonical text is the tokens of the automaton as it is written, whatever comes behind it.
+-- The whole canonical text is the tokens of the automaton as it is written, whatever comes after it.
 use Rattle.std.proofs.Common.{◌≡◌, ℕ, Option, Some, None, List, [], ◌∷◌, ◌++◌, codes, length, map, append_assoc, append-nil, refl, sym, subst, arith, lit<}
 use Rattle.std.specs.List.{AllByRecursion, flat_map}
 use Rattle.std.proofs.lemmas.List.Sums.{AllPass-from_list_all}
@@ -76,7 +76,7 @@ body-spelled known states behind others all automaton_symbols =
 is-version : IsForm kind.Identifier (codes "v1")
 is-version = ((lit< tt, refl, AllPass-from_list_all is_word_byte (codes "v1") refl), λ is. cc, λ is. cc)
 
--- the lines behind the first one
+-- the lines after the first one
 module _ (known : Known) (a : Description) (is : IsWritableAutomaton a) (behind : List ℕ) (others : List AutomatonSymbol) (spelled-behind : IsSpelled behind others) where
   abbrev symbols : List AutomatonSymbol
   symbols = body_symbols a.defined others

@@ -32,7 +32,7 @@ pub all-both : {X : Type 0} (One Other : X → Type 0) (items : List X) → AllB
 all-both One Other [] one other = tt
 all-both One Other (it ∷ items) one other = ((one.0, other.0), all-both One Other items one.1 other.1)
 
--- what holds of two lists, one behind the other, holds of each
+-- what holds of two lists, one after the other, holds of each
 pub all-first : {X : Type 0} (Is : X → Type 0) (first second : List X) → AllByRecursion Is (first ++ second) → AllByRecursion Is first
 all-first Is [] second all = tt
 all-first Is (it ∷ first) second all = (all.0, all-first Is first second all.1)

@@ -59,12 +59,12 @@ header-shown bytes lexeme shows formed = header-said lexeme.text bytes shows.1 (
 text-shown : (bytes : List ℕ) (lexeme : Lexeme HoaKind) → Shows (text bytes) lexeme → IsFormed lexeme → IsQuotable bytes
 text-shown bytes lexeme shows formed = text-said lexeme.text bytes shows.1 (formed-as lexeme kind.String shows.0 formed).1
 
--- what holds of the next token and of those behind it
+-- what holds of the next token and of those after it
 next-formed : (symbol : AutomatonSymbol) (tokens middle : Tokens) → AllByRecursion IsFormed tokens → (next : IsNext symbol tokens middle)
     → IsFormed next.lexeme × AllByRecursion IsFormed middle
 next-formed symbol tokens middle all next = subst (AllByRecursion IsFormed) next.next all
 
--- what holds of tokens holds of those behind some of them
+-- what holds of tokens holds of those after some of them
 all-behind : (front behind : Tokens) → AllByRecursion IsFormed (front ++ behind) → AllByRecursion IsFormed behind
 all-behind [] behind all = all
 all-behind (lexeme ∷ front) behind all = all-behind front behind all.1

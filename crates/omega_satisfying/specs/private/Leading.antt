@@ -32,7 +32,7 @@ pub record IsLiteral (count : ℕ) (leading : (ℕ → Bool) → ℕ → Bool) (
   pub otherwise_before : literal.otherwise < count
   pub whole_is : literal.whole ≡ true → (held : ℕ → Bool) → leading held literal.otherwise ≡ true → leading held literal.next ≡ true
 
--- a step may stand behind so many others
+-- a step may stand after so many others
 abbrev pub IsStep : ℕ → ((ℕ → Bool) → ℕ → Bool) → Step → Type 0
 IsStep count leading Done = Unit {0}
 IsStep count leading Stuck = Unit {0}

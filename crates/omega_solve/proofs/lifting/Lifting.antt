@@ -182,7 +182,7 @@ table_raised nodes player old new v w unique keep table due raises =
           (due.value, edge_leaves nodes v w due.listed, due.lifts, refl));
     }
 
--- one run behind another
+-- one run after another
 pub run_append : (nodes : List Node) (player : Player) (old table new : List Measure) (places more : List ℕ)
     → IsLiftingRun nodes player old places table → IsLiftingRun nodes player table more new → IsLiftingRun nodes player old (places ++ more) new
 run_append nodes player old table new [] more same on =

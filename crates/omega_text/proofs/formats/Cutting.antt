@@ -15,7 +15,7 @@ pub record IsCutTo {Kind : Type 0} (format : TextFormat Kind) (source : List ℕ
   pub cuts : Cuts format source from lexemes to
 
 module _ {Kind : Type 0} (format : TextFormat Kind) where
-  -- two cuts, one behind the other, are a cut
+  -- two cuts, one after the other, are a cut
   pub cuts_join : (source : List ℕ) (from middle to : ℕ) (front back : List (Lexeme Kind)) → Cuts format source from front middle → Cuts format source middle back to → Cuts format source from (front ++ back) to
   cuts_join source from middle to [] back is cuts = subst (λ n. Cuts format source n back to) (sym is) cuts
   cuts_join source from middle to (lexeme ∷ front) back first second = (first.0, cuts_join source lexeme.span.end middle to front back first.1 second)
@@ -51,7 +51,7 @@ CutFrom {Kind} format source from = ((lexemes : List (Lexeme Kind)) × (to : ℕ
     ⊎ ((lexemes : List (Lexeme Kind)) × (to : ℕ) × (fault : TextFault) × Cuts format source from lexemes to × format.faults source to fault)
 
 module _ {Kind : Type 0} (format : TextFormat Kind) (exact : GoesOneWay format) where
-  -- where a token follows, a longer text is left than behind it
+  -- where a token follows, a longer text is left than after it
   shorter : (left : ℕ) (source : List ℕ) (from : ℕ) (lexeme : Lexeme Kind) → format.follows source from lexeme → length source ≤ from + suc left
       → (lexeme.span.end ≤ length source) × (length source ≤ lexeme.span.end + left)
   shorter left source from lexeme follows all =

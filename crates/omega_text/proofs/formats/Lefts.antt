@@ -14,11 +14,11 @@ use Rattle.omega_text.specs.declared.token.Token.{Token}
 use Rattle.omega_text.proofs.formats.Stops.{one_stop}
 
 module _ {Kind : Type 0} (format : TextFormat Kind) (source : List ℕ) where
-  -- a cut is the rest behind nothing
+  -- a cut is the rest after nothing
   pub cut_is_rest : (lexemes : List (Lexeme Kind)) → IsCut format source lexemes → IsRestOfText format source 0 lexemes
   cut_is_rest lexemes cut = record { end = cut.end; cuts = cut.cuts; rest = cut.rest }
 
-  -- and the rest behind nothing is a cut
+  -- and the rest after nothing is a cut
   pub rest_is_cut : (lexemes : List (Lexeme Kind)) → IsRestOfText format source 0 lexemes → IsCut format source lexemes
   rest_is_cut lexemes rest = record { end = rest.end; cuts = rest.cuts; rest = rest.rest }
 
@@ -99,7 +99,7 @@ module _ {Kind : Type 0} (format : TextFormat Kind) (source : List ℕ) where
     left_within token is = ∥∥₁_elim left.all_left le_prop
         (λ all. let first : IsNextOfLeft format source token left.lexemes = subst (λ n. IsLeft format source n left.lexemes) is all.are_left in first.within)
 
-    -- behind it the others are the rest
+    -- after it the others are the rest
     pub left_behind : (token : Lexeme Kind) → next ≡ Some token → ∥ IsRestOfText format source token.span.end (drop 1 left.lexemes) ∥₁
     left_behind token is = ∥∥₁_map left.all_left
         (λ (all : IsAllLeft format source next left.lexemes).

@@ -31,7 +31,7 @@ alias_ended before byte is single =
     ))
     single
 
--- an alias name and the byte behind it
+-- an alias name and the byte after it
 pub alias_simple : (start : ℕ) (bytes rest : List ℕ) (place count : ℕ) → place < length bytes → rest ≡ drop (place + 1) bytes → get_or bytes place 0 ≡ 64 → count ≡ prefix_len is_word_byte rest → 0 < count
     → place + 1 + count < length bytes → IsSingle (get_or bytes (place + 1 + count) 0) → IsSimple start bytes place (Ended (place + 1 + count + 1))
 alias_simple start bytes rest place count inside is at prefix some more single =

@@ -19,7 +19,7 @@ lexical bytes place (Number at) is = tt
 lexical bytes place (Syntax at) is = is
 lexical bytes place TooLong is = is
 
--- a token is a part of the text behind the place
+-- a token is a part of the text after the place
 pub follows_behind : (source : List ℕ) (from : ℕ) (lexeme : Lexeme HoaKind) → Follows source from lexeme → IsPartBehind source from lexeme.span
 follows_behind source from lexeme follows =
     let some = form_size lexeme.kind lexeme.text (spelled_form lexeme.kind lexeme.value lexeme.text follows.spells) in

@@ -17,7 +17,7 @@ pub gap_more : (gap text : List ℕ) → IsGap gap → IsBlank text → IsGap (g
 gap_more _ text nothing is = subst IsGap (append-nil text) (blank text [] is nothing)
 gap_more _ text (blank part gap first rest) is = subst IsGap (sym (append_assoc part gap text)) (blank part (gap ++ text) first (gap_more gap text rest is))
 
--- behind a gap
+-- after a gap
 module _ (source gap : List ℕ) (at start : ℕ) (split : drop at source ≡ gap ++ drop start source) (passed : IsGap gap) (place : start ≡ at + length gap) where
   -- the first unit is a token
   pub unit_follows : (kind : HoaKind) (value count : ℕ) → IsFirstUnit (drop start source) (Some kind) value count → Follows source at (lexeme_at start kind value (take count (drop start source)))

@@ -76,7 +76,7 @@ judged bytes place some found (Some (Some kind)) is =
     (λ (_, digits, wrong). inr (inr (Number place, (refl, record { text = found.text; rest = found.rest; split = found.split; longest = longest; digits = digits; wrong = wrong }))))
     (spelled_or_wrong kind found.text (unit_read found.text (Some kind) (ap answer found.reached ∙ is)))
 
--- how bytes go on behind a gap
+-- how bytes go on after a gap
 record Way (bytes : List ℕ) (place : ℕ) : Type 0 where
   gap : List ℕ
   rest : List ℕ

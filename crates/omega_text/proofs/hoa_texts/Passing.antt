@@ -305,7 +305,7 @@ single_ends_word kind byte single =
 single_ends_digits : (byte : ℕ) → IsSingle byte → next_mode Digits byte ≡ None
 single_ends_digits byte single = pass (is_digit byte) _ _ (single_no_digit byte single)
 
--- a unit and such a byte behind it
+-- a unit and such a byte after it
 pub ended_single : (before : Pending) (byte : ℕ) → next_mode before.mode byte ≡ None
     → ((stop : ℕ) → (token : PlacedToken) × IsTokenIn before.mode before.value before.start stop token) → IsSingle byte → IsEndedBy byte before
 ended_single before byte ends token single seen lexemes at =
@@ -346,7 +346,7 @@ digits_ended before byte is small single =
     ))
     single
 
--- a word and the colon behind it
+-- a word and the colon after it
 pub header_ended : (byte : ℕ) → byte ≡ 58 → EndsWord byte
 header_ended byte colon before kind is seen lexemes at =
     let token = placed HeaderName 0 before.start (length seen + 1) in
@@ -373,7 +373,7 @@ ended_passes start bytes from to before between front inside ends =
     let last : length seen + 1 ≡ start + (to + 1 - from) = omega (arith, place, front.forward) in
     subst (λ n. Passed seen lexemes (get_or bytes to 0 ∷ []) (fresh n)) last (ends seen lexemes at)))
 
--- a unit is whole, with the byte behind it
+-- a unit is whole, with the byte after it
 pub single_simple : (start : ℕ) (bytes : List ℕ) (place : ℕ) → place < length bytes → IsSingle (get_or bytes place 0) → IsSimple start bytes place (Ended (place + 1))
 single_simple start bytes place inside single =
     let one : start + 1 ≡ start + (place + 1 - place) = omega arith in
@@ -412,7 +412,7 @@ digit_simple start bytes place digit more single =
     prefix_len_is is_digit rest 1 0 (omega (arith, size, more)) (λ k below. let zeroth : 0 ≡ k = omega arith in subst (λ n. is_digit (get_or rest n 0) ≡ true) zeroth first) (λ _. other) in
     digits_simple start bytes rest place 1 (byte - 48) inside refl digit (sym count) (subst (IsValueOf (byte - 48)) (sym front) (one_digit byte digit)) (omega (arith, worth_small byte digit)) more single
 
--- a quote and what stands behind it
+-- a quote and what stands after it
 pub string_passes : (start : ℕ) (bytes rest : List ℕ) (place count : ℕ) (after : Pending) → place < length bytes → rest ≡ drop (place + 1) bytes → get_or bytes place 0 ≡ 34 → count ≡ prefix_len is_quoted rest
     → after.mode ≡ Quoted → after.start ≡ start → Passes start bytes place (place + 1 + count) (fresh start) after
 string_passes start bytes rest place count after inside is quote prefix mode begins =
@@ -501,7 +501,7 @@ settling_stops seen lexemes byte after settled unplain kept =
 no_fault : (fault : TextFault) → ◌≡◌ {A = Option TextFault} (Some fault) None → ⊥
 no_fault fault is = cc
 
--- so is any byte behind a fault
+-- so is any byte after a fault
 pub fault_stops : (seen : List ℕ) (lexemes : List (Lexeme HoaKind)) (byte : ℕ) (fault : TextFault) → SettlesFault seen lexemes fault → StopsBefore seen lexemes byte
 fault_stops seen lexemes byte fault settles = (
   record { first = None; second = None; fault = Some fault },

@@ -40,11 +40,11 @@ module _ (source gap text : List ℕ) (end start : ℕ) (split : drop end source
   pub parts : length source ≡ start + length text
   parts = let size = length-drop end source in let all = ap length split in omega (arith, length-append gap text)
 
-  -- what stands behind the gap
+  -- what stands after the gap
   pub behind_gap : drop start source ≡ text
   behind_gap = ap (λ n. drop n source) start_is ∙ sym (drop-drop (length gap) end source) ∙ ap (drop (length gap)) split ∙ drop_at gap text (length gap) refl
 
-  -- with more behind it
+  -- with more after it
   pub split_more : (rest : List ℕ) → drop end (source ++ rest) ≡ gap ++ (text ++ rest)
   split_more rest = drop-append-le end source rest within ∙ ap (λ bytes. bytes ++ rest) split ∙ append_assoc gap text rest
 
@@ -56,7 +56,7 @@ placed_text source before text behind token kind value start stop placed is size
     ap (λ n. take (token.span.end - token.span.start) (drop n source)) placed.start_is
     ∙ ap (take (token.span.end - token.span.start)) is ∙ take_at text behind (token.span.end - token.span.start) (sym long)
 
--- a placed token behind a gap follows
+-- a placed token after a gap follows
 placed_follows : (source seen gap text rest behind : List ℕ) (end : ℕ) (token : PlacedToken) (kind : HoaKind) (value start stop : ℕ) → IsPlaced token kind value start stop
     → drop end source ≡ gap ++ (text ++ rest) → IsGap gap → drop start seen ≡ text ++ behind → start ≡ end + length gap → stop ≡ start + length text
     → Spells kind value text → IsLongest text rest → Follows source end (lexeme_in seen token)
@@ -116,7 +116,7 @@ judged_fault Digits value start fault begun rest reached unfinished stuck some i
     subst (IsFaultOf (begun ++ rest) start) (sym is.0) there
 judged_fault mode value start fault begun rest reached unfinished stuck some is = no_unit_fault mode start fault begun rest reached stuck some refl is
 
--- however a text goes on with a byte, it does so behind that byte
+-- however a text goes on with a byte, it does so after that byte
 one_byte_more : (seen : List ℕ) (byte : ℕ) (rest : List ℕ) → (seen ++ byte ∷ []) ++ rest ≡ seen ++ (byte ∷ rest)
 one_byte_more seen byte rest = append_assoc seen (byte ∷ []) rest
 
@@ -269,7 +269,7 @@ at_with seen lexemes pending byte at = record {
 stuck_with : (mode : Mode) (byte : ℕ) (rest : List ℕ) → next_mode mode byte ≡ None → With byte rest → IsStuck mode rest
 stuck_with mode byte rest ends (behind, is) = subst (IsStuck mode) (sym is) ends
 
--- a token that is settled by the byte behind it
+-- a token that is settled by the byte after it
 pub judged : (seen : List ℕ) (lexemes : List (Lexeme HoaKind)) (before : Pending) (byte : ℕ) (token : PlacedToken) → IsAt Any seen lexemes before → next_mode before.mode byte ≡ None
     → IsTokenIn before.mode before.value before.start (length seen) token
     → IsAt (With byte) seen (lexemes ++ lexeme_in (seen ++ byte ∷ []) token ∷ []) (fresh (length seen))

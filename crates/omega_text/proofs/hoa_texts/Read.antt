@@ -19,17 +19,17 @@ use Rattle.omega_text.proofs.pg_texts.Classes.{letter_in_word}
 use Rattle.omega_text.proofs.hoa_texts.Runs.{answer, answer_none}
 use Rattle.omega_text.proofs.hoa_texts.Tests.{chosen, either}
 
--- behind a whole token nothing is read
+-- after a whole token nothing is read
 whole_read : (kind : HoaKind) (rest : List ℕ) (sort : Option HoaKind) → answer (run (Some (Whole kind)) rest) ≡ Some sort → (rest ≡ []) × (sort ≡ Some kind)
 whole_read kind [] sort is = (refl, cc)
 whole_read kind (byte ∷ rest) sort is = absurd (answer_none rest sort is)
 
--- nor behind a part of a gap
+-- nor after a part of a gap
 blank_read : (rest : List ℕ) (sort : Option HoaKind) → answer (run (Some Blank) rest) ≡ Some sort → (rest ≡ []) × (sort ≡ None)
 blank_read [] sort is = (refl, cc)
 blank_read (byte ∷ rest) sort is = absurd (answer_none rest sort is)
 
--- behind the beginning of a word: nothing, more of it, or that and a colon
+-- after the beginning of a word: nothing, more of it, or that and a colon
 abbrev WordRest : HoaKind → List ℕ → Option HoaKind → Type 0
 WordRest kind rest sort = ((rest ≡ []) × (sort ≡ Some kind))
     ⊎ (((0 < length rest) × AllPass is_word_byte rest × (sort ≡ Some Identifier))
@@ -54,7 +54,7 @@ word_read kind (byte ∷ rest) sort is = ⊎_elim
     (chosen (λ state. answer (run state rest) ≡ Some sort) (byte == 58) _ _ more))
     (chosen (λ state. answer (run state rest) ≡ Some sort) (is_word_byte byte) _ _ is)
 
--- behind the beginning of an alias name: more of it
+-- after the beginning of an alias name: more of it
 alias_read : (rest : List ℕ) (sort : Option HoaKind) → answer (run (Some Alias) rest) ≡ Some sort → AllPass is_word_byte rest × (sort ≡ Some AliasName)
 alias_read [] sort is = (All-nil (λ b. is_word_byte b ≡ true), cc)
 alias_read (byte ∷ rest) sort is = ⊎_elim
@@ -62,7 +62,7 @@ alias_read (byte ∷ rest) sort is = ⊎_elim
     (λ (stops, none). absurd (answer_none rest sort none))
     (chosen (λ state. answer (run state rest) ≡ Some sort) (is_word_byte byte) _ _ is)
 
--- behind digits: digits
+-- after digits: digits
 digits_read : (rest : List ℕ) (sort : Option HoaKind) → answer (run (Some Digits) rest) ≡ Some sort → AllPass is_digit rest × (sort ≡ Some Int)
 digits_read [] sort is = (All-nil (λ b. is_digit b ≡ true), cc)
 digits_read (byte ∷ rest) sort is = ⊎_elim
@@ -78,11 +78,11 @@ apart one most fails within = grind (arith, nat_tests)
 pub differs : (byte value : ℕ) → (byte == value) ≡ false → byte ≢ value
 differs byte value fails is = grind (arith, nat_tests)
 
--- behind a quote: what may stand between two quotes, and a quote
+-- after a quote: what may stand between two quotes, and a quote
 abbrev StringRest : List ℕ → Option HoaKind → Type 0
 StringRest rest sort = (inside : List ℕ) × (rest ≡ inside ++ 34 ∷ []) × IsQuotable inside × (sort ≡ Some String)
 
--- behind a backslash: one byte more
+-- after a backslash: one byte more
 abbrev EscapedRest : List ℕ → Option HoaKind → Type 0
 EscapedRest rest sort = (byte : ℕ) × (behind : List ℕ) × (rest ≡ byte ∷ behind) × StringRest behind sort
 
@@ -137,7 +137,7 @@ closed_read (suc around) rest sort inner is = inner around refl is
 no_mark : (byte next : ℕ) → (byte ≡ 47 → next ≢ 42) → (byte ≡ 42 → next ≢ 47) → IsNoMark byte next
 no_mark byte next opens closes = record { opens_none = opens; closes_none = closes }
 
--- what is read in a comment, behind `*` and behind `/`
+-- what is read in a comment, after `*` and after `/`
 record CommentReads (rest : List ℕ) : Type 0 where
   comment : (around : ℕ) (sort : Option HoaKind) → answer (run (Some (Comment around)) rest) ≡ Some sort → CommentRest (suc around) rest sort
   star : (around : ℕ) (sort : Option HoaKind) → answer (run (Some (Star around)) rest) ≡ Some sort → CommentRest (suc around) (42 ∷ rest) sort
@@ -154,7 +154,7 @@ comment_step byte rest reads around sort is = ⊎_elim
     (chosen (λ mode. answer (run (Some mode) rest) ≡ Some sort) (byte == 47) _ _ more))
     (chosen (λ mode. answer (run (Some mode) rest) ≡ Some sort) (byte == 42) _ _ is)
 
--- behind `*`
+-- after `*`
 star_step : (byte : ℕ) (rest : List ℕ) → CommentReads rest → (around : ℕ) (sort : Option HoaKind) → answer (run (Some (Star around)) (byte ∷ rest)) ≡ Some sort → CommentRest (suc around) (42 ∷ byte ∷ rest) sort
 star_step byte rest reads around sort is = ⊎_elim
     (λ (slash, more). let found = closed_read around rest sort (λ depth same inner. reads.comment depth sort inner) more in
@@ -170,7 +170,7 @@ star_step byte rest reads around sort is = ⊎_elim
     (chosen (λ mode. answer (run (Some mode) rest) ≡ Some sort) (byte == 42) _ _ more))
     (chosen (λ mode. answer (run (Some mode) rest) ≡ Some sort) (byte == 47) _ _ is)
 
--- behind `/`
+-- after `/`
 slashed_step : (byte : ℕ) (rest : List ℕ) → CommentReads rest → (around : ℕ) (sort : Option HoaKind) → answer (run (Some (Slashed around)) (byte ∷ rest)) ≡ Some sort → CommentRest (suc around) (47 ∷ byte ∷ rest) sort
 slashed_step byte rest reads around sort is = ⊎_elim
     (λ (star, more). let found = reads.comment (suc around) sort more in
@@ -278,7 +278,7 @@ module _ (byte : ℕ) (rest : List ℕ) where
       let text : IsUnit (Some String) (byte ∷ rest) = (behind.0, (λ i. quote i ∷ behind.1 i), behind.2) in
       subst (λ s. IsUnit s (byte ∷ rest)) (sym behind.3) text
 
--- an alias name, behind `@`
+-- an alias name, after `@`
 at_read : (rest : List ℕ) (sort : Option HoaKind) → answer (run (Some At) rest) ≡ Some sort → IsUnit sort (64 ∷ rest)
 at_read [] sort is = absurd (cc)
 at_read (byte ∷ rest) sort is = ⊎_elim
@@ -289,7 +289,7 @@ at_read (byte ∷ rest) sort is = ⊎_elim
     (λ (stops, unread). absurd (answer_none rest sort unread))
     (chosen (λ state. answer (run state rest) ≡ Some sort) (is_word_byte byte) _ _ is)
 
--- a comment, behind `/`
+-- a comment, after `/`
 slash_read : (rest : List ℕ) (sort : Option HoaKind) → answer (run (Some Slash) rest) ≡ Some sort → IsUnit sort (47 ∷ rest)
 slash_read [] sort is = absurd (cc)
 slash_read (byte ∷ rest) sort is = ⊎_elim
@@ -300,7 +300,7 @@ slash_read (byte ∷ rest) sort is = ⊎_elim
     (λ (stops, unread). absurd (answer_none rest sort unread))
     (chosen (λ state. answer (run state rest) ≡ Some sort) (byte == 42) _ _ is)
 
--- a mark, behind two dashes and a byte
+-- a mark, after two dashes and a byte
 mark_reads : (kind : HoaKind) (byte value : ℕ) (rest : List ℕ) (sort : Option HoaKind) → 3 < length (spelling kind) → spelling kind ≡ 45 ∷ 45 ∷ value ∷ drop 3 (spelling kind)
     → ((text : List ℕ) → text ≡ spelling kind → IsUnit (Some kind) text)
     → (byte == value) ≡ true → answer (run (Some (Mark kind 3)) rest) ≡ Some sort → IsUnit sort (45 ∷ 45 ∷ byte ∷ rest)

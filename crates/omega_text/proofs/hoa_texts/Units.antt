@@ -36,14 +36,14 @@ pub stuck_before : (mode : Mode) (rest : List ℕ) → (0 < length rest → next
 stuck_before mode [] ends = tt
 stuck_before mode (byte ∷ rest) ends = ends (omega arith)
 
--- the same behind so many bytes
+-- the same after so many bytes
 pub stuck_at : (mode : Mode) (bytes : List ℕ) (count : ℕ) → (count < length bytes → next_mode mode (get_or bytes count 0) ≡ None) → IsStuck mode (drop count bytes)
 stuck_at mode bytes count ends = stuck_before mode (drop count bytes) (λ more.
     let size = length-drop count bytes in
     let place : count + 0 ≡ count = omega arith in
     ap (next_mode mode) (get_or-drop count bytes 0 0 ∙ ap (λ n. get_or bytes n 0) place) ∙ ends (omega arith))
 
--- nothing goes on behind a whole token
+-- nothing goes on after a whole token
 pub whole_stuck : (kind : HoaKind) (rest : List ℕ) → IsStuck (Whole kind) rest
 whole_stuck kind [] = tt
 whole_stuck kind (byte ∷ rest) = refl

@@ -63,11 +63,11 @@ module _ (text : List ℕ) (byte : ℕ) (digits : IsDigits text) (digit : is_dig
       let all = ap (digits_value 10) (take_all (length text + 1) (text ++ byte ∷ []) (omega (arith, size))) in
       omega arith
 
-  -- behind `0`
+  -- after `0`
   zero_more : Spells Int 0 text → IsNoNumber (text ++ byte ∷ [])
   zero_more spells = needless_zero (text ++ byte ∷ []) all_digits (same_head ∙ ap head (spells.1 ∙ decimal_digit 0 (omega arith))) (omega (arith, size, digits.0)) Number
 
-  -- behind digits that are no number
+  -- after digits that are no number
   wrong_more : IsNoNumber text → IsNoNumber (text ++ byte ∷ [])
   wrong_more wrong number spells =
       let plain = (number_plain (text ++ byte ∷ []) number).0 spells in
@@ -75,7 +75,7 @@ module _ (text : List ℕ) (byte : ℕ) (digits : IsDigits text) (digit : is_dig
       let small : digits_value 10 text ≤ most_number = omega (arith, no_less, plain.2, plain.3) in
       wrong (digits_value 10 text) (small, decimal_value text digits (λ zero_first. absurd (omega (arith, plain.1 (same_head ∙ zero_first), size))) (omega arith))
 
-  -- behind a number above 0
+  -- after a number above 0
   number_more : (value : ℕ) → 0 < value → Spells Int value text → IsValueOf (value * 10 + (byte - 48)) (text ++ byte ∷ [])
   number_more value positive spells =
       let plain = (number_plain text value).0 spells in
@@ -89,7 +89,7 @@ module _ (text : List ℕ) (byte : ℕ) (digits : IsDigits text) (digit : is_dig
         none = λ great. too_great (text ++ byte ∷ []) all_digits (omega (arith, is, great)) Number;
       }
 
-  -- behind `0`, or behind no number
+  -- after `0`, or after no number
   pub no_more : (value greater : ℕ) → most_number < greater → (value ≡ 0) ⊎ (most_number < value) → IsValueOf value text → IsValueOf greater (text ++ byte ∷ [])
   no_more value greater above either before = record {
     number = λ small. absurd (omega (arith, small, above));
@@ -99,6 +99,6 @@ module _ (text : List ℕ) (byte : ℕ) (digits : IsDigits text) (digit : is_dig
         either;
   }
 
-  -- behind another number
+  -- after another number
   pub one_more : (value : ℕ) → value ≢ 0 → value ≤ most_number → IsValueOf value text → IsValueOf (value * 10 + (byte - 48)) (text ++ byte ∷ [])
   one_more value positive small before = number_more value (omega arith) (before.number small)

@@ -32,7 +32,7 @@ digit_no_letter byte digit = grind (arith, nat_tests)
 pub white_no_digit : (byte : ℕ) → is_white byte ≡ true → is_digit byte ≡ false
 white_no_digit byte white = grind (arith, nat_tests)
 
--- the mode behind a first byte
+-- the mode after a first byte
 pub first_letter : (byte : ℕ) → is_letter byte ≡ true → first_mode byte ≡ Some (Word (letter_kind byte))
 first_letter byte letter = pass (is_white byte) _ _ (letter_black byte letter) ∙ choose (is_letter byte) _ _ letter
 
@@ -52,7 +52,7 @@ first_sign byte kind no_white no_letter no_digit sign =
     ∙ pass (byte == 34) _ _ (sign_apart byte 34 kind refl sign) ∙ pass (byte == 64) _ _ (sign_apart byte 64 kind refl sign)
     ∙ pass (byte == 45) _ _ (sign_apart byte 45 kind refl sign) ∙ pass (byte == 47) _ _ (sign_apart byte 47 kind refl sign) ∙ ap whole sign
 
--- bytes of a word, behind a longer word
+-- bytes of a word, after a longer word
 more_word : (rest : List ℕ) → AllPass is_word_byte rest → run (Some (Word Identifier)) rest ≡ Some (Word Identifier)
 more_word [] all = refl
 more_word (byte ∷ rest) all = ap (λ state. run state rest) (choose (is_word_byte byte) _ _ (All-head (λ b. is_word_byte b ≡ true) byte rest all))
@@ -104,8 +104,8 @@ quoted_run _ (plain byte rest no_quote no_backslash behind) =
     ap (λ mode. run (Some mode) (rest ++ 34 ∷ [])) (pass (byte == 34) _ _ (no_test byte 34 no_quote) ∙ pass (byte == 92) _ _ (no_test byte 92 no_backslash)) ∙ quoted_run rest behind
 quoted_run _ (escaped byte rest behind) = quoted_run rest behind
 
--- behind `*`, what does not begin with `/` is read as elsewhere in a comment,
--- and so is what does not begin with `*` behind `/`
+-- after `*`, what does not begin with `/` is read as elsewhere in a comment,
+-- and so is what does not begin with `*` after `/`
 star_same : (around byte : ℕ) → byte ≢ 47 → star_mode around byte ≡ comment_mode around byte
 star_same around byte no_slash = ⊎_elim
     (λ (star, is). pass (byte == 47) _ _ (no_test byte 47 no_slash) ∙ choose (byte == 42) _ _ star ∙ sym (choose (byte == 42) _ _ star))

@@ -21,7 +21,7 @@ module _ (source : List ℕ) (from : ℕ) (inside : from ≤ length source) wher
             ap (λ n. is_white (get_or source n d)) (sym place) ∙ sym (ap is_white (get_or-drop from source (k - from) d)) ∙ prefix_len_passes is_white (drop from source) (k - from) d (omega arith);
       }
 
-  -- and the byte behind it is not white
+  -- and the byte after it is not white
   pub run_black : from + prefix_len is_white (drop from source) < length source → is_white (get_or source (from + prefix_len is_white (drop from source)) 0) ≡ false
   run_black more =
       let size = length-drop from source in
@@ -35,7 +35,7 @@ no_gap source from inside = record {
   white = λ k d low high. absurd (omega (arith, low, high));
 }
 
--- a white byte behind a gap
+-- a white byte after a gap
 pub gap_more : (source : List ℕ) (from to : ℕ) → IsGap source from to → to < length source → is_white (get_or source to 0) ≡ true → IsGap source from (to + 1)
 gap_more source from to gap inside white = record {
   forward = omega (arith, gap.forward);

@@ -8,7 +8,7 @@ use Rattle.omega_text.specs.pg.Forms.{IsLongest, IsQuoted, quoted, is_name_byte}
 use Rattle.omega_text.proofs.pg_texts.Classes.{both_ways}
 use Rattle.omega_text.proofs.pg_texts.Longest.{form_head, head, head-take, quoted_form}
 
--- the bytes of a name that is a front of bytes stand behind the first of them, and then a quote
+-- the bytes of a name that is a front of bytes stand after the first of them, and then a quote
 pub record NamedFront (rest name : List ℕ) : Type 0 where
   pub room : length name < length rest
   pub same : (i : ℕ) → i < length name → get_or rest i 0 ≡ get_or name i 0
@@ -63,7 +63,7 @@ longest_quoted rest inside quote =
       name,
     )
 
--- bytes behind a quote that no quote closes begin no form
+-- bytes after a quote that no quote closes begin no form
 pub no_quoted : (rest : List ℕ) → (prefix_len is_name_byte rest < length rest → get_or rest (prefix_len is_name_byte rest) 0 ≡ 34 → ⊥) → BeginsNoForm (34 ∷ rest)
 no_quoted rest unclosed count form =
     let some = (form_head (take count (34 ∷ rest)) form).0 in

@@ -37,7 +37,7 @@ pub front_as : (bytes : List ℕ) (kind sort : PgKind) (value count size : ℕ) 
 front_as bytes kind sort value count size kinds values counts longest spells =
     subst (λ s. IsFirstForm bytes s value count) (sym kinds) (subst (λ n. IsFirstForm bytes sort n count) (sym values) (subst (λ n. IsFirstForm bytes sort 0 n) (sym counts) (record { longest = longest; spells = spells })))
 
--- a form behind a gap is the token that follows
+-- a form after a gap is the token that follows
 pub form_follows : (source : List ℕ) (at start : ℕ) (kind : PgKind) (value count : ℕ) → IsGap source at start → IsFirstForm (drop start source) kind value count
     → Follows source at (lexeme_at start kind value (take count (drop start source)))
 form_follows source at start kind value count gap form =
@@ -47,7 +47,7 @@ form_follows source at start kind value count gap form =
     let within = gap.within in
     record { gap = gap; token = begins_at (drop start source) start count kind value form.longest form.spells; within = omega arith }
 
--- the form that bytes behind a gap begin with is the token that follows
+-- the form that bytes after a gap begin with is the token that follows
 pub form_behind : (source bytes : List ℕ) (at start : ℕ) (kind : PgKind) (value count : ℕ) (lexeme : Lexeme PgKind) → IsGap source at start → bytes ≡ drop start source
     → IsFirstForm bytes kind value count → lexeme ≡ lexeme_at start kind value (take count bytes) → Follows source at lexeme
 form_behind source bytes at start kind value count lexeme gap rest form is =

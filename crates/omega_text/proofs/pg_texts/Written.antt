@@ -76,7 +76,7 @@ module _ (source gap text rest : List ℕ) (from : ℕ) (kind : PgKind) (value :
       let all = ap length is in
       omega (arith, length-drop from source, length-append gap (text ++ rest), length-append text rest)
 
-  -- what stands behind the white space
+  -- what stands after the white space
   behind_gap : drop (from + length gap) source ≡ text ++ rest
   behind_gap = sym (drop-drop (length gap) from source) ∙ ap (drop (length gap)) is ∙ drop_at gap (text ++ rest) (length gap) refl
 

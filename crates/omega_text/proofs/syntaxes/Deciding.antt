@@ -15,7 +15,7 @@ module _ {Kind Symbol Raw : Type 0} (syntax : Syntax Kind Symbol Raw) (exact : G
   abbrev HasWrong : List (Lexeme Kind) → Type 0
   HasWrong lexemes = (place : ℕ) × IsWrongAt (TokensBegin syntax) lexemes place
 
-  -- behind a front that begins a text, all tokens begin one, or one of them is the first wrong one
+  -- after a front that begins a text, all tokens begin one, or one of them is the first wrong one
   begins_or_wrong : (front rest : List (Lexeme Kind)) → TokensBegin syntax front → TokensBegin syntax (front ++ rest) ⊎ HasWrong (front ++ rest)
   begins_or_wrong front [] begins = inl (subst (TokensBegin syntax) (sym (append-nil front)) begins)
   begins_or_wrong front (one ∷ rest) begins = ⊎_elim

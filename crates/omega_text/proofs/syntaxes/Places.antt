@@ -8,7 +8,7 @@ use Rattle.omega_text.proofs.syntaxes.Faults.{misplaced_in}
 use Rattle.omega_text.proofs.syntaxes.Fronts.{begins_through, cases_split}
 
 module _ {Kind : Type 0} (format : TextFormat Kind) (exact : GoesOneWay format) where
-  -- a token of a cut begins at its place or behind it
+  -- a token of a cut begins at its place or after it
   behind : (source : List ℕ) (from to : ℕ) (front rest : List (Lexeme Kind)) (token : Lexeme Kind) → Cuts format source from (front ++ token ∷ rest) to → from ≤ token.span.start
   behind source from to [] rest token cuts = (exact.behind source from token cuts.0).forward
   behind source from to (one ∷ front) rest token cuts =
@@ -16,7 +16,7 @@ module _ {Kind : Type 0} (format : TextFormat Kind) (exact : GoesOneWay format) 
       let later = behind source one.span.end to front rest token cuts.1 in
       omega (arith, part.forward, part.nonempty, later)
 
-  -- a token of a cut begins before those behind it
+  -- a token of a cut begins before those after it
   pub ordered : (source : List ℕ) (from to : ℕ) (front more rest : List (Lexeme Kind)) (token other : Lexeme Kind)
       → Cuts format source from (front ++ token ∷ (more ++ other ∷ rest)) to → token.span.start < other.span.start
   ordered source from to [] more rest token other cuts =

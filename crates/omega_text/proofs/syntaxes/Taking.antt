@@ -19,7 +19,7 @@ module _ {Kind : Type 0} (format : TextFormat Kind) (taken : List (Lexeme Kind) 
       let run = takes read.lexemes read.all_taken in
       record { lexemes = read.lexemes ++ run.run; cuts = cuts_join format source 0 place to read.lexemes run.run read.cuts run.cuts; all_taken = run.all_taken }
 
-  -- a fault of tokens behind them is one of the text
+  -- a fault of tokens after them is one of the text
   pub read_faulty : (begins : List (Lexeme Kind) → Type 0) (fault : TextFault) → IsLexical fault → IsFaultFrom format source place fault → IsTokenFault format begins source fault
   read_faulty begins (Lex at) lexical from = record {
     lexemes = read.lexemes ++ from.lexemes;
@@ -48,7 +48,7 @@ module _ {Kind : Type 0} (format : TextFormat Kind) (taken : List (Lexeme Kind) 
     read_taken begins after false takes was = absurd (let clash : false ≡ true = was in cc)
     read_taken begins after true takes was = record { lexemes = read.lexemes ++ lexeme ∷ []; cuts = through; all_taken = takes read.lexemes read.all_taken }
 
-    -- or is the first wrong one of a text that can be cut behind it
+    -- or is the first wrong one of a text that can be cut after it
     pub read_refused : (begins after : List (Lexeme Kind) → Type 0) (done : Bool) → ((before : List (Lexeme Kind)) → taken before → TakesOrRefuses done begins after before lexeme) → done ≡ false
         → (rest : (others : List (Lexeme Kind)) × IsRestOfText format source lexeme.span.end others) → HasWrongAt format begins source lexeme.span.start
     read_refused begins after true takes was rest = absurd (let clash : true ≡ false = was in cc)
@@ -74,7 +74,7 @@ module _ {Kind : Type 0} (format : TextFormat Kind) (taken : List (Lexeme Kind) 
 pub fault_here : {Kind : Type 0} (format : TextFormat Kind) (source : List ℕ) (place : ℕ) (fault : TextFault) → format.faults source place fault → IsFaultFrom format source place fault
 fault_here format source place fault faults = record { lexemes = []; end = place; cuts = refl; fault_there = faults }
 
--- and one behind a token that follows
+-- and one after a token that follows
 pub fault_behind : {Kind : Type 0} (format : TextFormat Kind) (source : List ℕ) (place : ℕ) (lexeme : Lexeme Kind) (fault : TextFault) → format.follows source place lexeme
     → IsFaultFrom format source lexeme.span.end fault → IsFaultFrom format source place fault
 fault_behind format source place lexeme fault follows from = record {

@@ -33,7 +33,7 @@ pub record GoesOn (bytes : List ℕ) : Type 0 where
   pub unit : IsUnit sort (bytes ++ more)
 
 -- the cut begins with these tokens however the text goes on,
--- and behind them is a gap and then what may be the beginning of a longer unit
+-- and after them is a gap and then what may be the beginning of a longer unit
 pub record Settles (seen : List ℕ) (lexemes : List (Lexeme HoaKind)) : Type 0 where
   pub end : ℕ
   pub gap : List ℕ
@@ -43,7 +43,7 @@ pub record Settles (seen : List ℕ) (lexemes : List (Lexeme HoaKind)) : Type 0 
   pub passed : IsGap gap
   pub goes_on : GoesOn pending
 
--- the text has this fault behind these tokens however it goes on
+-- the text has this fault after these tokens however it goes on
 pub record SettlesFault (seen : List ℕ) (lexemes : List (Lexeme HoaKind)) (fault : TextFault) : Type 0 where
   pub end : ℕ
   pub cuts : (rest : List ℕ) → Cuts hoa_format (seen ++ rest) 0 lexemes end
@@ -54,7 +54,7 @@ abbrev pub IsSettled : Option TextFault → List ℕ → List (Lexeme HoaKind) �
 IsSettled None seen lexemes = Settles seen lexemes
 IsSettled (Some fault) seen lexemes = SettlesFault seen lexemes fault
 
--- the text has this fault behind these tokens
+-- the text has this fault after these tokens
 pub record FaultsBehind (source : List ℕ) (lexemes : List (Lexeme HoaKind)) (fault : TextFault) : Type 0 where
   pub end : ℕ
   pub cuts : Cuts hoa_format source 0 lexemes end
@@ -88,7 +88,7 @@ pub record IsPlain (settled : Settled) : Type 0 where
   pub first : IsNoneMark settled.first
   pub second : IsNoneMark settled.second
 
--- behind these tokens, a mark or a fault is settled by the next byte
+-- after these tokens, a mark or a fault is settled by the next byte
 abbrev pub StopsBefore : List ℕ → List (Lexeme HoaKind) → ℕ → Type 0
 StopsBefore seen lexemes byte = (settled : Settled) × IsSettled settled.fault (seen ++ byte ∷ []) (lexemes ++ settled_lexemes (seen ++ byte ∷ []) settled) × (IsPlain settled → ⊥)
 
@@ -96,7 +96,7 @@ StopsBefore seen lexemes byte = (settled : Settled) × IsSettled settled.fault (
 abbrev pub Reading : Type 1
 Reading = List ℕ → List (Lexeme HoaKind) → Type 0
 
--- some bytes were read, and behind them places can be counted further by so many
+-- some bytes were read, and after them places can be counted further by so many
 abbrev pub HasRoom : Reading → ℕ → Type 0
 HasRoom IsRead count = (seen : List ℕ) × (lexemes : List (Lexeme HoaKind)) × IsRead seen lexemes × (length seen + count < 2 ^ 64)
 

@@ -23,7 +23,7 @@ pub record IsFaultFrom {Kind : Type 0} (format : TextFormat Kind) (source : List
   pub cuts : Cuts format source from lexemes end
   pub fault_there : format.faults source end fault
 
--- the token is the first of those that are left, and the others are the rest of the text behind it
+-- the token is the first of those that are left, and the others are the rest of the text after it
 pub record IsNextOfLeft {Kind : Type 0} (format : TextFormat Kind) (source : List ℕ) (lexeme : Lexeme Kind) (lexemes : List (Lexeme Kind)) : Type 0 where
   pub others : List (Lexeme Kind)
   pub split : lexemes ≡ lexeme ∷ others

@@ -9,7 +9,7 @@ use super::placed::Settled;
 ///
 /// A token is settled by the first byte that is not part of it, or at the end; signs, marks, header names and strings
 /// by their last byte. A fault is settled by the first byte that rules out a token, that of a number when its digits
-/// have ended, that of a string or comment without end at the end. Behind a fault nothing more is settled.
+/// have ended, that of a string or comment without end at the end. After a fault nothing more is settled.
 ///
 /// Contracts say what was read and settled so far, and not how it is kept. No call takes memory.
 pub trait ByteTokenizer {
@@ -21,7 +21,7 @@ pub trait ByteTokenizer {
     /// These bytes were read, and these tokens of them were settled.
     ghost read: { Self → List ℕ → List (Lexeme HoaKind) → Type 0 };
 
-    /// The fault behind these tokens, once one is settled.
+    /// The fault after these tokens, once one is settled.
     ghost fault: { Self → Option TextFault };
 
     /// Before the first byte.

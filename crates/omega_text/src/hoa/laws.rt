@@ -37,7 +37,7 @@ pub fn white_is_gap()
     ensures { WhiteIsGap }
 {}
 
-/// A gap and a token that is written behind it are cut into that token.
+/// A gap and a token that is written after it are cut into that token.
 pub fn tokens_follow()
     ensures { TokensFollow }
 {}

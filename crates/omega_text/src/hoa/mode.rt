@@ -155,7 +155,7 @@ fn bracket_kind(byte: u8) -> Option<HoaKind>
     }
 }
 
-/// Behind the beginning of a word.
+/// After the beginning of a word.
 #[inline(always)]
 pub(super) fn word_mode(byte: u8) -> Option<KeptMode>
     ensures { result ≡ word_mode byte }
@@ -169,7 +169,7 @@ pub(super) fn word_mode(byte: u8) -> Option<KeptMode>
     }
 }
 
-/// Behind `@`, and behind the beginning of a name that follows it.
+/// After `@`, and after the beginning of a name that follows it.
 #[inline(always)]
 pub(super) fn alias_mode(byte: u8) -> Option<KeptMode>
     ensures { result ≡ alias_mode byte }
@@ -181,7 +181,7 @@ pub(super) fn alias_mode(byte: u8) -> Option<KeptMode>
     }
 }
 
-/// Behind digits.
+/// After digits.
 #[inline(always)]
 pub(super) fn digits_mode(byte: u8) -> Option<KeptMode>
     ensures { result ≡ digits_mode byte }
@@ -207,7 +207,7 @@ pub(super) fn quoted_mode(byte: u8) -> KeptMode
     }
 }
 
-/// Behind `/`.
+/// After `/`.
 pub(super) fn slash_mode(byte: u8) -> Option<KeptMode>
     ensures { result ≡ slash_mode byte }
 {
@@ -231,7 +231,7 @@ pub(super) fn comment_mode(around: usize, byte: u8) -> KeptMode
     }
 }
 
-/// In a comment, behind `*`.
+/// In a comment, after `*`.
 pub(super) fn star_mode(around: usize, byte: u8) -> KeptMode
     ensures { result ≡ star_mode around byte }
 {
@@ -244,7 +244,7 @@ pub(super) fn star_mode(around: usize, byte: u8) -> KeptMode
     }
 }
 
-/// Behind the end of a comment that stands inside so many others.
+/// After the end of a comment that stands inside so many others.
 fn closed_mode(around: usize) -> KeptMode
     ensures { result ≡ closed_mode around }
 {
@@ -255,7 +255,7 @@ fn closed_mode(around: usize) -> KeptMode
     }
 }
 
-/// In a comment, behind `/`.
+/// In a comment, after `/`.
 pub(super) fn slashed_mode(around: usize, byte: u8) -> KeptMode
     requires { around < 2 ^ 64 - 1 }
     ensures { result ≡ slashed_mode around byte }
@@ -269,7 +269,7 @@ pub(super) fn slashed_mode(around: usize, byte: u8) -> KeptMode
     }
 }
 
-/// Behind `-`.
+/// After `-`.
 pub(super) fn dash_mode(byte: u8) -> Option<KeptMode>
     ensures { result ≡ dash_mode byte }
 {
@@ -280,7 +280,7 @@ pub(super) fn dash_mode(byte: u8) -> Option<KeptMode>
     }
 }
 
-/// Behind `--`.
+/// After `--`.
 pub(super) fn dashes_mode(byte: u8) -> Option<KeptMode>
     ensures { result ≡ dashes_mode byte }
 {
@@ -295,7 +295,7 @@ pub(super) fn dashes_mode(byte: u8) -> Option<KeptMode>
     }
 }
 
-/// Behind so many bytes of a mark.
+/// After so many bytes of a mark.
 pub(super) fn mark_byte_mode(kind: HoaKind, count: usize, byte: u8) -> Option<KeptMode>
     requires { count < length (spelling kind) }
     ensures { result ≡ next_mode (Mode.Mark kind count) byte }

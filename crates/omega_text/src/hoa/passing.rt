@@ -132,7 +132,7 @@ fn is_no_mark(settled: Option<PlacedToken>) -> bool
     }
 }
 
-/// Where no unit has been begun, those that a first byte and a run of bytes behind it tell.
+/// Where no unit has been begun, those that a first byte and a run of bytes after it tell.
 #[inline(always)]
 fn pass_plain(pending: Pending, start: usize, bytes: &[u8], from: usize) -> (Pending, usize)
     requires within { from ≤ length bytes.now }
@@ -145,7 +145,7 @@ fn pass_plain(pending: Pending, start: usize, bytes: &[u8], from: usize) -> (Pen
     }
 }
 
-/// White bytes, signs, words, numbers, strings and alias names, as far as they are ended one behind the other; and the
+/// White bytes, signs, words, numbers, strings and alias names, as far as they are ended one after the other; and the
 /// unit that is not.
 #[inline(always)]
 fn pass_simple(start: usize, bytes: &[u8], from: usize) -> (Pending, usize)
@@ -166,10 +166,10 @@ fn pass_simple(start: usize, bytes: &[u8], from: usize) -> (Pending, usize)
     (Pending::new(start + (place - from)), place)
 }
 
-/// How far a unit was read that a first byte and a run of bytes behind it tell.
+/// How far a unit was read that a first byte and a run of bytes after it tell.
 #[derive(Clone, Copy, Debug, PartialEq, Eq)]
 enum Simple {
-    /// It is whole, and so is the unit that the byte behind it is, if that byte was needed to end it.
+    /// It is whole, and so is the unit that the byte after it is, if that byte was needed to end it.
     Ended { place: usize },
     /// It is not, or has not been begun.
     Begun { pending: Pending, place: usize },

@@ -12,7 +12,7 @@ pub struct PlacedToken {
     pub span: Span,
 }
 
-/// What a byte settles: at most two tokens, in the order of the text, and behind them perhaps a fault.
+/// What a byte settles: at most two tokens, in the order of the text, and after them perhaps a fault.
 #[derive(Clone, Copy, Debug, PartialEq, Eq)]
 pub struct Settled {
     pub first: Option<PlacedToken>,

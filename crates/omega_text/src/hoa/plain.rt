@@ -1,4 +1,4 @@
-//! Tokens that a first byte and a run of bytes behind it tell.
+//! Tokens that a first byte and a run of bytes after it tell.
 
 ghost use Rattle.std.specs.Prelude.{◌≡◌, ◌<◌, length, slice_index, true, IfSome};
 ghost use Rattle.omega_text.specs.Bytes.{is_digit, is_letter};
@@ -12,7 +12,7 @@ use super::unit::{Unit, whole_byte};
 use crate::bytes::{tail, word_count};
 use crate::digits::{few_digits, has_needless_zero};
 
-/// The token that bytes begin with, if its first byte and a run of bytes behind it tell it.
+/// The token that bytes begin with, if its first byte and a run of bytes after it tell it.
 #[inline(always)]
 pub(crate) fn plain_unit(bytes: &[u8]) -> Option<Unit>
     requires { 0 < length bytes.now }
@@ -99,7 +99,7 @@ fn plain_string(bytes: &[u8]) -> Option<Unit>
     None
 }
 
-/// The alias name that bytes begin with, if a byte of a word stands behind the `@`.
+/// The alias name that bytes begin with, if a byte of a word stands after the `@`.
 #[inline(always)]
 fn plain_alias(bytes: &[u8]) -> Option<Unit>
     requires some { 0 < length bytes.now }

@@ -16,7 +16,7 @@ use crate::token::{Span, Token};
 ///
 /// White space and comments before the token are skipped. A fault is 1 or 2, at the least place from there. No memory
 /// is taken, and each byte up to the end of the token is looked at once, or a few times in a comment, a mark, a string
-/// with a backslash or a fault; the one behind it perhaps too.
+/// with a backslash or a fault; the one after it perhaps too.
 #[inline(always)]
 pub fn next_hoa_token(source: &[u8], at: usize) -> Result<Option<Token<'_, HoaKind>>, TextFault>
     requires { at ≤ length source.now }
@@ -32,7 +32,7 @@ pub fn next_hoa_token(source: &[u8], at: usize) -> Result<Option<Token<'_, HoaKi
     }
 }
 
-/// The next token from a place on, if white bytes alone stand before it and its first byte and a run of bytes behind it
+/// The next token from a place on, if white bytes alone stand before it and its first byte and a run of bytes after it
 /// tell it.
 #[inline(always)]
 pub(super) fn plain_hoa_token(source: &[u8], at: usize) -> Option<Token<'_, HoaKind>>

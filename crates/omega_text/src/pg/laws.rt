@@ -32,7 +32,7 @@ pub fn names_are_longest()
     ensures { NamesAreLongest }
 {}
 
-/// White space and a token that is written behind it are cut into that token.
+/// White space and a token that is written after it are cut into that token.
 pub fn tokens_follow()
     ensures { TokensFollow }
 {}

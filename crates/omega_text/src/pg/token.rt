@@ -24,7 +24,7 @@ use crate::token::{Span, Token};
 /// The next token of a game text from a place on, or none where only white space is left.
 ///
 /// White space before the token is skipped. A fault is 1 or 2, at the least place from there. No memory is taken, and
-/// no byte behind the token is looked at, but for the one behind a number or a word.
+/// no byte after the token is looked at, but for the one after a number or a word.
 #[inline(always)]
 pub fn next_pg_token(source: &[u8], at: usize) -> Result<Option<Token<'_, PgKind>>, TextFault>
     requires { at ≤ length source.now }
@@ -45,7 +45,7 @@ pub fn next_pg_token(source: &[u8], at: usize) -> Result<Option<Token<'_, PgKind
     Ok(Some(front_token(bytes, start, front)))
 }
 
-/// The number that is the next token from a place on, if it can be told at once: behind one byte of white space at
+/// The number that is the next token from a place on, if it can be told at once: after one byte of white space at
 /// most, and with few digits. None says nothing: `next_pg_token` tells then.
 #[inline(always)]
 pub fn next_pg_number(source: &[u8], at: usize) -> Option<Token<'_, PgKind>>

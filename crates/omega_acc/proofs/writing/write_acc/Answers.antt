@@ -1,4 +1,4 @@
--- The whole text is put behind.
+-- The whole text is put after.
 use Rattle.std.proofs.Common.{[], ◌++◌, ap, ◌∙◌}
 use Rattle.omega_acc.specs.Writing.{Text}
 use Rattle.omega_acc.specs.private.layout.Texts.{acc_texts_behind}

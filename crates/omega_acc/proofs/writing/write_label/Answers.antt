@@ -1,4 +1,4 @@
--- The whole text is put behind.
+-- The whole text is put after.
 use Rattle.std.proofs.Common.{[], ◌++◌, ap, ◌∙◌}
 use Rattle.omega_acc.specs.private.layout.label.Label.{postfix}
 use Rattle.omega_acc.specs.private.layout.Texts.{texts_behind, top_text}

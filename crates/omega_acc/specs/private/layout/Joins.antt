@@ -1,4 +1,4 @@
--- Lists joined behind two parts and an operator.
+-- Lists joined after two parts and an operator.
 use Rattle.std.specs.Prelude.{◌≡◌, List, [], ◌∷◌, ◌++◌}
 use Rattle.std.proofs.Common.{append_assoc, ap, ◌∙◌}
 

@@ -19,7 +19,7 @@ abbrev pub early_fault : RawAutomaton → Option AutomatonFault
 early_fault raw =
     find (applies raw) (Version ∷ RepeatedHeader ∷ MissingAcceptance ∷ UnknownHeader ∷ StateRange ∷ SetRange ∷ Proposition ∷ [])
 
--- the least fault behind that of aliases and before those of depth and size
+-- the least fault after that of aliases and before those of depth and size
 abbrev pub late_fault : RawAutomaton → Option AutomatonFault
 late_fault raw = find (applies raw) (StateTwice ∷ MixedLabels ∷ ImplicitCount ∷ AcceptanceAtom ∷ [])
 

@@ -1,4 +1,4 @@
--- `append_sizes`: its parts stand one behind the other.
+-- `append_sizes`: its parts stand one after the other.
 use Rattle.std.proofs.Common.{◌++◌, ap, codes, length, ◌∙◌}
 use Rattle.omega_acc.specs.Writing.{acc_text}
 use Rattle.omega_canon.proofs.Lines.{behind}

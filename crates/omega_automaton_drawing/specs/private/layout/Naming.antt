@@ -24,7 +24,7 @@ with_names names number (byte ∷ bytes) =
     if is_digit byte then with_names names (Some (with_digit number byte)) bytes
     else pending_name names number ++ (sign_text byte ++ with_names names None bytes)
 
--- a byte was passed: what is written, and what is to be written of any bytes behind it, is the same in all
+-- a byte was passed: what is written, and what is to be written of any bytes after it, is the same in all
 abbrev pub AreOwed : List (List ℕ) → List ℕ → List ℕ → Option ℕ → ℕ → Option ℕ → Type 0
 AreOwed names before after number byte next =
     (bytes : List ℕ) → after ++ with_names names next bytes ≡ before ++ with_names names number (byte ∷ bytes)

@@ -1,4 +1,4 @@
--- The run ends in one of its slices, with no lift due, or behind the whole ones with the rest of the budget.
+-- The run ends in one of its slices, with no lift due, or after the whole ones with the rest of the budget.
 use Rattle.std.proofs.Common.{◌-◌, ℕ, arith, subst}
 use Rattle.omega_solve.specs.declared.outcome.Outcome.TheVariants.{Done}
 use Rattle.omega_budget.specs.Watching.{IsTold}

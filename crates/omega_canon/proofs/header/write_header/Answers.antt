@@ -1,4 +1,4 @@
--- `write_header`: its lines one behind the other.
+-- `write_header`: its lines one after the other.
 use Rattle.std.proofs.Common.{codes}
 use Rattle.std.specs.List.{flat_map}
 use Rattle.omega_canon.specs.HeaderText.{acc_name_line, acceptance_line, name_line, properties_line, propositions_line, start_line, states_line, tool_line, unknown_line}

@@ -1,4 +1,4 @@
--- `list_in`: the list at an index of those that lie one behind the other.
+-- `list_in`: the list at an index of those that lie one after the other.
 use Rattle.std.proofs.Common.{◌≡◌, ◌+◌, ◌≤◌, length, get_or, rules, arith, refl}
 use Rattle.std.proofs.lemmas.List.{get_or_default}
 use Rattle.omega_components.specs.private.Lists.{list_at}

@@ -1,5 +1,5 @@
 -- `emptiness_watched`: what is told is told of the run in the emptiness game,
--- and behind it there is want of memory alone.
+-- and after it there is want of memory alone.
 use Rattle.std.proofs.Common.{◌≡◌, None, Some}
 use Rattle.std.proofs.lemmas.Result.{IfErr-weaker}
 use Rattle.omega_empty.proofs.walking.Refused.{on_ok, passed_on, ungiven_refused, unsolved_refused}

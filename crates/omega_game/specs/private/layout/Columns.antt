@@ -8,7 +8,7 @@ use Rattle.omega_game.specs.declared.priority_counts.PriorityCount.{PriorityCoun
 use Rattle.omega_game.specs.Bound.{priority_counts}
 use Rattle.omega_game.specs.Game.{Node, IsGame, IsWithinLimits, predecessors_of}
 
--- the name that quoted bytes stand for: none where there are none, else what stands behind the opening quote
+-- the name that quoted bytes stand for: none where there are none, else what stands after the opening quote
 abbrev pub name_in_column : List ℕ → Option (List ℕ)
 name_in_column [] = None
 name_in_column (quote ∷ name) = Some name

@@ -1,4 +1,4 @@
--- `enter_behind`: the successors of a node are places, and what is behind a place more is entered.
+-- `enter_behind`: the successors of a node are places, and what is after a place more is entered.
 use Rattle.std.proofs.Common.{ℕ, List, Contains, get_or, arith, subst}
 use Rattle.omega_game_drawing.specs.private.Entering.{AreEntered}
 use Rattle.omega_game_drawing.proofs.Entering.{entered_behind}

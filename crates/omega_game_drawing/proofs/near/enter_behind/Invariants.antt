@@ -1,4 +1,4 @@
--- `enter_behind`: what is behind the places before this one is entered.
+-- `enter_behind`: what is after the places before this one is entered.
 use Rattle.std.proofs.Common.{[], take}
 use Rattle.omega_game_drawing.specs.private.Entering.{AreEntered, IsBehind}
 use Rattle.omega_game_drawing.proofs.near.enter_behind.Given as goal

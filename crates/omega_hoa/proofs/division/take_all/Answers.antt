@@ -1,4 +1,4 @@
--- The tokens that a byte settles are taken one behind the other.
+-- The tokens that a byte settles are taken one after the other.
 use Rattle.std.proofs.Common.{[], ◌++◌, append-nil, sym, subst, inr}
 use Rattle.omega_text.specs.hoa.Pieces.{lexemes_in}
 use Rattle.omega_hoa.specs.Feeding.{IsDivided}

@@ -1,4 +1,4 @@
--- A text is refused behind at most one list of items, and has at most one refusal.
+-- A text is refused after at most one list of items, and has at most one refusal.
 use Rattle.omega_hoa.proofs.OneStream.{stream_faults_one}
 use Rattle.omega_hoa.proofs.Readings.{readings_of}
 use Rattle.omega_hoa.proofs.laws.stream_faults_are_one.Goals as goal

@@ -1,4 +1,4 @@
--- A byte is read behind those before it.
+-- A byte is read after those before it.
 use Rattle.std.proofs.Common.{◌∷◌, [], ◌++◌, ◌∙◌, get_or, refl, arith, sym, subst, take}
 use Rattle.omega_text.specs.hoa.Pieces.{settled_lexemes}
 use Rattle.omega_hoa.specs.Feeding.{IsDivided, IsRefusedThen}

@@ -1,4 +1,4 @@
--- The bytes are read one behind the other, those inside a segment at once.
+-- The bytes are read one after the other, those inside a segment at once.
 use Rattle.std.proofs.Common.{◌≡◌, ◌++◌, ◌+◌, length, arith, sym, subst}
 use Rattle.omega_hoa.specs.Feeding.{Appends, IsRefusedThen}
 use Rattle.omega_hoa.specs.private.dividing.Next.{IsProgress}

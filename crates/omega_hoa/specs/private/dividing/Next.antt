@@ -23,7 +23,7 @@ pub record IsWindow (bytes : List ℕ) (first : ℕ) (seen : List ℕ) : Type 0 
   pub is : bytes ≡ drop first (seen ++ behind)
   pub within : length seen ≤ first + length bytes
 
--- behind divided tokens stands this one, if it is some, in a text of which the bytes are a window
+-- after divided tokens stands this one, if it is some, in a text of which the bytes are a window
 pub record IsNextDivision (bytes : List ℕ) (first : ℕ) (division : Division) (token : Option PlacedToken) (seen : List ℕ) (lexemes : List (Lexeme HoaKind)) (items : List Item) : Type 0 where
   pub divided : IsDivided seen lexemes items division.begins division.inside
   pub cuts : (more : List ℕ) → (end : ℕ) × Cuts hoa_format (seen ++ more) 0 (lexemes ++ lexemes_in seen token) end
@@ -58,7 +58,7 @@ pub record IsNothing (settled : Settled) : Type 0 where
   pub second : settled.second ≡ None
   pub fault : settled.fault ≡ None
 
--- behind divided tokens stand those that a byte settles
+-- after divided tokens stand those that a byte settles
 pub record IsNextSettled (bytes : List ℕ) (first : ℕ) (division : Division) (settled : Settled) (seen : List ℕ) (lexemes : List (Lexeme HoaKind)) (items : List Item) : Type 0 where
   pub divided : IsDivided seen lexemes items division.begins division.inside
   pub settles : IsSettled settled.fault seen (lexemes ++ settled_lexemes seen settled)
@@ -79,7 +79,7 @@ abbrev pub AreRefusedAt : List ℕ → ℕ → Division → Settled → (old new
 AreRefusedAt bytes first division settled old new refusal = (seen : List ℕ) (lexemes : List (Lexeme HoaKind)) (items : List Item) → IsNextSettled bytes first division settled seen lexemes items
     → IsRefusedThen seen old new items refusal
 
--- the bytes were read up to a place, behind bytes before them, and no fault of tokens is settled
+-- the bytes were read up to a place, after bytes before them, and no fault of tokens is settled
 pub record IsProgress (bytes : List ℕ) (first place : ℕ) (progress : ReadProgress) (prior : List ℕ) (items : List Item) : Type 0 where
   pub there : first ≡ length prior
   pub lexemes : List (Lexeme HoaKind)

@@ -72,7 +72,7 @@ pub record HasWhole (source : List ℕ) (end : ℕ) : Type 0 where
   pub cut : IsCut hoa_format source lexemes
   pub is : IsWhole lexemes end
 
--- a text whose tokens are one segment, up to a place, and others behind it, the first at another place
+-- a text whose tokens are one segment, up to a place, and others after it, the first at another place
 pub record HasFollowed (source : List ℕ) (end at : ℕ) : Type 0 where
   pub lexemes : List (Lexeme HoaKind)
   pub cut : IsCut hoa_format source lexemes

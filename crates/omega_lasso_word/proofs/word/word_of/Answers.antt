@@ -1,4 +1,4 @@
--- `word_of`: the letters of the stem, and behind them those of the cycle in braces.
+-- `word_of`: the letters of the stem, and after them those of the cycle in braces.
 use Rattle.std.proofs.Common.{◌≡◌, ◌++◌, List, ℕ, ap, ◌∙◌, append_assoc, codes}
 use Rattle.omega_lasso_word.specs.WordText.{cycle_text, stem_text}
 use Rattle.omega_lasso_word.proofs.word.word_of.Goals as goal

@@ -10,7 +10,7 @@ use Rattle.omega_measure.specs.declared.field.Field.{Field}
 abbrev pub top_field : Field
 top_field = record { word = 0; shift = 63; bits = 1; limit = 1 }
 
--- a field behind another, for an entry up to a limit: as many bits as the limit needs, all in one word,
+-- a field after another, for an entry up to a limit: as many bits as the limit needs, all in one word,
 -- none of them taken
 pub record FollowsField (before : Field) (limit : ℕ) (field : Field) : Type 0 where
   pub greatest : field.limit ≡ limit
@@ -21,19 +21,19 @@ pub record FollowsField (before : Field) (limit : ℕ) (field : Field) : Type 0 
   pub room : field.shift < 64
   pub behind : 64 * before.word + field.shift + field.bits ≤ 64 * field.word + before.shift
 
--- fields one behind another, for entries up to these limits
+-- fields one after another, for entries up to these limits
 abbrev pub AreChained : Field → List ℕ → List Field → Type 0
 AreChained before [] [] = Unit {0}
 AreChained before [] (field ∷ fields) = ⊥
 AreChained before (limit ∷ limits) [] = ⊥
 AreChained before (limit ∷ limits) (field ∷ fields) = FollowsField before limit field × AreChained field limits fields
 
--- the fields of a row: that of the flag for top, and behind it those of the entries up to these limits
+-- the fields of a row: that of the flag for top, and after it those of the entries up to these limits
 abbrev pub ArePacked : List ℕ → List Field → Type 0
 ArePacked limits [] = ⊥
 ArePacked limits (field ∷ fields) = (field ≡ top_field) × AreChained field limits fields
 
--- the last of a field and those behind it
+-- the last of a field and those after it
 abbrev pub last_of : Field → List Field → Field
 last_of before [] = before
 last_of before (field ∷ fields) = last_of field fields

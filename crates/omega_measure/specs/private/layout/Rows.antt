@@ -39,7 +39,7 @@ pub record IsLastBelow (entries limits : List ℕ) (kept at : ℕ) : Type 0 wher
   pub below : slice_index entries at < slice_index limits at
   pub behind : AreAtLimits entries limits (at + 1) kept
 
--- entries raised at the last of the first `kept` that is below its limit, or with all behind the first `kept` cleared
+-- entries raised at the last of the first `kept` that is below its limit, or with all after the first `kept` cleared
 abbrev pub allowed : Bool → ℕ → List ℕ → List ℕ → Option (List ℕ)
 allowed strict kept limits entries = if strict then raised kept limits entries else Some (cleared_after kept entries)
 

@@ -1,4 +1,4 @@
--- The others were added so far, behind the first.
+-- The others were added so far, after the first.
 use Rattle.std.proofs.Common.{◌≡◌, ◌∷◌, take}
 use Rattle.omega_raw.proofs.conj.with_first.Given as goal
 

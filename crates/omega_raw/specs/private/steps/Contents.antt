@@ -1,4 +1,4 @@
--- What a call reads behind the header of an item.
+-- What a call reads after the header of an item.
 use Rattle.std.specs.Prelude.{◌≡◌, ℕ, List, Result, IfOk}
 use Rattle.omega_raw.specs.Grammar.{IsRawItem, content_row, item_name}
 use Rattle.omega_raw.specs.private.steps.Rows.{item_header}

@@ -57,19 +57,19 @@ is_edge kind.OpenBracket = true
 is_edge kind.Int = true
 is_edge other = false
 
--- a header or the mark before the body comes behind an item
+-- a header or the mark before the body comes after an item
 abbrev pub EndsItem : HoaKind → Type 0
 EndsItem kind.HeaderName = Unit {0}
 EndsItem kind.Body = Unit {0}
 EndsItem other = ⊥
 
--- a header or the mark behind the body comes behind a state
+-- a header or the mark after the body comes after a state
 abbrev pub EndsState : HoaKind → Type 0
 EndsState kind.HeaderName = Unit {0}
 EndsState kind.End = Unit {0}
 EndsState other = ⊥
 
--- an edge or what comes behind a state comes behind an edge
+-- an edge or what comes after a state comes after an edge
 abbrev pub EndsEdge : HoaKind → Type 0
 EndsEdge kind.OpenBracket = Unit {0}
 EndsEdge kind.Int = Unit {0}
@@ -77,7 +77,7 @@ EndsEdge kind.HeaderName = Unit {0}
 EndsEdge kind.End = Unit {0}
 EndsEdge other = ⊥
 
--- no operator comes behind a conj
+-- no operator comes after a conj
 abbrev pub EndsConj : HoaKind → Type 0
 EndsConj kind.And = ⊥
 EndsConj other = Unit {0}

@@ -1,4 +1,4 @@
--- `report_behind`: where no write of the lines failed the refusal is told behind them, and else nothing.
+-- `report_behind`: where no write of the lines failed the refusal is told after them, and else nothing.
 use Rattle.std.proofs.Common.{◌∙◌, arith, refl}
 use Rattle.omega_run.proofs.Performing.{reports_any, reports_as}
 use Rattle.omega_run.proofs.reporting.report_behind.Goals as goal

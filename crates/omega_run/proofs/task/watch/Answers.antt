@@ -1,4 +1,4 @@
--- `watch`: what is told of the outcome is told behind the lines of progress.
+-- `watch`: what is told of the outcome is told after the lines of progress.
 use Rattle.omega_run.proofs.Performing.{reports_as}
 use Rattle.omega_run.proofs.ProgressLines.{told_at_last}
 use Rattle.omega_run.proofs.task.watch.Goals as goal

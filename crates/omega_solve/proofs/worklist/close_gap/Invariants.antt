@@ -1,4 +1,4 @@
--- The places behind the gap came one later.
+-- The places after the gap came one later.
 use Rattle.std.proofs.Common.{◌≡◌, ℕ, ◌+◌, ◌<◌, ◌≤◌, length}
 use Rattle.omega_solve.specs.private.schedules.Worklist.{queued}
 use Rattle.omega_solve.proofs.worklist.close_gap.Given as goal

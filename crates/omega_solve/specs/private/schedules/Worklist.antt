@@ -21,7 +21,7 @@ pub record IsWorklist (pending : Pending) (ring : List ℕ) (first count : ℕ) 
   pub apart : (j k : ℕ) → j < k → k < count → queued ring first j ≢ queued ring first k
   pub all : (v : ℕ) → IsPending pending v → (k : ℕ) × (k < count) × (queued ring first k ≡ v)
 
--- the places before k come one later, in place of the one that was there, and those behind it stay
+-- the places before k come one later, in place of the one that was there, and those after it stay
 pub record ClosesGap (old : List ℕ) (first k : ℕ) (new : List ℕ) : Type 0 where
   pub entries : length new ≡ length old
   pub later : (j : ℕ) → j < k → queued new first (j + 1) ≡ queued old first j

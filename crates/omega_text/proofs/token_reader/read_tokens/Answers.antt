@@ -1,4 +1,4 @@
--- One token more, which is taken with the run behind it, or is the first wrong one.
+-- One token more, which is taken with the run after it, or is the first wrong one.
 use Rattle.std.proofs.Common.{rules}
 use Rattle.omega_text.proofs.syntaxes.Taking.{fault_behind, fault_here, read_faulty, read_refused, read_run, read_taken}
 use Rattle.omega_text.proofs.token_reader.read_tokens.Goals as goal

@@ -1,4 +1,4 @@
--- The part so far stands behind what was there.
+-- The part so far stands after what was there.
 use Rattle.std.proofs.Common.{◌-◌, ◌≡◌, ◌≤◌, ◌++◌, slice_range}
 use Rattle.omega_acc.proofs.label.expansion.repeat.Given as goal
 

@@ -53,7 +53,7 @@ before_pending (opened before) = Open ∷ before_pending before
 before_pending (anded before left) = And (capped left) ∷ before_pending before
 before_pending (ored before left) = Or (capped left) ∷ before_pending before
 
--- a part of this case may stand behind it
+-- a part of this case may stand after it
 abbrev pub FitsBehind : Rank → Before → Type 0
 FitsBehind rank start = Unit {0}
 FitsBehind rank (opened before) = Unit {0}
@@ -67,7 +67,7 @@ IsOpenBefore (opened before) = IsOpenBefore before
 IsOpenBefore (anded before left) = IsAccOf conjunctive left × (FitsBehind conjunctive before × IsOpenBefore before)
 IsOpenBefore (ored before left) = IsAccOf disjunctive left × (FitsBehind disjunctive before × IsOpenBefore before)
 
--- a part is wanted, behind what these hold
+-- a part is wanted, after what these hold
 pub record Wants (whole left : List (Lexeme HoaKind)) (nodes : List RawAccNode) (names : List ℕ) (pending : List Pending) : Type 0 where
   pub before : Before
   pub sound : IsOpenBefore before
@@ -89,7 +89,7 @@ pub record Has (rank : Rank) (whole left : List (Lexeme HoaKind)) (depth : ℕ) 
   pub pends : pending ≡ before_pending before
   pub passed : Passed whole (before_symbols before ++ formula_symbols part) left
 
--- a part is wanted, behind what an unfinished formula holds
+-- a part is wanted, after what an unfinished formula holds
 abbrev pub WantsIn : (whole left : List (Lexeme HoaKind)) → UnfinishedAcc → Type 0
 WantsIn whole left unfinished = Wants whole left unfinished.nodes.items unfinished.names.items unfinished.pending
 

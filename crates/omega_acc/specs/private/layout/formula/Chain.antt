@@ -9,6 +9,6 @@ use Rattle.omega_acc.specs.declared.formula.kind.Parity.{Parity}
 abbrev pub atom_node : Parity → ℕ → AccNode
 atom_node parity set = if has_parity parity set then Inf false set else Fin false set
 
--- the node that joins a set's atom to the sets behind it
+-- the node that joins a set's atom to the sets after it
 abbrev pub joining_node : Parity → ℕ → AccNode
 joining_node parity set = if has_parity parity set then Or else And

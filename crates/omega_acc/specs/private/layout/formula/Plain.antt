@@ -12,7 +12,7 @@ atom_plain name negated set =
     if bytes_eq name (codes "Inf") then Some (plain.Inf negated set)
     else (if bytes_eq name (codes "Fin") then Some (plain.Fin negated set) else None)
 
--- nodes behind others, where there are both
+-- nodes after others, where there are both
 abbrev pub behind_nodes : Option (List AccNode) → Option (List AccNode) → Option (List AccNode)
 behind_nodes None more = None
 behind_nodes (Some nodes) more = option_map (λ rest. nodes ++ rest) more

@@ -53,7 +53,7 @@ raw_acc_trees_of trees names (Group ∷ nodes) = raw_acc_trees_of (group (raw_ac
 abbrev pub raw_acc_tree_of : List RawAccNode → List ℕ → RawAccTree
 raw_acc_tree_of nodes names = raw_acc_top (raw_acc_trees_of [] names nodes)
 
--- a tree in postfix order leaves that tree, and the names behind its own
+-- a tree in postfix order leaves that tree, and the names after its own
 pub raw_acc_trees_of-postfix : (tree : RawAccTree) (trees : List RawAccTree) (names : List ℕ) (rest : List RawAccNode)
     → raw_acc_trees_of trees (atom_names tree ++ names) (raw_acc_postfix tree ++ rest) ≡ raw_acc_trees_of (tree ∷ trees) names rest
 raw_acc_trees_of-postfix (constant value) trees names rest = refl

@@ -19,7 +19,7 @@ pub data NameState : Type 0 where
   ended : NameState
   failed : NameState
 
--- the state behind a symbol
+-- the state after a symbol
 abbrev pub go : NameState → ExpressionSymbol → NameState
 go (wanted count) (word text) = named count
 go (wanted count) (sign kind.True) = had count
@@ -43,7 +43,7 @@ go (had (suc count)) other = failed
 go ended other = ended
 go failed other = failed
 
--- the state behind symbols
+-- the state after symbols
 abbrev pub run : NameState → List ExpressionSymbol → NameState
 run state [] = state
 run state (symbol ∷ symbols) = run (go state symbol) symbols

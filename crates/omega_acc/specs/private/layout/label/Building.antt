@@ -60,7 +60,7 @@ before_pending (denied before) = Not ∷ before_pending before
 before_pending (anded before left) = And (capped left) ∷ before_pending before
 before_pending (ored before left) = Or (capped left) ∷ before_pending before
 
--- a part of this case may stand behind it
+-- a part of this case may stand after it
 abbrev pub FitsBehind : Rank → Before → Type 0
 FitsBehind rank start = Unit {0}
 FitsBehind rank (opened before) = Unit {0}
@@ -76,7 +76,7 @@ IsOpenBefore (denied before) = IsOpenBefore before
 IsOpenBefore (anded before left) = IsOf conjunctive left × (FitsBehind conjunctive before × IsOpenBefore before)
 IsOpenBefore (ored before left) = IsOf disjunctive left × (FitsBehind disjunctive before × IsOpenBefore before)
 
--- a part is wanted, behind what these hold
+-- a part is wanted, after what these hold
 pub record Wants (whole left : List (Lexeme HoaKind)) (nodes : List LabelNode) (names : List ℕ) (pending : List Pending) : Type 0 where
   pub before : Before
   pub sound : IsOpenBefore before
@@ -98,7 +98,7 @@ pub record Has (rank : Rank) (whole left : List (Lexeme HoaKind)) (depth : ℕ) 
   pub pends : pending ≡ before_pending before
   pub passed : Passed whole (before_symbols before ++ label_symbols part) left
 
--- a part is wanted, behind what an unfinished label holds
+-- a part is wanted, after what an unfinished label holds
 abbrev pub WantsIn : (whole left : List (Lexeme HoaKind)) → Unfinished → Type 0
 WantsIn whole left unfinished = Wants whole left unfinished.nodes.items unfinished.names.items unfinished.pending
 
@@ -106,7 +106,7 @@ WantsIn whole left unfinished = Wants whole left unfinished.nodes.items unfinish
 abbrev pub HasIn : Rank → (whole left : List (Lexeme HoaKind)) → Unfinished → Type 0
 HasIn rank whole left unfinished = Has rank whole left unfinished.depth unfinished.nodes.items unfinished.names.items unfinished.pending
 
--- the nodes of a proposition, behind `!` or not
+-- the nodes of a proposition, after `!` or not
 abbrev pub literal : Bool → ℕ → List LabelNode
 literal true value = Proposition value ∷ node.Not ∷ []
 literal false value = Proposition value ∷ []

@@ -18,7 +18,7 @@ atom_extent = Some (record { depth = 1; size = 1 })
 abbrev pub deeper_extent : Extent → Extent
 deeper_extent part = record { depth = min (part.depth + 1) 257; size = part.size }
 
--- the extent behind `!`
+-- the extent after `!`
 abbrev pub negated_extent : Extent → Extent
 negated_extent part = record { depth = min (part.depth + 1) 257; size = min (part.size + 1) 65537 }
 

@@ -57,7 +57,7 @@ raw_trees_of trees names (Group ∷ nodes) = raw_trees_of (group (raw_top trees)
 abbrev pub raw_tree_of : List LabelNode → List ℕ → RawLabelTree
 raw_tree_of nodes names = raw_top (raw_trees_of [] names nodes)
 
--- a tree in postfix order leaves that tree, and the names behind its own
+-- a tree in postfix order leaves that tree, and the names after its own
 pub raw_trees_of-postfix : (tree : RawLabelTree) (trees : List RawLabelTree) (names : List ℕ) (rest : List LabelNode)
     → raw_trees_of trees (alias_names tree ++ names) (raw_postfix tree ++ rest) ≡ raw_trees_of (tree ∷ trees) names rest
 raw_trees_of-postfix (constant value) trees names rest = refl

@@ -57,7 +57,7 @@ abbrev pub words_behind : (ℕ → ℕ) → List ℕ → List LabelNode → List
 words_behind words stack [] = stack
 words_behind words stack (next ∷ nodes) = words_behind words (words_with words stack next) nodes
 
--- how many words stand behind a node
+-- how many words stand after a node
 abbrev pub height_with : ℕ → LabelNode → ℕ
 height_with height (Constant value) = height + 1
 height_with height (Proposition number) = height + 1

@@ -1,4 +1,4 @@
--- `Groups::push`: adds a group behind the others.
+-- `Groups::push`: adds a group after the others.
 use Rattle.std.proofs.Common.{◌≡◌, [], ◌∷◌, ◌++◌, length, length-append, rules}
 use Rattle.omega_components.proofs.JoinedLists.{AreStarts-push, lists_of-push_list}
 use Rattle.omega_components.proofs.groups.Groups.push.Goals as goal

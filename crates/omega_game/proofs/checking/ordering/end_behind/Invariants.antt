@@ -1,5 +1,5 @@
--- What holds in the loop of `end_behind`: the first position behind `index` with a greater rank,
--- found by the ends of the positions behind it.
+-- What holds in the loop of `end_behind`: the first position after `index` with a greater rank,
+-- found by the ends of the positions after it.
 use Rattle.std.proofs.Common.{ℕ, ◌<◌, ◌≤◌, ◌-◌, length, get_or}
 use Rattle.omega_game.proofs.checking.ordering.end_behind.Given as goal
 

@@ -1,4 +1,4 @@
--- What holds in the loop of `ends_of`: for each position the first one behind it with a greater rank, or the length.
+-- What holds in the loop of `ends_of`: for each position the first one after it with a greater rank, or the length.
 use Rattle.std.proofs.Common.{◌≡◌, ℕ, ◌<◌, ◌≤◌, length, vec_len, get_or}
 use Rattle.omega_game.proofs.checking.ordering.ends_of.Given as goal
 

@@ -1,4 +1,4 @@
--- `Lists::push_list`: adds a list behind the others.
+-- `Lists::push_list`: adds a list after the others.
 use Rattle.std.proofs.Common.{◌≡◌, [], ◌∷◌, ◌++◌, length, length-append, rules}
 use Rattle.omega_game.proofs.layout.JoinedLists.{AreStarts-push, lists_of-push_list}
 use Rattle.omega_game.proofs.lists.Lists.push_list.Given.{Over}

@@ -1,4 +1,4 @@
--- `Lists::push_single`: adds a list of one item behind the others.
+-- `Lists::push_single`: adds a list of one item after the others.
 use Rattle.std.proofs.Common.{◌≡◌, [], ◌∷◌, ◌++◌, length, rules}
 use Rattle.std.proofs.lemmas.List.{length_push}
 use Rattle.omega_game.proofs.layout.JoinedLists.{AreStarts-push, lists_of-push_list}

@@ -1,4 +1,4 @@
--- `solve_both`: behind the runs there is want of memory alone.
+-- `solve_both`: after the runs there is want of memory alone.
 use Rattle.std.proofs.Common.{◌≡◌}
 use Rattle.omega_text.specs.declared.refusal.Refusal.TheVariants.{Memory}
 use Rattle.omega_game_answers.proofs.Watching.{game_refused}

@@ -1,4 +1,4 @@
--- A piece is read behind the bytes before, or all stays as it was.
+-- A piece is read after the bytes before, or all stays as it was.
 use Rattle.std.proofs.Common.{◌≡◌, ◌-◌, ◌∙◌, ◌++◌, None, ℕ, List, length, take, drop, sym, ap, subst, inr, arith}
 use Rattle.omega_hoa.specs.Feeding.{IsRefusedThen, IsTaken}
 use Rattle.omega_hoa.specs.Kept.{Kept}

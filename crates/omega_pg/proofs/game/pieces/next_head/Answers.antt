@@ -1,4 +1,4 @@
--- Four numbers, one behind the other.
+-- Four numbers, one after the other.
 use Rattle.omega_pg.proofs.games.Pieces.{head_piece, number_piece}
 use Rattle.omega_pg.proofs.game.pieces.next_head.Goals as goal
 

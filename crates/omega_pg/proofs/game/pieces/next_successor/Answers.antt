@@ -1,4 +1,4 @@
--- A comma, and a number behind it.
+-- A comma, and a number after it.
 use Rattle.std.proofs.Common.{arith}
 use Rattle.omega_pg.proofs.games.Pieces.{comma_piece, number_piece, piece_on}
 use Rattle.omega_pg.proofs.game.pieces.next_successor.Goals as goal

@@ -1,4 +1,4 @@
--- `write_listed`: the first identifier, and the others behind it.
+-- `write_listed`: the first identifier, and the others after it.
 use Rattle.std.proofs.Common.{◌<◌, length, drop}
 use Rattle.std.proofs.lemmas.List.Elements.{All-drop, All-take}
 use Rattle.omega_pg.proofs.game.writing.write_listed.Goals as goal

@@ -1,4 +1,4 @@
--- `write_solution`: a line for each place, behind the header.
+-- `write_solution`: a line for each place, after the header.
 use Rattle.std.proofs.Common.{arith}
 use Rattle.omega_pg.specs.solution.Text.{line_at}
 use Rattle.omega_pg.proofs.solutions.Choices.{lines_more, solution_front, text_written}

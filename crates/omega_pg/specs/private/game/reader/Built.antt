@@ -5,6 +5,6 @@ use Rattle.omega_text.specs.declared.refusal.Refusal.{Refusal}
 use Rattle.omega_game.specs.declared.node_spec.NodeSpec.{NodeSpec}
 use Rattle.omega_game.specs.Building.{fault_with}
 
--- why no game is built of specifications behind a header that is too small or not
+-- why no game is built of specifications after a header that is too small or not
 abbrev pub IsBuiltRefusal : Bool → List NodeSpec → Refusal → Type 0
 IsBuiltRefusal small specs = or_game (λ fault. fault_with small specs ≡ Some fault) (or_memory never)

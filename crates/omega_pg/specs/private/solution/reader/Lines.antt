@@ -58,7 +58,7 @@ abbrev pub AreJudged : List Node → List SolutionLine → Bool → List Player 
 AreJudged nodes lines true winners zero one = AreSaid nodes lines winners zero one
 AreJudged nodes lines false winners zero one = HasWrongLine nodes lines
 
--- what lines behind a header come to: the solution that is so written, or 53 where there is none
+-- what lines after a header come to: the solution that is so written, or 53 where there is none
 abbrev pub IsOutcome : List Node → RawSolution → Result Solution Refusal → Type 0
 IsOutcome nodes raw (Ok solution) = IsSolution nodes solution × (raw ≡ raw_solution nodes solution)
 IsOutcome nodes raw (Err refusal) =

@@ -1,4 +1,4 @@
--- The state behind `&` is the one that was written.
+-- The state after `&` is the one that was written.
 use Rattle.std.proofs.Common.{sym, subst, ◌∷◌}
 use Rattle.omega_text.specs.Cases.{IsMemory}
 use Rattle.omega_raw.proofs.PartLemmas.{given_then}

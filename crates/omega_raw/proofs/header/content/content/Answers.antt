@@ -1,4 +1,4 @@
--- What is read behind a header is what was written there.
+-- What is read after a header is what was written there.
 use Rattle.std.proofs.Common.{sym, ◌∙◌}
 use Rattle.omega_raw.proofs.ContentLemmas.{content_given, content_found, unknown_given, unknown_found}
 use Rattle.omega_raw.specs.declared.header.name.HeaderKind.TheVariants as named

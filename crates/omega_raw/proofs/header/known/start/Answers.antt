@@ -1,4 +1,4 @@
--- The states behind the header are those that were written.
+-- The states after the header are those that were written.
 use Rattle.std.proofs.Common.{Ok, refl, sym, ap, subst}
 use Rattle.omega_text.specs.Cases.{IsMemory}
 use Rattle.omega_raw.proofs.ContentLemmas.{start_found}

@@ -1,4 +1,4 @@
--- What is read behind the header is what was written.
+-- What is read after the header is what was written.
 use Rattle.std.proofs.Common.{Ok, refl, sym, ap, subst, ◌∙◌}
 use Rattle.omega_text.specs.Cases.{IsMemory}
 use Rattle.omega_raw.proofs.ContentLemmas.{tool_found}

@@ -1,4 +1,4 @@
--- `report`: the parts of the line, told one behind another, are the line.
+-- `report`: the parts of the line, told one after another, are the line.
 use Rattle.std.proofs.Common.{◌≡◌, ◌++◌, ℕ, List, codes, decimal, rules, subst}
 use Rattle.omega_game.specs.Player.{player_number}
 use Rattle.omega_run.specs.private.steps.Telling.{TellsOn}

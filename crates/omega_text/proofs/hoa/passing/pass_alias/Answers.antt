@@ -1,4 +1,4 @@
--- The word bytes that were counted behind the sign, and the byte behind them.
+-- The word bytes that were counted after the sign, and the byte after them.
 use Rattle.std.proofs.Common.{◌+◌, length, sym, ap, subst, arith, length-drop}
 use Rattle.std.proofs.lemmas.List.Sums.{prefix_len-le-length}
 use Rattle.omega_text.specs.Bytes.{is_word_byte}

@@ -1,4 +1,4 @@
--- The digits that were counted, and the byte behind them.
+-- The digits that were counted, and the byte after them.
 use Rattle.std.proofs.Common.{sym, subst, arith}
 use Rattle.omega_text.specs.private.hoa.scanning.Passing.{IsSimple}
 use Rattle.omega_text.specs.private.hoa.scanning.Unfinished.{fresh}

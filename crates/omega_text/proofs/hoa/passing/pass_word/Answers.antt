@@ -1,4 +1,4 @@
--- The word that was counted, and the byte behind it.
+-- The word that was counted, and the byte after it.
 use Rattle.std.proofs.Common.{◌≡◌, ◌≢◌, length, get_or, refl, ap, ◌∙◌, arith, length-drop}
 use Rattle.std.proofs.lemmas.List.Sums.{prefix_len-le-length}
 use Rattle.omega_text.specs.Bytes.{is_word_byte}

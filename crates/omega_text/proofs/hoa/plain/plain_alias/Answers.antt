@@ -1,4 +1,4 @@
--- The bytes of a word that were counted behind the `@`.
+-- The bytes of a word that were counted after the `@`.
 use Rattle.std.proofs.Common.{length, ap, arith, length-drop}
 use Rattle.std.proofs.lemmas.List.Sums.{prefix_len-le-length}
 use Rattle.omega_text.specs.Bytes.{is_word_byte}

@@ -1,4 +1,4 @@
--- The bytes that were counted, and the quote behind them.
+-- The bytes that were counted, and the quote after them.
 use Rattle.std.proofs.Common.{length, ap, arith, length-drop}
 use Rattle.std.proofs.lemmas.List.Sums.{prefix_len-le-length}
 use Rattle.omega_text.specs.private.hoa.scanning.Passing.{is_quoted}

@@ -1,4 +1,4 @@
--- Behind the white bytes stands the token.
+-- After the white bytes stands the token.
 use Rattle.std.proofs.Common.{take, sym, ◌∙◌, subst, Some}
 use Rattle.omega_text.specs.Lexeme.{lexeme_at}
 use Rattle.omega_text.specs.hoa.Cut.{Follows}

@@ -1,4 +1,4 @@
--- Behind the gap stands the number.
+-- After the gap stands the number.
 use Rattle.omega_text.proofs.pg_texts.Tokens.{form_behind}
 use Rattle.omega_text.proofs.pg.token.next_pg_number.Goals as goal
 

@@ -1,4 +1,4 @@
--- Behind the gap stands the token.
+-- After the gap stands the token.
 use Rattle.omega_text.proofs.pg_texts.Tokens.{form_behind}
 use Rattle.omega_text.proofs.pg.token.next_pg_token.Goals as goal
 

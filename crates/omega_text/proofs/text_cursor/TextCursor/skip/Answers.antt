@@ -1,4 +1,4 @@
--- Behind the first of the tokens that are left the others are left.
+-- After the first of the tokens that are left the others are left.
 use Rattle.std.proofs.Common.{Some, drop, ap, refl, ◌∙◌, sym}
 use Rattle.std.proofs.Math.Logic.{∥∥₁_map}
 use Rattle.omega_text.specs.private.Left.{Left}

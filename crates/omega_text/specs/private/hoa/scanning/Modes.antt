@@ -60,15 +60,15 @@ abbrev pub closed_mode : ℕ → Mode
 closed_mode zero = Blank
 closed_mode (suc around) = Comment around
 
--- behind the beginning of a word
+-- after the beginning of a word
 abbrev pub word_mode : ℕ → Option Mode
 word_mode byte = if is_word_byte byte then Some (Word Identifier) else (if byte == 58 then Some (Whole HeaderName) else None)
 
--- behind `@`, and behind the beginning of a name that follows it
+-- after `@`, and after the beginning of a name that follows it
 abbrev pub alias_mode : ℕ → Option Mode
 alias_mode byte = if is_word_byte byte then Some Alias else None
 
--- behind digits
+-- after digits
 abbrev pub digits_mode : ℕ → Option Mode
 digits_mode byte = if is_digit byte then Some Digits else None
 
@@ -76,7 +76,7 @@ digits_mode byte = if is_digit byte then Some Digits else None
 abbrev pub quoted_mode : ℕ → Mode
 quoted_mode byte = if byte == 34 then Whole String else (if byte == 92 then Escaped else Quoted)
 
--- behind `/`
+-- after `/`
 abbrev pub slash_mode : ℕ → Option Mode
 slash_mode byte = if byte == 42 then Some (Comment 0) else None
 
@@ -84,15 +84,15 @@ slash_mode byte = if byte == 42 then Some (Comment 0) else None
 abbrev pub comment_mode : ℕ → ℕ → Mode
 comment_mode around byte = if byte == 42 then Star around else (if byte == 47 then Slashed around else Comment around)
 
--- in a comment, behind `*`
+-- in a comment, after `*`
 abbrev pub star_mode : ℕ → ℕ → Mode
 star_mode around byte = if byte == 47 then closed_mode around else (if byte == 42 then Star around else Comment around)
 
--- in a comment, behind `/`
+-- in a comment, after `/`
 abbrev pub slashed_mode : ℕ → ℕ → Mode
 slashed_mode around byte = if byte == 42 then Comment (suc around) else (if byte == 47 then Slashed around else Comment around)
 
--- behind `-`
+-- after `-`
 abbrev pub dash_mode : ℕ → Option Mode
 dash_mode byte = if byte == 45 then Some Dashes else None
 

@@ -18,7 +18,7 @@ use Rattle.omega_text.specs.private.hoa.scanning.Unfinished.{fresh}
 abbrev pub IsSingle : ℕ → Type 0
 IsSingle byte = (first_mode byte ≡ Some Blank) ⊎ ((kind : HoaKind) × (first_mode byte ≡ Some (Whole kind)) × (is_mark kind ≡ false))
 
--- bytes more were read into a unit and those behind it, and the tokens that they settled are no marks
+-- bytes more were read into a unit and those after it, and the tokens that they settled are no marks
 pub record Passed (seen : List ℕ) (lexemes : List (Lexeme HoaKind)) (bytes : List ℕ) (after : Pending) : Type 0 where
   pub added : List (Lexeme HoaKind)
   pub at : IsAt Any (seen ++ bytes) (lexemes ++ added) after
@@ -44,7 +44,7 @@ IsCourse next GoesOn = (value : ℕ) (begun : List ℕ) → IsUnfinishedUnit nex
 IsCourse next Ends = (next ≡ Blank) ⊎ ((kind : HoaKind) × (next ≡ Whole kind) × (is_mark kind ≡ false))
 IsCourse next Other = Unit {0}
 
--- the same of one byte, behind which no unit has been begun
+-- the same of one byte, after which no unit has been begun
 abbrev pub IsEndedBy : ℕ → Pending → Type 0
 IsEndedBy byte before = (seen : List ℕ) (lexemes : List (Lexeme HoaKind)) → IsAt Any seen lexemes before → Passed seen lexemes (byte ∷ []) (fresh (length seen + 1))
 
@@ -56,7 +56,7 @@ EndsWord byte = (before : Pending) (kind : HoaKind) → before.mode ≡ Word kin
 abbrev pub is_quoted : ℕ → Bool
 is_quoted byte = not (byte == 34) && not (byte == 92)
 
--- units were read behind a place: up to another where none has been begun, or with one that has
+-- units were read after a place: up to another where none has been begun, or with one that has
 abbrev pub IsSimple : ℕ → List ℕ → ℕ → Simple → Type 0
 IsSimple start bytes place (Ended end) = (place < end) × Passes start bytes place end (fresh start) (fresh (start + (end - place)))
 IsSimple start bytes place (Begun pending end) = Passes start bytes place end (fresh start) pending

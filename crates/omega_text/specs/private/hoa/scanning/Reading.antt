@@ -29,7 +29,7 @@ IsUnfinishedUnit Start value begun = begun ≡ []
 IsUnfinishedUnit Digits value begun = IsValueOf value begun
 IsUnfinishedUnit mode value begun = Unit {0}
 
--- behind these tokens stands a gap and then a unit that has been read so far, if the text goes on as it may
+-- after these tokens stands a gap and then a unit that has been read so far, if the text goes on as it may
 pub record IsAt (may : List ℕ → Type 0) (seen : List ℕ) (lexemes : List (Lexeme HoaKind)) (pending : Pending) : Type 0 where
   pub end : ℕ
   pub gap : List ℕ

@@ -1,4 +1,4 @@
--- The part stays one behind which each `!` is put.
+-- The part stays one after which each `!` is put.
 use Rattle.std.proofs.Common.{List, length}
 use Rattle.omega_acc.specs.Symbols.{unary}
 use Rattle.omega_acc.specs.private.layout.label.Building.{HasIn}
