@@ -47,6 +47,7 @@ pub(crate) fn conj<'a, S: TokenSource<'a, HoaKind>>(
     ensures gives { GivesRow IsConj conj_row (S.left source.old) (S.left source.new) result }
     ensures finds { Finds IsConj conj_row (FirstIs EndsConj) (S.left source.old) (S.left source.new) result }
     ensures err { IfErr result IsSyntaxOrMemory }
+    ensures length { S.length source.new ≡ S.length source.old }
 {
     let first = take_int(source)?;
     let others = read_numbers::<Joined, S>(alloc, source)?;

@@ -1,6 +1,6 @@
 //! The expressions that a text of an automaton holds.
 
-ghost use Rattle.std.specs.Prelude.{IfErr};
+ghost use Rattle.std.specs.Prelude.{◌≡◌, IfErr};
 ghost use Rattle.omega_raw.specs.private.steps.Rows.{formula_row, expression_row};
 ghost use Rattle.omega_raw.specs.private.steps.Reading.{Anything, Finds, GivesRow, IsAny, IsSyntaxOrMemory};
 
@@ -16,6 +16,7 @@ pub(crate) fn label_expression<'a, S: TokenSource<'a, HoaKind>>(
     ensures gives { GivesRow IsAny expression_row (S.left source.old) (S.left source.new) result }
     ensures finds { Finds IsAny expression_row Anything (S.left source.old) (S.left source.new) result }
     ensures err { IfErr result IsSyntaxOrMemory }
+    ensures length { S.length source.new ≡ S.length source.old }
 {
     labels_are_one();
     read_raw_label(alloc, source)
@@ -29,6 +30,7 @@ pub(crate) fn acceptance_expression<'a, S: TokenSource<'a, HoaKind>>(
     ensures gives { GivesRow IsAny formula_row (S.left source.old) (S.left source.new) result }
     ensures finds { Finds IsAny formula_row Anything (S.left source.old) (S.left source.new) result }
     ensures err { IfErr result IsSyntaxOrMemory }
+    ensures length { S.length source.new ≡ S.length source.old }
 {
     formulas_are_one();
     read_raw_acc(alloc, source)

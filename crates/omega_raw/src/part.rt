@@ -38,7 +38,8 @@ pub(crate) trait Part<'a, S: TokenSource<'a, HoaKind>> {
     fn read(alloc: Global, source: &mut S) -> Result<Self::Value, Refusal>
         ensures gives { GivesRow valid written (S.left source.old) (S.left source.new) result }
         ensures finds { Finds valid written (FirstIs next) (S.left source.old) (S.left source.new) result }
-        ensures err { IfErr result IsSyntaxOrMemory };
+        ensures err { IfErr result IsSyntaxOrMemory }
+        ensures length { S.length source.new ≡ S.length source.old };
 
     /// It begins so.
     ghost begun: { (it : Self.Value) (others : List AutomatonSymbol) → valid it → FirstIs (λ kind. first kind ≡ true) (written it others) };
@@ -67,6 +68,7 @@ pub(crate) fn read_if<'a, P: Part<'a, S>, S: TokenSource<'a, HoaKind>>(
     ensures gives { GivesRow (λ it. IfSome it P.valid) (optional_row P.written) (S.left source.old) (S.left source.new) result }
     ensures finds { Finds (λ it. IfSome it P.valid) (optional_row P.written) (FirstIs (EndsList P.first P.next)) (S.left source.old) (S.left source.new) result }
     ensures err { IfErr result IsSyntaxOrMemory }
+    ensures length { S.length source.new ≡ S.length source.old }
 {
     if !is_next::<P, S>(source) {
         return Ok(None);
@@ -83,6 +85,7 @@ pub(crate) fn read_each<'a, P: Part<'a, S>, S: TokenSource<'a, HoaKind>>(
     ensures gives { GivesRow (AllByRecursion P.valid) (each P.written) (S.left source.old) (S.left source.new) result }
     ensures finds { Finds (AllByRecursion P.valid) (each P.written) (FirstIs (EndsList P.first P.next)) (S.left source.old) (S.left source.new) result }
     ensures err { IfErr result IsSyntaxOrMemory }
+    ensures length { S.length source.new ≡ S.length source.old }
 {
     let values = read_growing::<P, S>(alloc, source)?;
     Ok(shrunk(values))
@@ -96,6 +99,7 @@ pub(crate) fn read_growing<'a, P: Part<'a, S>, S: TokenSource<'a, HoaKind>>(
     ensures gives { GivesRow (AllByRecursion P.valid) (each P.written) (S.left source.old) (S.left source.new) result }
     ensures finds { Finds (AllByRecursion P.valid) (each P.written) (FirstIs (EndsList P.first P.next)) (S.left source.old) (S.left source.new) result }
     ensures err { IfErr result IsSyntaxOrMemory }
+    ensures length { S.length source.new ≡ S.length source.old }
 {
     let mut values = Vec::new(alloc);
     while is_next::<P, S>(source) {
@@ -123,6 +127,7 @@ pub(crate) fn read_numbers<'a, P: Part<'a, S, Value = u32>, S: TokenSource<'a, H
     ensures gives { GivesRow (AllByRecursion P.valid) (each P.written) (S.left source.old) (S.left source.new) result }
     ensures finds { Finds (AllByRecursion P.valid) (each P.written) (FirstIs (EndsList P.first P.next)) (S.left source.old) (S.left source.new) result }
     ensures err { IfErr result IsSyntaxOrMemory }
+    ensures length { S.length source.new ≡ S.length source.old }
 {
     let mut numbers = Numbers::new();
     while is_next::<P, S>(source) {
@@ -141,6 +146,7 @@ pub(crate) fn read_raw_edges<'a, P: Part<'a, S, Value = RawEdge>, S: TokenSource
     ensures gives { GivesRow (AllByRecursion P.valid) (each P.written) (S.left source.old) (S.left source.new) result }
     ensures finds { Finds (AllByRecursion P.valid) (each P.written) (FirstIs (EndsList P.first P.next)) (S.left source.old) (S.left source.new) result }
     ensures err { IfErr result IsSyntaxOrMemory }
+    ensures length { S.length source.new ≡ S.length source.old }
 {
     let mut edges = RawEdges::new(alloc);
     while is_next::<P, S>(source) {

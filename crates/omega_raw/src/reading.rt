@@ -1,6 +1,6 @@
 //! Automata read from tokens.
 
-ghost use Rattle.std.specs.Prelude.{IfErr, IfOk};
+ghost use Rattle.std.specs.Prelude.{◌≡◌, IfErr, IfOk};
 ghost use Rattle.omega_raw.specs.Grammar.{ReadsAutomaton, ReadsNoOther, ReadsNoAutomaton};
 ghost use Rattle.omega_acc.specs.Symbols.{IsUnread};
 
@@ -24,6 +24,7 @@ pub fn read_raw<'a, S: TokenSource<'a, HoaKind>>(
     ensures ok { IfOk result (λ raw. ReadsAutomaton (S.left source.old) raw (S.left source.new)) }
     ensures only { IfOk result (λ raw. ReadsNoOther (S.left source.old) raw (S.left source.new)) }
     ensures err { IfErr result (IsUnread (ReadsNoAutomaton (S.left source.old))) }
+    ensures length { S.length source.new ≡ S.length source.old }
 {
     take_header(source, b"HOA")?;
     let version = take_word(alloc, source)?;

@@ -21,6 +21,7 @@ pub(crate) fn take_if<'a, S: TokenSource<'a, HoaKind>>(
 ) -> Option<Token<'a, HoaKind>>
     ensures some { IfSome result (λ token. (S.left source.old ≡ lexeme_of token ∷ S.left source.new) × (token.kind ≡ kind)) }
     ensures none { IfNone result ((S.left source.new ≡ S.left source.old) × NextIsNot kind (S.left source.old)) }
+    ensures length { S.length source.new ≡ S.length source.old }
 {
     let token = source.look()?;
     if token.kind != kind {
@@ -36,6 +37,7 @@ pub(crate) fn take_kind<'a, S: TokenSource<'a, HoaKind>>(
 ) -> Result<Token<'a, HoaKind>, Refusal>
     ensures ok { IfOk result (λ token. (S.left source.old ≡ lexeme_of token ∷ S.left source.new) × (token.kind ≡ kind)) }
     ensures err { IfErr result (IsUnread (NextIsNot kind (S.left source.old))) }
+    ensures length { S.length source.new ≡ S.length source.old }
 {
     let at = source.place();
     match take_if(source, kind) {
@@ -78,6 +80,7 @@ pub(crate) fn take_sign<'a, S: TokenSource<'a, HoaKind>>(
     ensures gives { OnOk result ((others : List AutomatonSymbol) (rest : Tokens) → ReadsSymbols (S.left source.new) others rest → ReadsSymbols (S.left source.old) (sign kind ∷ others) rest) }
     ensures finds { (others : List AutomatonSymbol) (rest : Tokens) → ReadsSymbols (S.left source.old) (sign kind ∷ others) rest → FoundThere result (ReadsSymbols (S.left source.new) others rest) }
     ensures err { IfErr result IsSyntaxOrMemory }
+    ensures length { S.length source.new ≡ S.length source.old }
 {
     take_kind(source, kind)?;
     Ok(())
@@ -92,6 +95,7 @@ pub(crate) fn take_header<'a, S: TokenSource<'a, HoaKind>>(
     ensures gives { OnOk result ((others : List AutomatonSymbol) (rest : Tokens) → ReadsSymbols (S.left source.new) others rest → ReadsSymbols (S.left source.old) (header name.now ∷ others) rest) }
     ensures finds { (others : List AutomatonSymbol) (rest : Tokens) → ReadsSymbols (S.left source.old) (header name.now ∷ others) rest → FoundThere result (ReadsSymbols (S.left source.new) others rest) }
     ensures err { IfErr result IsSyntaxOrMemory }
+    ensures length { S.length source.new ≡ S.length source.old }
 {
     let at = source.place();
     let token = take_kind(source, HoaKind::HeaderName)?;
@@ -106,6 +110,7 @@ pub(crate) fn take_int<'a, S: TokenSource<'a, HoaKind>>(source: &mut S) -> Resul
     ensures gives { GivesRow IsAny int_row (S.left source.old) (S.left source.new) result }
     ensures finds { Finds IsAny int_row Anything (S.left source.old) (S.left source.new) result }
     ensures err { IfErr result IsSyntaxOrMemory }
+    ensures length { S.length source.new ≡ S.length source.old }
 {
     Ok(take_kind(source, HoaKind::Int)?.value)
 }
@@ -118,6 +123,7 @@ pub(crate) fn take_word<'a, S: TokenSource<'a, HoaKind>>(
     ensures gives { GivesRow IsAny word_row (S.left source.old) (S.left source.new) result }
     ensures finds { Finds IsAny word_row Anything (S.left source.old) (S.left source.new) result }
     ensures err { IfErr result IsSyntaxOrMemory }
+    ensures length { S.length source.new ≡ S.length source.old }
 {
     let token = take_kind(source, HoaKind::Identifier)?;
     copied(alloc, token.text)
@@ -131,6 +137,7 @@ pub(crate) fn take_string<'a, S: TokenSource<'a, HoaKind>>(
     ensures gives { GivesRow IsAny string_row (S.left source.old) (S.left source.new) result }
     ensures finds { Finds IsAny string_row Anything (S.left source.old) (S.left source.new) result }
     ensures err { IfErr result IsSyntaxOrMemory }
+    ensures length { S.length source.new ≡ S.length source.old }
 {
     let token = take_kind(source, HoaKind::String)?;
     string_of(alloc, token.text)

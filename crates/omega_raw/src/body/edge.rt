@@ -1,4 +1,4 @@
-ghost use Rattle.std.specs.Prelude.{IfErr};
+ghost use Rattle.std.specs.Prelude.{◌≡◌, IfErr};
 ghost use Rattle.std.specs.List.{AllByRecursion};
 ghost use Rattle.omega_raw.specs.private.steps.First.{FirstIs};
 ghost use Rattle.omega_raw.specs.private.steps.Reading.{EndsList, Finds, GivesRow, IsSyntaxOrMemory};
@@ -59,6 +59,7 @@ pub(crate) fn read_edges<'a, S: TokenSource<'a, HoaKind>>(
     ensures gives { GivesRow (AllByRecursion IsRawEdge) (each edge_row) (S.left source.old) (S.left source.new) result }
     ensures finds { Finds (AllByRecursion IsRawEdge) (each edge_row) (FirstIs (EndsList is_edge EndsEdge)) (S.left source.old) (S.left source.new) result }
     ensures err { IfErr result IsSyntaxOrMemory }
+    ensures length { S.length source.new ≡ S.length source.old }
 {
     let edges = read_raw_edges::<Edge, S>(alloc, source)?;
     let edges = edges.exact(alloc)?;

@@ -1,4 +1,4 @@
-ghost use Rattle.std.specs.Prelude.{IfErr, IfSome, refl};
+ghost use Rattle.std.specs.Prelude.{◌≡◌, IfErr, IfSome, refl};
 ghost use Rattle.omega_raw.specs.Grammar.{optional_row, sig_row};
 ghost use Rattle.omega_raw.specs.private.steps.First.{FirstIs};
 ghost use Rattle.omega_raw.specs.private.steps.Parts.{is_brace};
@@ -50,6 +50,7 @@ pub(crate) fn read_marks<'a, S: TokenSource<'a, HoaKind>>(
     ensures gives { GivesRow (λ it. IfSome it IsAny) (optional_row sig_row) (S.left source.old) (S.left source.new) result }
     ensures finds { Finds (λ it. IfSome it IsAny) (optional_row sig_row) (FirstIs (EndsList is_brace IsKind)) (S.left source.old) (S.left source.new) result }
     ensures err { IfErr result IsSyntaxOrMemory }
+    ensures length { S.length source.new ≡ S.length source.old }
 {
     let sets = read_if::<Sig, S>(alloc, source)?;
     Ok(match sets {

@@ -24,6 +24,7 @@ pub(crate) fn content<'a, S: TokenSource<'a, HoaKind>>(
     ensures gives { GivesNamed name.now (S.left source.old) (S.left source.new) result }
     ensures finds { FindsNamed name.now (S.left source.old) (S.left source.new) result }
     ensures err { IfErr result IsSyntaxOrMemory }
+    ensures length { S.length source.new ≡ S.length source.old }
 {
     match HeaderKind::of_name(name) {
         HeaderKind::Format | HeaderKind::State => Err(Refusal::Text(TextFault::Syntax { at })),
@@ -50,6 +51,7 @@ fn unknown<'a, S: TokenSource<'a, HoaKind>>(
     ensures gives { GivesUnknown name.now (S.left source.old) (S.left source.new) result }
     ensures finds { FindsUnknown name.now (S.left source.old) (S.left source.new) result }
     ensures err { IfErr result IsSyntaxOrMemory }
+    ensures length { S.length source.new ≡ S.length source.old }
 {
     let name = copied(alloc, name)?;
     let values = read_each::<UnknownValue, S>(alloc, source)?;

@@ -1,6 +1,6 @@
 //! What stands after the header of an item.
 
-ghost use Rattle.std.specs.Prelude.{IfErr};
+ghost use Rattle.std.specs.Prelude.{◌≡◌, IfErr};
 ghost use Rattle.omega_raw.specs.private.steps.Contents.{FindsContent, GivesContent};
 ghost use Rattle.omega_raw.specs.private.steps.Reading.{IsSyntaxOrMemory};
 ghost use Rattle.omega_raw.specs.declared.header.name.HeaderKind.TheVariants as header;
@@ -22,6 +22,7 @@ pub(crate) fn state_count<'a, S: TokenSource<'a, HoaKind>>(
     ensures gives { GivesContent header.States (S.left source.old) (S.left source.new) result }
     ensures finds { FindsContent header.States (S.left source.old) (S.left source.new) result }
     ensures err { IfErr result IsSyntaxOrMemory }
+    ensures length { S.length source.new ≡ S.length source.old }
 {
     Ok(RawItem::States(take_int(source)?))
 }
@@ -34,6 +35,7 @@ pub(crate) fn start<'a, S: TokenSource<'a, HoaKind>>(
     ensures gives { GivesContent header.Start (S.left source.old) (S.left source.new) result }
     ensures finds { FindsContent header.Start (S.left source.old) (S.left source.new) result }
     ensures err { IfErr result IsSyntaxOrMemory }
+    ensures length { S.length source.new ≡ S.length source.old }
 {
     let states = conj(alloc, source)?;
     Ok(RawItem::Start(states))
@@ -47,6 +49,7 @@ pub(crate) fn propositions<'a, S: TokenSource<'a, HoaKind>>(
     ensures gives { GivesContent header.Propositions (S.left source.old) (S.left source.new) result }
     ensures finds { FindsContent header.Propositions (S.left source.old) (S.left source.new) result }
     ensures err { IfErr result IsSyntaxOrMemory }
+    ensures length { S.length source.new ≡ S.length source.old }
 {
     let count = take_int(source)?;
     let names = read_each::<Quoted, S>(alloc, source)?;
@@ -61,6 +64,7 @@ pub(crate) fn alias<'a, S: TokenSource<'a, HoaKind>>(
     ensures gives { GivesContent header.Alias (S.left source.old) (S.left source.new) result }
     ensures finds { FindsContent header.Alias (S.left source.old) (S.left source.new) result }
     ensures err { IfErr result IsSyntaxOrMemory }
+    ensures length { S.length source.new ≡ S.length source.old }
 {
     let token = take_kind(source, HoaKind::AliasName)?;
     let name = copied(alloc, token.text)?;
@@ -76,6 +80,7 @@ pub(crate) fn acceptance<'a, S: TokenSource<'a, HoaKind>>(
     ensures gives { GivesContent header.Acceptance (S.left source.old) (S.left source.new) result }
     ensures finds { FindsContent header.Acceptance (S.left source.old) (S.left source.new) result }
     ensures err { IfErr result IsSyntaxOrMemory }
+    ensures length { S.length source.new ≡ S.length source.old }
 {
     let count = take_int(source)?;
     let formula = acceptance_expression(alloc, source)?;
@@ -90,6 +95,7 @@ pub(crate) fn acc_name<'a, S: TokenSource<'a, HoaKind>>(
     ensures gives { GivesContent header.AccName (S.left source.old) (S.left source.new) result }
     ensures finds { FindsContent header.AccName (S.left source.old) (S.left source.new) result }
     ensures err { IfErr result IsSyntaxOrMemory }
+    ensures length { S.length source.new ≡ S.length source.old }
 {
     let name = take_word(alloc, source)?;
     let parameters = read_each::<NameParameter, S>(alloc, source)?;
@@ -104,6 +110,7 @@ pub(crate) fn tool<'a, S: TokenSource<'a, HoaKind>>(
     ensures gives { GivesContent header.Tool (S.left source.old) (S.left source.new) result }
     ensures finds { FindsContent header.Tool (S.left source.old) (S.left source.new) result }
     ensures err { IfErr result IsSyntaxOrMemory }
+    ensures length { S.length source.new ≡ S.length source.old }
 {
     let first = take_string(alloc, source)?;
     let second = read_if::<Quoted, S>(alloc, source)?;
@@ -118,6 +125,7 @@ pub(crate) fn title<'a, S: TokenSource<'a, HoaKind>>(
     ensures gives { GivesContent header.Name (S.left source.old) (S.left source.new) result }
     ensures finds { FindsContent header.Name (S.left source.old) (S.left source.new) result }
     ensures err { IfErr result IsSyntaxOrMemory }
+    ensures length { S.length source.new ≡ S.length source.old }
 {
     Ok(RawItem::Name(take_string(alloc, source)?))
 }
@@ -130,6 +138,7 @@ pub(crate) fn properties<'a, S: TokenSource<'a, HoaKind>>(
     ensures gives { GivesContent header.Properties (S.left source.old) (S.left source.new) result }
     ensures finds { FindsContent header.Properties (S.left source.old) (S.left source.new) result }
     ensures err { IfErr result IsSyntaxOrMemory }
+    ensures length { S.length source.new ≡ S.length source.old }
 {
     let words = read_each::<Word, S>(alloc, source)?;
     Ok(RawItem::Properties(words))
