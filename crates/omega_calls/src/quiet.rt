@@ -1,8 +1,11 @@
 //! Calls that ask for no memory, after those that make what they are made on.
 use crate::lists::{put, put_all, put_answer};
-use omega_acc::{Aliases, Label, acceptance_kind, expand, parity_of, read_label, satisfiable};
-use omega_automaton::Automaton;
-use omega_game::{Game, Player, Refusal, bound};
+use omega_acc::{
+    Aliases, Order, Parity, ParityKind, acceptance_kind, expand, parity_of, priority, read_label,
+    satisfiable,
+};
+use omega_automaton::{Automaton, State};
+use omega_game::{Game, Player, Refusal, Seq, Strategy, bound};
 use omega_hoa::{Stream, read_one};
 use omega_io::{Exit, exit_code};
 use omega_measure::fits;
@@ -30,20 +33,24 @@ pub(crate) fn called(
 }
 
 fn texts(alloc: Global, text: &[u8], runs: bool) -> Result<Vec<u8>, Refusal> {
+    let tokens = hoa_tokens(alloc, text)?;
     let mut out = Vec::with_capacity(alloc, 4096)?;
     if runs {
         put_tokens(alloc, text, &mut out)?;
+        put_places(&mut Cursor::new(tokens.as_slice(), text.len()), &mut out)?;
     }
     Ok(out)
 }
 
-/// The tokens of a text of the Hanoi format, one by one and by a cursor, and its first one as a game text.
+/// The first token of a text of the Hanoi format, all of them by a cursor over its bytes, and its first one as a game
+/// text.
 fn put_tokens(alloc: Global, text: &[u8], out: &mut Vec<u8>) -> Result<(), Refusal> {
     if let Ok(Some(token)) = next_hoa_token(text, 0) {
         put(out, token.span.end as u128)?;
     }
     if let Err(fault) = next_pg_token(text, 0) {
         put(out, u128::from(Refusal::Text(fault).number()))?;
+        out.extend_from_slice(Refusal::Text(fault).name().as_bytes())?;
     }
     put_answer(out, next_pg_number(text, 0).is_some())?;
     if check_tokens::<HoaKind>(text).is_ok() {
@@ -76,9 +83,12 @@ fn put_places<'a, S: TokenSource<'a, HoaKind>>(
 fn game(alloc: Global, text: &[u8], runs: bool) -> Result<Vec<u8>, Refusal> {
     match read_game(alloc, text) {
         Ok(game) => {
+            let strategy = first_moves(alloc, &game)?;
             let mut out = Vec::with_capacity(alloc, 4096)?;
             if runs {
                 put_game(&game, &mut out)?;
+                put_answer(&mut out, strategy.fits(game.arena(), Player::Zero))?;
+                put_answer(&mut out, strategy.fits(game.arena(), Player::One))?;
             }
             Ok(out)
         }
@@ -86,11 +96,23 @@ fn game(alloc: Global, text: &[u8], runs: bool) -> Result<Vec<u8>, Refusal> {
     }
 }
 
+/// At each node of player 0 the first successor.
+fn first_moves(alloc: Global, game: &Game) -> Result<Strategy, Refusal> {
+    let mut choices = Vec::new(alloc);
+    for place in 0..game.len() as u32 {
+        let is_own = game.owner(place).is_same(Player::Zero);
+        let first = game.successors(place).first().copied();
+        choices.push(if is_own { first } else { None })?;
+    }
+    let choice = Seq::from_vec(choices);
+    Ok(Strategy { choice })
+}
+
 fn put_game(game: &Game, out: &mut Vec<u8>) -> Result<(), Refusal> {
     for place in 0..game.len() as u32 {
         put(out, u128::from(game.id(place)))?;
         put(out, u128::from(game.priority(place)))?;
-        put(out, u128::from(game.owner(place).number()))?;
+        put_player(game.owner(place), game.priority(place), out)?;
         put_answer(out, game.name(place).is_some())?;
         put_all(out, game.successors(place))?;
         put_all(out, game.predecessors(place))?;
@@ -100,6 +122,13 @@ fn put_game(game: &Game, out: &mut Vec<u8>) -> Result<(), Refusal> {
     put_answer(out, game.place_of(0).is_some())?;
     put_answer(out, fits(game.arena(), Player::Zero))?;
     put(out, bound(game.arena(), Player::Zero).unwrap_or(0))
+}
+
+/// A player, and whether a priority that occurs for ever is lost by the opponent.
+fn put_player(player: Player, priority: u32, out: &mut Vec<u8>) -> Result<(), Refusal> {
+    put(out, u128::from(player.number()))?;
+    put_answer(out, player.opponent().loses(priority))?;
+    put_answer(out, Player::of_number(player.number()).is_some())
 }
 
 fn label(alloc: Global, text: &[u8], runs: bool) -> Result<Vec<u8>, Refusal> {
@@ -131,7 +160,35 @@ fn put_automaton(automaton: &Automaton, out: &mut Vec<u8>) -> Result<(), Refusal
     put(out, u128::from(automaton.edge_count()))?;
     put(out, automaton.starts().len() as u128)?;
     put(out, automaton.propositions().len() as u128)?;
-    put(out, automaton.defined().len() as u128)?;
+    put(out, automaton.properties().len() as u128)?;
+    put(out, automaton.unknown().len() as u128)?;
+    put_answer(out, automaton.tool().is_some())?;
+    put_answer(out, automaton.name().is_some())?;
+    for state in automaton.defined() {
+        put_edges(state, out)?;
+    }
+    let kind = ParityKind {
+        order: Order::Max,
+        parity: Parity::Even,
+        count: 2,
+    };
+    put(out, u128::from(priority(kind, &[0, 1])))?;
+    put_kind(automaton, out)
+}
+
+/// The edges of a state: whether they have labels, where they lead, and their marks.
+fn put_edges(state: &State, out: &mut Vec<u8>) -> Result<(), Refusal> {
+    for at in 0..state.edges.len() {
+        let edge = state.edges.edge(at);
+        put_answer(out, edge.label().is_some())?;
+        put_all(out, edge.targets())?;
+        put_all(out, edge.marks())?;
+    }
+    Ok(())
+}
+
+/// What the acceptance of an automaton is.
+fn put_kind(automaton: &Automaton, out: &mut Vec<u8>) -> Result<(), Refusal> {
     let Some(name) = automaton.acc_name() else {
         return Ok(());
     };
