@@ -1,10 +1,10 @@
 //! Calls that ask for no memory, after those that make what they are made on.
 use crate::lists::{put, put_all, put_answer};
 use omega_acc::{
-    Aliases, Order, Parity, ParityKind, acceptance_kind, expand, parity_of, priority, read_label,
-    satisfiable,
+    Aliases, Label, Order, Parity, ParityKind, acceptance_kind, expand, parity_of, priority,
+    read_label, satisfiable,
 };
-use omega_automaton::{Automaton, State};
+use omega_automaton::{Automaton, EdgeRef, State};
 use omega_game::{Game, Player, Refusal, Seq, Strategy, bound};
 use omega_hoa::{Stream, read_one};
 use omega_io::{Exit, exit_code};
@@ -82,33 +82,21 @@ fn put_places<'a, S: TokenSource<'a, HoaKind>>(
 
 fn game(alloc: Global, text: &[u8], runs: bool) -> Result<Vec<u8>, Refusal> {
     match read_game(alloc, text) {
-        Ok(game) => {
-            let strategy = first_moves(alloc, &game)?;
-            let mut out = Vec::with_capacity(alloc, 4096)?;
-            if runs {
-                put_game(&game, &mut out)?;
-                put_answer(&mut out, strategy.fits(game.arena(), Player::Zero))?;
-                put_answer(&mut out, strategy.fits(game.arena(), Player::One))?;
-            }
-            Ok(out)
-        }
+        Ok(game) => of_game(alloc, &game, runs),
         Err(refusal) => Err(refusal),
     }
 }
 
-/// At each node of player 0 the first successor.
-fn first_moves(alloc: Global, game: &Game) -> Result<Strategy, Refusal> {
-    let mut choices = Vec::new(alloc);
-    for place in 0..game.len() as u32 {
-        let is_own = game.owner(place).is_same(Player::Zero);
-        let first = game.successors(place).first().copied();
-        choices.push(if is_own { first } else { None })?;
+fn of_game(alloc: Global, game: &Game, runs: bool) -> Result<Vec<u8>, Refusal> {
+    let choice = Seq::from_vec(vec![in alloc; Some(0); game.len()]?);
+    let mut out = Vec::with_capacity(alloc, 4096)?;
+    if runs {
+        put_game(game, &Strategy { choice }, &mut out)?;
     }
-    let choice = Seq::from_vec(choices);
-    Ok(Strategy { choice })
+    Ok(out)
 }
 
-fn put_game(game: &Game, out: &mut Vec<u8>) -> Result<(), Refusal> {
+fn put_game(game: &Game, strategy: &Strategy, out: &mut Vec<u8>) -> Result<(), Refusal> {
     for place in 0..game.len() as u32 {
         put(out, u128::from(game.id(place)))?;
         put(out, u128::from(game.priority(place)))?;
@@ -120,6 +108,7 @@ fn put_game(game: &Game, out: &mut Vec<u8>) -> Result<(), Refusal> {
     put(out, game.edges() as u128)?;
     put(out, game.priority_counts().len() as u128)?;
     put_answer(out, game.place_of(0).is_some())?;
+    put_answer(out, strategy.fits(game.arena(), Player::Zero))?;
     put_answer(out, fits(game.arena(), Player::Zero))?;
     put(out, bound(game.arena(), Player::Zero).unwrap_or(0))
 }
@@ -134,25 +123,33 @@ fn put_player(player: Player, priority: u32, out: &mut Vec<u8>) -> Result<(), Re
 fn label(alloc: Global, text: &[u8], runs: bool) -> Result<Vec<u8>, Refusal> {
     let tokens = hoa_tokens(alloc, text)?;
     let raw = read_label(alloc, &mut Cursor::new(tokens.as_slice(), text.len()))?;
-    let label = expand(alloc, &raw, &Aliases::new(alloc))?;
+    match expand(alloc, &raw, &Aliases::new(alloc)) {
+        Ok(label) => of_label(alloc, &label, runs),
+        Err(refusal) => Err(refusal),
+    }
+}
+
+fn of_label(alloc: Global, label: &Label, runs: bool) -> Result<Vec<u8>, Refusal> {
     let mut out = Vec::with_capacity(alloc, 4096)?;
     if runs {
-        put_answer(&mut out, satisfiable(&label)?)?;
+        put_answer(&mut out, satisfiable(label)?)?;
     }
     Ok(out)
 }
 
 fn automaton(alloc: Global, text: &[u8], runs: bool) -> Result<Vec<u8>, Refusal> {
     match read_one(alloc, text) {
-        Ok(automaton) => {
-            let mut out = Vec::with_capacity(alloc, 4096)?;
-            if runs {
-                put_automaton(&automaton, &mut out)?;
-            }
-            Ok(out)
-        }
+        Ok(automaton) => of_automaton(alloc, &automaton, runs),
         Err(refusal) => Err(refusal),
     }
+}
+
+fn of_automaton(alloc: Global, automaton: &Automaton, runs: bool) -> Result<Vec<u8>, Refusal> {
+    let mut out = Vec::with_capacity(alloc, 4096)?;
+    if runs {
+        put_automaton(automaton, &mut out)?;
+    }
+    Ok(out)
 }
 
 fn put_automaton(automaton: &Automaton, out: &mut Vec<u8>) -> Result<(), Refusal> {
@@ -176,15 +173,18 @@ fn put_automaton(automaton: &Automaton, out: &mut Vec<u8>) -> Result<(), Refusal
     put_kind(automaton, out)
 }
 
-/// The edges of a state: whether they have labels, where they lead, and their marks.
 fn put_edges(state: &State, out: &mut Vec<u8>) -> Result<(), Refusal> {
     for at in 0..state.edges.len() {
-        let edge = state.edges.edge(at);
-        put_answer(out, edge.label().is_some())?;
-        put_all(out, edge.targets())?;
-        put_all(out, edge.marks())?;
+        put_edge(&state.edges.edge(at), out)?;
     }
     Ok(())
+}
+
+/// Whether an edge has a label, where it leads, and its marks.
+fn put_edge(edge: &EdgeRef<'_>, out: &mut Vec<u8>) -> Result<(), Refusal> {
+    put_answer(out, edge.label().is_some())?;
+    put_all(out, edge.targets())?;
+    put_all(out, edge.marks())
 }
 
 /// What the acceptance of an automaton is.
