@@ -95,16 +95,32 @@ fn rewritten(alloc: Global, game: &Game, text: &str) -> Result<Vec<u8>, Refusal>
 
 /// The solution of `GAME` that a text stands for.
 fn solution_of_game(alloc: Global, text: &str) -> Result<Solution, Refusal> {
-    let game = read_game(alloc, GAME.as_bytes())?;
-    read_solution(alloc, game.arena(), text.as_bytes())
+    match read_game(alloc, GAME.as_bytes()) {
+        Ok(game) => read_solution(alloc, game.arena(), text.as_bytes()),
+        Err(refusal) => Err(refusal),
+    }
 }
 
 /// The places that the solution of `GAME` for which a text stands gives to a player.
 fn places_given(alloc: Global, text: &str, player: Player) -> Result<Vec<u32>, Refusal> {
-    let game = read_game(alloc, GAME.as_bytes())?;
+    match read_game(alloc, GAME.as_bytes()) {
+        Ok(game) => places_given_in(alloc, &game, text, player),
+        Err(refusal) => Err(refusal),
+    }
+}
+
+/// The places that the solution of a game for which a text stands gives to a player.
+fn places_given_in(
+    alloc: Global,
+    game: &Game,
+    text: &str,
+    player: Player,
+) -> Result<Vec<u32>, Refusal> {
     game.keeps_limits();
-    let solution = read_solution(alloc, game.arena(), text.as_bytes())?;
-    Ok(solution.places_given(alloc, player)?)
+    match read_solution(alloc, game.arena(), text.as_bytes()) {
+        Ok(solution) => Ok(solution.places_given(alloc, player)?),
+        Err(refusal) => Err(refusal),
+    }
 }
 
 /// Whether a text of a solution of `GAME` gives these places to a player.
