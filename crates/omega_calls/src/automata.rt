@@ -54,11 +54,15 @@ fn written(alloc: Global, automaton: Result<Automaton, Refusal>) -> Result<Vec<u
 }
 
 fn appended(alloc: Global, text: &[u8]) -> Result<Vec<u8>, Refusal> {
-    let mut out = Vec::new(alloc);
     match read_one(alloc, text) {
-        Ok(automaton) => write_canonical(&automaton, &mut out)?,
-        Err(refusal) => return Err(refusal),
+        Ok(automaton) => appended_of(alloc, &automaton),
+        Err(refusal) => Err(refusal),
     }
+}
+
+fn appended_of(alloc: Global, automaton: &Automaton) -> Result<Vec<u8>, Refusal> {
+    let mut out = Vec::new(alloc);
+    write_canonical(automaton, &mut out)?;
     Ok(out)
 }
 
