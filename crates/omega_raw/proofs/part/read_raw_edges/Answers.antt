@@ -8,10 +8,11 @@ use Rattle.omega_raw.proofs.part.read_raw_edges.Goals as goal
 
 pub loop-alloc-init : goal.loop-alloc-init
 loop-alloc-init g c = record {
-    read =
-    subst (λ all. IsReadTo g.P.Part.valid g.P.Part.written (EndsList g.P.Part.first g.P.Part.next) (g.S.TokenSource.left c.args.source.now) all (g.S.TokenSource.left c.args.source.now)) (sym c.new-edges.ensures)
-    (read_none g.P.Part.valid g.P.Part.written (EndsList g.P.Part.first g.P.Part.next) (g.S.TokenSource.left c.args.source.now));
-    text = refl }
+  read =
+      subst (λ all. IsReadTo g.P.Part.valid g.P.Part.written (EndsList g.P.Part.first g.P.Part.next) (g.S.TokenSource.left c.args.source.now) all (g.S.TokenSource.left c.args.source.now)) (sym c.new-edges.ensures)
+      (read_none g.P.Part.valid g.P.Part.written (EndsList g.P.Part.first g.P.Part.next) (g.S.TokenSource.left c.args.source.now));
+  text = refl;
+}
 
 pub returns-in_err-edge-clause-finds : goal.returns-in_err-edge-clause-finds
 returns-in_err-edge-clause-finds g c it others rest are last spells =
@@ -30,11 +31,12 @@ pub loop-alloc-preserved : goal.loop-alloc-preserved
 loop-alloc-preserved g c =
     let part : IsPart g.P.Part.valid g.P.Part.written g.P.Part.first g.P.Part.next = let met = g.met.P.Part c.lifetimes (search rules) in record { begun = met.begun; follows = met.follows } in
     record {
-    read =
-    subst (λ all. IsReadTo g.P.Part.valid g.P.Part.written (EndsList g.P.Part.first g.P.Part.next) (g.S.TokenSource.left c.args.source.now) all (g.S.TokenSource.left c.read.new.source)) (sym c.in_ok-push.ensures.ok)
-    (read_more g.P.Part.valid g.P.Part.written g.P.Part.first g.P.Part.next part (g.S.TokenSource.left c.args.source.now) (g.S.TokenSource.left c.loop-alloc.source) (g.S.TokenSource.left c.read.new.source) c.loop-alloc.edges c.in_ok-edge.edge c.loop-alloc.invariant.read c.loop-alloc-test.ensures
-    c.in_ok-edge.ensures.gives c.in_ok-edge.ensures.finds);
-    text = c.in_ok-edge.ensures.length ∙ c.loop-alloc.invariant.text }
+      read =
+          subst (λ all. IsReadTo g.P.Part.valid g.P.Part.written (EndsList g.P.Part.first g.P.Part.next) (g.S.TokenSource.left c.args.source.now) all (g.S.TokenSource.left c.read.new.source)) (sym c.in_ok-push.ensures.ok)
+          (read_more g.P.Part.valid g.P.Part.written g.P.Part.first g.P.Part.next part (g.S.TokenSource.left c.args.source.now) (g.S.TokenSource.left c.loop-alloc.source) (g.S.TokenSource.left c.read.new.source) c.loop-alloc.edges c.in_ok-edge.edge c.loop-alloc.invariant.read c.loop-alloc-test.ensures
+          c.in_ok-edge.ensures.gives c.in_ok-edge.ensures.finds);
+      text = c.in_ok-edge.ensures.length ∙ c.loop-alloc.invariant.text;
+    }
 
 pub returns-clause-gives : goal.returns-clause-gives
 returns-clause-gives g c = c.loop-alloc.invariant.read.given
