@@ -4,7 +4,7 @@
     JOBS=2 python3 make/build.py     two at most
 
 Each crate is proved from nothing, over the statements of those below it. These are kept, in
-`crates/omega_tool/out/rlib`, so a build that was broken off goes on with the crates that are left. A crate is proved
+`crates/omega_tool/out/rlib`, so a build that was interrupted goes on with the crates that are left. A crate is proved
 again where its files changed, or the statements of a crate below it.
 """
 
@@ -15,12 +15,12 @@ import subprocess
 import sys
 import time
 
-from crates import ROOT, Crate, NotBuilt, crates_for, is_newer_than
+from crates import ROOT, Crate, NotBuilt, crates_for, is_stale
 from kept import LIBRARIES, OUT, PROGRAM, TOOL, beside, inputs_of, keep, record_of, still_given
 from kit import Kit
 from progress import Progress, chains, say
 
-FAILED, BROKEN_OFF = 70, 130
+FAILED, INTERRUPTED = 70, 130
 # What a proof takes at most, in bytes. The most that was seen: 2.3 billion, for `omega_text`.
 NEED = 2_500_000_000
 # More jobs seldom make a proof faster.
@@ -59,7 +59,7 @@ def lanes_here() -> int:
 class Proof:
     """A crate that is being proved."""
 
-    def __init__(self, crate: Crate, inputs: str, jobs: int, process: subprocess.Popen) -> None:
+    def __init__(self, crate: Crate, inputs: str, jobs: int, process: subprocess.Popen[bytes]) -> None:
         self.crate, self.inputs, self.jobs, self.process = crate, inputs, jobs, process
         self.begun = time.monotonic()
 
@@ -98,8 +98,8 @@ class Build:
         return sorted(found, key=lambda it: -self.chains[it.name])
 
     def start_some(self) -> None:
-        """Starts what there are processors for, and shares these out by what each proof is foreseen to take: a short one
-        that ran beside a long one would leave its processor idle for the rest of it."""
+        """Starts what there are processors for, and shares these out by what each proof is foreseen to take: a short
+        one that ran beside a long one would leave its processor idle for the rest of it."""
         ready = self.ready()
         for at, crate in enumerate(ready):
             idle = self.lanes - sum(it.jobs for it in self.running)
@@ -130,8 +130,10 @@ class Build:
             say(f"the proof of {name} was killed, most likely for want of memory; going on with one at a time")
         elif status == -signal.SIGKILL:
             self.fail(name, f"{said}omega: the proof was killed, most likely for want of memory\n")
-        elif status or not self.kit.says_proved(said):
-            self.fail(name, said if status else f"{said}omega: this does not end with the line of a whole proof\n")
+        elif status:
+            self.fail(name, said)
+        elif fault := self.kit.proof_fault(said):
+            self.fail(name, f"{said}omega: {fault}\n")
         elif proof.inputs == self.inputs(proof.crate) and (name != TOOL or self.link()):
             self.progress.add(name, proof.took())
             self.gave[name] = keep(name, proof.inputs, proof.took())
@@ -155,7 +157,7 @@ class Build:
         self.has_failed = True
         self.progress.clear()
         sys.stderr.write(said)
-        say(f"{name} is not proved and built")
+        say(self.kit.explained(f"{name} is not proved and built"))
         others = ", ".join(it.crate.name for it in self.running if it.process.poll() is None)
         if others:
             say(f"waiting for what is being proved, which is kept: {others}")
@@ -201,7 +203,7 @@ def built() -> bool:
     """Builds the program where that is needed. Whether it is there."""
     held = lock()
     # It may be built by now.
-    if not is_newer_than(PROGRAM):
+    if not is_stale(PROGRAM):
         return True
     kit, crates, lanes = Kit.found(), crates_for(TOOL), lanes_here()
     os.makedirs(LIBRARIES, exist_ok=True)
@@ -211,6 +213,7 @@ def built() -> bool:
     build = Build(kit, crates, lanes, held)
     is_work = bool(build.ready())
     if is_work:
+        kit.tell()
         say(f"proving and building the program, up to {lanes} crates at once; this takes minutes, and is kept")
     if not build.run():
         return False
@@ -221,21 +224,21 @@ def built() -> bool:
     return True
 
 
-def break_off(*_: object) -> None:
+def interrupt(*_: object) -> None:
     raise KeyboardInterrupt
 
 
 def main() -> int:
     for it in (signal.SIGTERM, signal.SIGHUP):
-        signal.signal(it, break_off)
+        signal.signal(it, interrupt)
     try:
         return 0 if built() else FAILED
     except (NotBuilt, OSError) as why:
         say(str(why))
         return FAILED
     except KeyboardInterrupt:
-        say("broken off; the next start goes on here")
-        return BROKEN_OFF
+        say("interrupted; run it again to resume")
+        return INTERRUPTED
 
 
 if __name__ == "__main__":

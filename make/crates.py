@@ -2,6 +2,7 @@
 
 import hashlib
 import os
+import subprocess
 from dataclasses import dataclass
 
 ROOT = os.path.dirname(os.path.dirname(os.path.abspath(__file__)))
@@ -84,18 +85,6 @@ def crates_for(program: str) -> dict[str, Crate]:
     return found
 
 
-def is_newer_than(made: str) -> bool:
-    """Whether a source is newer than what was made, or that is not there. A folder is newer once a file of it went."""
-    try:
-        since = os.stat(made).st_mtime_ns
-    except OSError:
-        return True
-    if os.stat(LIST).st_mtime_ns > since:
-        return True
-    crates = os.path.join(ROOT, "crates")
-    for name in os.listdir(crates):
-        for part in PARTS:
-            for at, _, names in os.walk(os.path.join(crates, name, part)):
-                if any(os.stat(it).st_mtime_ns > since for it in [at, *(os.path.join(at, name) for name in names)]):
-                    return True
-    return False
+def is_stale(made: str) -> bool:
+    """Whether what was made is not there, or a source is newer, as `./omega` asks it too."""
+    return subprocess.run(["sh", os.path.join(ROOT, "make", "stale.sh"), made], check=False).returncode == 0

@@ -5,6 +5,7 @@ import hashlib
 import json
 import os
 import shutil
+from typing import TypedDict
 
 from crates import ROOT, Crate
 
@@ -13,6 +14,10 @@ OUT = os.path.join(ROOT, "crates", TOOL, "out")
 PROGRAM = os.path.join(OUT, TOOL)
 # `rt check`, `rt run` and `rt ci` leave this folder of a program as it is, and refuse libraries in any other.
 LIBRARIES = os.path.join(OUT, "rlib")
+
+
+# What is written of a crate's last proof: what it was made from, what it gave, and how many seconds it took.
+Record = TypedDict("Record", {"from": str, "gave": str, "seconds": float}, total=False)
 
 
 def target(name: str) -> str:
@@ -25,11 +30,12 @@ def beside(name: str, ending: str) -> str:
     return os.path.join(LIBRARIES, f"{name}.{ending}")
 
 
-def record_of(name: str) -> dict:
-    """What was written of the crate's last proof: what it was made from, what it gave, and how many seconds it took."""
+def record_of(name: str) -> Record:
+    """What was written of the crate's last proof, if anything."""
     try:
         with open(beside(name, "made"), encoding="ascii") as file:
-            return json.load(file)
+            record: Record = json.load(file)
+            return record
     except (OSError, ValueError):
         return {}
 

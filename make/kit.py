@@ -1,4 +1,15 @@
-"""The toolchain: where it is, whether it is the one that the README names, how it is called, and what it must say."""
+"""The toolchain: where it is, in which logic it proves, how it is called, and what it must say.
+
+What is used of it, and its help does not say:
+
+- `rt version` prints one line, `KIT logic SUM`. `rt doc` prints the path of a page in the toolchain's folder.
+- In that folder stand `bin/rattle` and `bin/rattle-link`; `rlibs/NAME.rlib`, the toolchain's libraries; `logic_built`,
+  the logic as it is loaded, and `rattle/logic/antt-project.json`, its project; `toolchain`, with clang and the linker;
+  and the C code of the standard library, `c/libos_c.a` for programs and `c/liblibc_c.a`, which allocates.
+- The last line of `rattle build` is `logic=proved WORD=VALUE.. native=nat,char,string logic-built=trusted
+  libraries-built=trusted statements=trusted`, in this order. `WORDS` has the words that may stand before `native`.
+  Among them is `sum`, the sum of the logic of the proof, which is the one that `rt version` prints.
+"""
 
 import os
 import re
@@ -6,33 +17,51 @@ import shutil
 import subprocess
 
 from crates import ROOT, Crate, NotBuilt
+from progress import say
 
 TARGET = "x86_64-unknown-linux-gnu"
-# What the last line of a proof may say before `native`: how many functions are proved, how many functions of C the
-# toolchain's libraries call, and for which machine. Any other word may name something else that is taken on trust.
+# How many functions are proved, how many functions of C the toolchain's libraries call, for which machine, and in which
+# logic. Any other word may name something else that is taken on trust.
 WORDS = "functions|axioms|target|cpu|sum"
 # The toolchain's libraries and the statements of the libraries below, which were proved before, are taken as proved.
 PROVED = re.compile(rf"^logic=proved((?: (?:{WORDS})=\S+)+) native=nat,char,string logic-built=trusted"
                     r" libraries-built=trusted statements=trusted\n\Z", re.MULTILINE)
+LOGIC = re.compile(r"\blogic [0-9a-f]+\b")
 
 
 class Kit:
-    def __init__(self, folder: str, identity: str) -> None:
-        self.folder, self.identity = folder, identity
+    """A toolchain in a folder. `identity` is its line, `logic` the part of it that names its logic, and `wanted` the
+    logic that the sources are written in."""
+
+    def __init__(self, folder: str, identity: str, logic: str, wanted: str) -> None:
+        self.folder, self.identity, self.logic, self.wanted = folder, identity, logic, wanted
 
     @staticmethod
     def found() -> "Kit":
-        """The toolchain in PATH, which is the one that the README names."""
+        """The toolchain in PATH, whatever its logic is."""
         if not shutil.which("rt"):
             raise NotBuilt("the program is not built, or older than its sources, and the toolchain that builds it, "
                            "rt, is not in PATH")
         identity = said_by("rt", "version")
-        with open(os.path.join(ROOT, "README.md"), encoding="utf-8") as page:
-            wanted = re.search(r"`(rattle-kit-\S+ logic [0-9a-f]+)`", page.read())
-        if not wanted or identity != wanted[1]:
-            raise NotBuilt(f"the toolchain in PATH is {identity}, and this version is proved with "
-                           f"{wanted[1] if wanted else 'one that the README does not name'}")
-        return Kit(os.path.dirname(said_by("rt", "doc")), identity)
+        logic = LOGIC.search(identity)
+        if not logic:
+            raise NotBuilt(f"what rt version prints names no logic: {identity!r}")
+        return Kit(os.path.dirname(said_by("rt", "doc")), identity, logic[0], wanted_logic())
+
+    def difference(self) -> str:
+        """What is to be said of its logic: nothing, if that is the one that is wanted."""
+        if self.logic == self.wanted:
+            return ""
+        return f"the logic of the toolchain, {self.identity}, is not the one of these sources, {self.wanted}"
+
+    def tell(self) -> None:
+        """Says in one line that its logic differs, if it does."""
+        if self.difference():
+            say(f"{self.difference()}; each crate is proved in the toolchain's")
+
+    def explained(self, failure: str) -> str:
+        """A failure, and after it that the logic differs, if it does."""
+        return "; ".join(filter(None, (failure, self.difference())))
 
     def proving(self, crate: Crate, libraries: str, jobs: int, made: str) -> list[str]:
         """The command that proves a library from nothing and makes its statements, by which the crates above it are
@@ -46,7 +75,12 @@ class Kit:
             words += ["--links", f"{name}="]
         return [*words, "--toolchain", f"{self.folder}/toolchain", "--backend", "llvm", "-o", made]
 
+    def archiving(self, crate: Crate, libraries: str, jobs: int, made: str) -> list[str]:
+        """The command that proves a static library from nothing, and compiles what is proved into an archive."""
+        return [*self.compiling(crate, libraries, jobs, made), "--crate-type", "staticlib"]
+
     def reading(self, crate: Crate, libraries: str, jobs: int) -> list[str]:
+        """The words that all these commands share."""
         root = "main" if os.path.exists(os.path.join(crate.folder, "src", "main.rt")) else "lib"
         words = [f"{self.folder}/bin/rattle", "build", "--crate-name", crate.name, f"src/{root}.rt"]
         for name in ("std", *crate.of_kit):
@@ -61,15 +95,34 @@ class Kit:
     def linking(self, made: str, program: str) -> list[str]:
         """The command that links an object file to a program."""
         words = [f"{self.folder}/bin/rattle-link", "--target", TARGET, "--toolchain", f"{self.folder}/toolchain"]
-        return [*words, "-o", program, made, f"{self.folder}/c/libos_c.a", f"{self.folder}/c/liblibc_c.a"]
+        return [*words, "-o", program, made, f"{self.folder}/c/libos_c.a", self.allocation()]
 
-    def says_proved(self, said: str) -> bool:
-        """Whether the last line of a proof says that all is proved, in this logic, and rests on nothing else."""
-        found = PROVED.search(said)
-        return bool(found) and f"sum={self.identity.split()[-1]}" in found[1].split()
+    def allocation(self) -> str:
+        """The archive of C code that allocates, which each program and static library needs."""
+        return f"{self.folder}/c/liblibc_c.a"
+
+    def proof_fault(self, said: str) -> str | None:
+        """What is wrong with the last line of a proof. It must say that all is proved, in the logic of this toolchain,
+        and rests on nothing else."""
+        found, last = PROVED.search(said), said.strip().rpartition("\n")[2]
+        if not found:
+            return f"its last line is not that of a whole proof: {last!r}"
+        if f"sum={self.logic.split()[1]}" not in found[1].split():
+            return f"its last line is not that of a proof in the toolchain's {self.logic}: {last!r}"
+        return None
+
+
+def wanted_logic() -> str:
+    """The logic that the sources are written in, the one line of the file TOOLCHAIN."""
+    with open(os.path.join(ROOT, "TOOLCHAIN"), encoding="utf-8") as file:
+        line = file.read().strip()
+    if not LOGIC.fullmatch(line):
+        raise NotBuilt(f"TOOLCHAIN has {line!r}, and not a line as `logic 0123456789abcdef`")
+    return line
 
 
 def said_by(*words: str) -> str:
+    """What a command of the toolchain prints."""
     try:
         ran = subprocess.run(words, stdin=subprocess.DEVNULL, capture_output=True, text=True, check=True)
     except (OSError, subprocess.CalledProcessError) as fault:

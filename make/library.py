@@ -15,7 +15,7 @@ import tempfile
 import time
 
 from build import FAILED, Build, lanes_here, lock
-from crates import ROOT, Crate, NotBuilt, crates_for, is_newer_than
+from crates import ROOT, Crate, NotBuilt, crates_for, is_stale
 from kept import LIBRARIES
 from kit import Kit
 from progress import say
@@ -58,21 +58,21 @@ def kept_by_make(kit: Kit, crates: dict[str, Crate]) -> str:
 def built_over(kit: Kit, top: Crate, libraries: str, into: str) -> str:
     """Proves the crate of the library over the statements of those below, and compiles all."""
     made = os.path.join(into, f"lib{NAME}.a")
-    words = kit.reading(top, libraries, lanes_here())
-    for name in top.below:
-        words += ["--links", f"{name}="]
-    words += ["--crate-type", "staticlib", "--toolchain", f"{kit.folder}/toolchain", "--backend", "llvm", "-o", made]
-    if not kit.says_proved(ran_well(words, top.folder)):
-        raise NotBuilt(f"{NAME} does not end with the line of a whole proof")
+    try:
+        fault = kit.proof_fault(ran_well(kit.archiving(top, libraries, lanes_here(), made), top.folder))
+        if fault:
+            raise NotBuilt(f"{NAME} is not proved and built: {fault}")
+    except NotBuilt as why:
+        raise NotBuilt(kit.explained(str(why))) from None
     return made
 
 
-def pack(kit_folder: str, made: str, room: str) -> None:
+def pack(allocation: str, made: str, room: str) -> None:
     """The archive with the toolchain's allocation inside, and the shared library. Only the exports are seen from it."""
     os.makedirs(OUT, exist_ok=True)
     whole, shared, names = (os.path.join(room, it) for it in ("whole.a", "whole.so", "names"))
     ran_well(["ar", "x", made], room)
-    ran_well(["ar", "x", f"{kit_folder}/c/liblibc_c.a"], room)
+    ran_well(["ar", "x", allocation], room)
     objects = sorted(it for it in os.listdir(room) if it.endswith(".o"))
     ran_well(["ar", "rcsD", whole, *objects], room)
     with open(names, "w", encoding="ascii") as out:
@@ -87,7 +87,7 @@ def pack(kit_folder: str, made: str, room: str) -> None:
 def build(is_left_by_ci: bool) -> None:
     began = time.time_ns()
     given = os.environ.get("LIBRARY")
-    if not given and not is_newer_than(SHARED) and os.path.exists(ARCHIVE):
+    if not given and not is_stale(SHARED) and os.path.exists(ARCHIVE):
         return
     kit, crates = Kit.found(), crates_for(NAME)
     top = crates.pop(NAME)
@@ -95,9 +95,10 @@ def build(is_left_by_ci: bool) -> None:
         if given:
             made = os.path.abspath(given)
         else:
+            kit.tell()
             libraries = left_by_ci(crates, room) if is_left_by_ci else kept_by_make(kit, crates)
             made = built_over(kit, top, libraries, room)
-        pack(kit.folder, made, packing)
+        pack(kit.allocation(), made, packing)
     for file in (ARCHIVE, SHARED):
         os.utime(file, ns=(began, began))
 

@@ -16,6 +16,7 @@ import subprocess
 import sys
 import tarfile
 import tempfile
+from typing import IO, cast
 
 from completions import bash_completions, fish_completions, subcommands_of, zsh_completions
 
@@ -85,7 +86,7 @@ def archive(top: str, files: dict[str, tuple[int, bytes]]) -> bytes:
     """A tar archive, packed by gzip, which says nothing of when or by whom it was made."""
     packed = io.BytesIO()
     with gzip.GzipFile(fileobj=packed, mode="wb", mtime=WHEN, filename="") as out:
-        with tarfile.open(fileobj=out, mode="w", format=tarfile.USTAR_FORMAT) as tar:
+        with tarfile.open(fileobj=cast(IO[bytes], out), mode="w", format=tarfile.USTAR_FORMAT) as tar:
             for path in sorted(files):
                 mode, held = files[path]
                 entry = tarfile.TarInfo(f"{top}/{path}")

@@ -145,10 +145,11 @@ _LIBRARY = _loaded(_found())
 def _array(numbers: Numbers, kind: Any, most: int) -> Any:
     """The numbers as an array of C. What has the buffer protocol and items of this size is not copied."""
     try:
-        view = memoryview(numbers)
+        view: memoryview | None = memoryview(numbers)  # type: ignore[arg-type]
     except TypeError:
         view = None
-    if view is not None and view.format in ("B", "I", "L") and view.itemsize == ctypes.sizeof(kind) and view.c_contiguous:
+    is_same = view is not None and view.format in ("B", "I", "L") and view.itemsize == ctypes.sizeof(kind)
+    if view is not None and is_same and view.c_contiguous:
         if not view.readonly and view.nbytes:
             return (kind * len(view)).from_buffer(view.cast("B"))
         return (kind * len(view)).from_buffer_copy(view.cast("B")) if view.nbytes else (kind * 0)()
@@ -161,8 +162,9 @@ def _array(numbers: Numbers, kind: Any, most: int) -> Any:
 def _flat(successors: Successors) -> tuple[Numbers, Numbers]:
     """The starts, and the successors of all nodes one after another."""
     if isinstance(successors, tuple) and len(successors) == 2:
-        return successors
-    starts, targets = [0], []
+        return successors[0], successors[1]
+    starts = [0]
+    targets: list[int] = []
     for listed in successors:
         targets.extend(listed)
         starts.append(len(targets))
